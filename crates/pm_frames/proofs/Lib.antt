@@ -9,3 +9,4 @@ pub mod OneRootFrame
 pub mod OneDeviceFrame
 pub mod ReadNodes
 pub mod Written
+pub mod Prices

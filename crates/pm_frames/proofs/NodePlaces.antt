@@ -14,14 +14,14 @@ use Rattle.pm_frames.specs.declared.place.Stage.TheVariants.{Start, Opened, Runn
 -- a frame that is no Hello keeps the basis
 pub behind_is : (stage : Stage) → IsStage stage → IsStage (stage_behind stage)
 behind_is Start is = is
-behind_is (Opened steps) is = is
-behind_is (Running steps) is = is
+behind_is (Opened basis) is = is
+behind_is (Running basis) is = is
 
 -- and its place in a stream of bids is the one before it
 pub same_bid_place : (stage : Stage) → bid_place (stage_behind stage) ≡ bid_place stage
 same_bid_place Start = refl
-same_bid_place (Opened steps) = refl
-same_bid_place (Running steps) = refl
+same_bid_place (Opened basis) = refl
+same_bid_place (Running basis) = refl
 
 -- a Hello brings a basis
 pub after_is : (stage : Stage) (frame : Frame) → IsStage stage → MayStand bid_framing (bid_place stage) frame → IsStage (stage_after stage frame)

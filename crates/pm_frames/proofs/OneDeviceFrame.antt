@@ -20,7 +20,7 @@ use Rattle.pm_frames.specs.declared.parent.ParentFrame as parents
 use Rattle.pm_frames.specs.declared.device.DeviceFrame.{DeviceFrame}
 use Rattle.pm_frames.specs.declared.device.DeviceFrame.TheVariants.{Hello, Offer, Leave, Parent, Resume}
 use Rattle.pm_frames.proofs.FirstBytes.{first_same}
-use Rattle.pm_frames.proofs.OneParent.{parent_same, parent_kind}
+use Rattle.pm_frames.proofs.OneParent.{parent_same, parent_most, no_parent}
 use Rattle.pm_frames.proofs.OneStored.{newest_same, newest_kind}
 use Rattle.pm_frames.proofs.NodePlaces.{behind_is, steps_of}
 use Rattle.pm_frames.proofs.Sizes.{either, of_some}
@@ -37,49 +37,50 @@ hello_same stage b c x y is is' e =
 one_frame : (place : NodePlace) (f g : DeviceFrame) (x y : List ℕ) → IsDeviceFormed place f → IsDeviceFormed place g →
     device_frame_bytes f ++ x ≡ device_frame_bytes g ++ y → (f ≡ g) × (x ≡ y)
 one_frame place (Hello b) (Hello c) x y is is' e = let same = hello_same place.stage b c x y is is' e in (ap (λ h. Hello h) same.0, same.1)
-one_frame place (Hello b) (Offer demand) x y is is' e = absurd (omega (arith, first_same _ _ e))
+one_frame place (Hello b) (Offer demand') x y is is' e = absurd (omega (arith, first_same _ _ e))
 one_frame place (Hello b) Leave x y is is' e = absurd (omega (arith, first_same _ _ e))
-one_frame place (Hello b) (Parent g) x y is is' e = absurd (omega (arith, (parent_kind g y).0, first_same _ _ e))
-one_frame place (Hello b) (Resume s) x y is is' e = absurd (omega (arith, (newest_kind s.number s.index s.newest y).0, first_same _ _ e))
+one_frame place (Hello b) (Parent g) x y is is' e = absurd (no_parent g y 1 (λ s. omega (arith, s)) (λ s. omega (arith, s)) (sym (first_same _ _ e)))
+one_frame place (Hello b) (Resume s) x y is is' e = absurd (omega (arith, newest_kind s.number s.index s.basis s.newest y, first_same _ _ e))
 one_frame place (Offer demand) (Hello c) x y is is' e = absurd (omega (arith, first_same _ _ e))
 one_frame place (Offer demand) (Offer demand') x y is is' e =
     let same = demands_same demand demand' x y (is.1 ∙ sym is'.1) is.2 is'.2 (parts_same _ _ _ _ e).1 in (ap (λ d. Offer d) same.0, same.1)
 one_frame place (Offer demand) Leave x y is is' e = absurd (omega (arith, first_same _ _ e))
-one_frame place (Offer demand) (Parent g) x y is is' e = absurd (omega (arith, (parent_kind g y).1, first_same _ _ e))
-one_frame place (Offer demand) (Resume s) x y is is' e = absurd ((newest_kind s.number s.index s.newest y).1 (sym (first_same _ _ e)))
+one_frame place (Offer demand) (Parent g) x y is is' e = absurd (no_parent g y offer_kind (λ s. omega (arith, s)) (λ s. omega (arith, s)) (sym (first_same _ _ e)))
+one_frame place (Offer demand) (Resume s) x y is is' e = absurd (omega (arith, newest_kind s.number s.index s.basis s.newest y, first_same _ _ e))
 one_frame place Leave (Hello c) x y is is' e = absurd (omega (arith, first_same _ _ e))
-one_frame place Leave (Offer demand) x y is is' e = absurd (omega (arith, first_same _ _ e))
+one_frame place Leave (Offer demand') x y is is' e = absurd (omega (arith, first_same _ _ e))
 one_frame place Leave Leave x y is is' e = (refl, (parts_same _ _ _ _ e).1)
-one_frame place Leave (Parent g) x y is is' e = absurd (omega (arith, (parent_kind g y).1, first_same _ _ e))
-one_frame place Leave (Resume s) x y is is' e = absurd ((newest_kind s.number s.index s.newest y).2 (sym (first_same _ _ e)))
-one_frame place (Parent f) (Hello c) x y is is' e = absurd (omega (arith, (parent_kind f x).0, first_same _ _ e))
-one_frame place (Parent f) (Offer demand) x y is is' e = absurd (omega (arith, (parent_kind f x).1, first_same _ _ e))
-one_frame place (Parent f) Leave x y is is' e = absurd (omega (arith, (parent_kind f x).1, first_same _ _ e))
+one_frame place Leave (Parent g) x y is is' e = absurd (no_parent g y leave_kind (λ s. omega (arith, s)) (λ s. omega (arith, s)) (sym (first_same _ _ e)))
+one_frame place Leave (Resume s) x y is is' e = absurd (omega (arith, newest_kind s.number s.index s.basis s.newest y, first_same _ _ e))
+one_frame place (Parent f) (Hello c) x y is is' e = absurd (no_parent f x 1 (λ s. omega (arith, s)) (λ s. omega (arith, s)) (first_same _ _ e))
+one_frame place (Parent f) (Offer demand') x y is is' e = absurd (no_parent f x offer_kind (λ s. omega (arith, s)) (λ s. omega (arith, s)) (first_same _ _ e))
+one_frame place (Parent f) Leave x y is is' e = absurd (no_parent f x leave_kind (λ s. omega (arith, s)) (λ s. omega (arith, s)) (first_same _ _ e))
 one_frame place (Parent f) (Parent g) x y is is' e = let same = parent_same f g x y is.1 is'.1 e in (ap (λ h. Parent h) same.0, same.1)
-one_frame place (Parent f) (Resume s) x y is is' e =
-    absurd (omega (arith, (parent_kind f x).1, (newest_kind s.number s.index s.newest y).0, first_same _ _ e))
-one_frame place (Resume r) (Hello c) x y is is' e = absurd (omega (arith, (newest_kind r.number r.index r.newest x).0, first_same _ _ e))
-one_frame place (Resume r) (Offer demand) x y is is' e = absurd ((newest_kind r.number r.index r.newest x).1 (first_same _ _ e))
-one_frame place (Resume r) Leave x y is is' e = absurd ((newest_kind r.number r.index r.newest x).2 (first_same _ _ e))
-one_frame place (Resume r) (Parent g) x y is is' e =
-    absurd (omega (arith, (parent_kind g y).1, (newest_kind r.number r.index r.newest x).0, first_same _ _ e))
+one_frame place (Parent f) (Resume s) x y is is' e = absurd (omega (arith, parent_most f x, newest_kind s.number s.index s.basis s.newest y, first_same _ _ e))
+one_frame place (Resume r) (Hello c) x y is is' e = absurd (omega (arith, newest_kind r.number r.index r.basis r.newest x, first_same _ _ e))
+one_frame place (Resume r) (Offer demand') x y is is' e = absurd (omega (arith, newest_kind r.number r.index r.basis r.newest x, first_same _ _ e))
+one_frame place (Resume r) Leave x y is is' e = absurd (omega (arith, newest_kind r.number r.index r.basis r.newest x, first_same _ _ e))
+one_frame place (Resume r) (Parent g) x y is is' e = absurd (omega (arith, parent_most g y, newest_kind r.number r.index r.basis r.newest x, first_same _ _ e))
 one_frame place (Resume r) (Resume s) x y is is' e =
-    let same = newest_same _ r.number r.index s.number s.index r.newest s.newest x y is.1.0 is.1.1 is'.1.0 is'.1.1 is.1.2 is'.1.2 e in (
-      ap (λ n. Resume (record { number = n; index = r.index; newest = r.newest })) same.0
-          ∙ ap (λ n. Resume (record { number = s.number; index = n; newest = r.newest })) same.1
-          ∙ ap (λ n. Resume (record { number = s.number; index = s.index; newest = n })) same.2,
-      same.3,
+    let same = newest_same _ r.number r.index s.number s.index r.basis s.basis r.newest s.newest x y is.1.0 is.1.1 is'.1.0 is'.1.1 is.1.2 is'.1.2 is.1.3
+    is'.1.3 e in (
+      ap (λ n. Resume (record { number = n; index = r.index; basis = r.basis; newest = r.newest })) same.0
+          ∙ ap (λ n. Resume (record { number = s.number; index = n; basis = r.basis; newest = r.newest })) same.1
+          ∙ ap (λ n. Resume (record { number = s.number; index = s.index; basis = n; newest = r.newest })) same.2
+          ∙ ap (λ n. Resume (record { number = s.number; index = s.index; basis = s.basis; newest = n })) same.3,
+      same.4,
     )
 
 -- ---- the first byte tells the size
 
-newest_sized : (child steps number index : ℕ) (newest : Option (List ℤ)) (more : List ℕ) → IsNewestFormed steps newest →
-    HasSize device_framing (record { child = child; stage = Opened steps }) (newest_bytes number index newest ++ more)
-    (length (newest_bytes number index newest))
-newest_sized child steps number index (Some demand) more is =
-    let size : 9 + 4 * steps ≡ length (newest_bytes number index (Some demand)) = omega (arith, length-demand_bytes demand, is.0) in
+newest_sized : (child : ℕ) (known : BasisValue) (number index : ℕ) (basis : BasisValue) (newest : Option (List ℤ)) (more : List ℕ) →
+    IsNewestFormed known.steps newest →
+    HasSize device_framing (record { child = child; stage = Opened known }) (newest_bytes number index basis newest ++ more)
+    (length (newest_bytes number index basis newest))
+newest_sized child known number index basis (Some demand) more is =
+    let size : 19 + 4 * known.steps ≡ length (newest_bytes number index basis (Some demand)) = omega (arith, length-demand_bytes demand, is.0) in
     ap (λ n. Some n) size
-newest_sized child steps number index None more is = refl
+newest_sized child known number index basis None more is = refl
 
 offer_size : (steps : ℕ) (demand : List ℤ) → length demand ≡ steps → Some (1 + 4 * steps) ≡ Some (length (offer_bytes demand))
 offer_size steps demand many =
@@ -92,36 +93,36 @@ sized child Start (Offer demand) more is = absurd is.0
 sized child Start Leave more is = absurd is
 sized child Start (Parent frame) more is = absurd is.0
 sized child Start (Resume stored) more is = absurd is.0
-sized child (Opened steps) (Hello basis) more is = absurd is
-sized child (Opened steps) (Offer demand) more is = offer_size steps demand is.1
-sized child (Opened steps) Leave more is = refl
-sized child (Opened steps) (Parent (parents.TheVariants.Price own number index step)) more is = refl
-sized child (Opened steps) (Parent (parents.TheVariants.Old own kept)) more is = refl
-sized child (Opened steps) (Resume stored) more is = newest_sized child steps stored.number stored.index stored.newest more is.1.2
-sized child (Running steps) (Hello basis) more is = absurd is
-sized child (Running steps) (Offer demand) more is = offer_size steps demand is.1
-sized child (Running steps) Leave more is = refl
-sized child (Running steps) (Parent (parents.TheVariants.Price own number index step)) more is = refl
-sized child (Running steps) (Parent (parents.TheVariants.Old own kept)) more is = refl
-sized child (Running steps) (Resume stored) more is = absurd is.0
+sized child (Opened known) (Hello basis) more is = absurd is
+sized child (Opened known) (Offer demand) more is = offer_size known.steps demand is.1
+sized child (Opened known) Leave more is = refl
+sized child (Opened known) (Parent (parents.TheVariants.Price own number index step basis)) more is = refl
+sized child (Opened known) (Parent (parents.TheVariants.Old own kept)) more is = refl
+sized child (Opened known) (Resume stored) more is = newest_sized child known stored.number stored.index stored.basis stored.newest more is.1.3
+sized child (Running known) (Hello basis) more is = absurd is
+sized child (Running known) (Offer demand) more is = offer_size known.steps demand is.1
+sized child (Running known) Leave more is = refl
+sized child (Running known) (Parent (parents.TheVariants.Price own number index step basis)) more is = refl
+sized child (Running known) (Parent (parents.TheVariants.Old own kept)) more is = refl
+sized child (Running known) (Resume stored) more is = absurd is.0
 
 -- what holds of each size holds of those after Hello
-size_open : (P : ℕ → Type 0) (steps kind : ℕ) → P 1 → P 7 → P 13 → P (1 + 4 * steps) → IfSome (device_size_open steps kind) P
-size_open P steps kind one seven thirteen offer =
+size_open : (P : ℕ → Type 0) (steps kind : ℕ) → P 1 → P 7 → P 23 → P (1 + 4 * steps) → IfSome (device_size_open steps kind) P
+size_open P steps kind one seven price offer =
     let Q : Option ℕ → Type 0 = λ o. IfSome o P in
     either Q (kind == offer_kind) _ _ offer (either Q (kind == leave_kind) _ _ one
-    (either Q (kind == price_kind) _ _ thirteen (either Q (kind == old_kind) _ _ seven tt)))
+    (either Q (kind == price_kind) _ _ price (either Q (kind == old_kind) _ _ seven tt)))
 
-size_of : (P : ℕ → Type 0) (stage : Stage) (kind : ℕ) → P 1 → P 7 → P 9 → P 11 → P 13 →
-    ((steps : ℕ) → bid_place stage ≡ Some steps → P (1 + 4 * steps) × P (9 + 4 * steps)) →
+size_of : (P : ℕ → Type 0) (stage : Stage) (kind : ℕ) → P 1 → P 7 → P 11 → P 19 → P 23 →
+    ((steps : ℕ) → bid_place stage ≡ Some steps → P (1 + 4 * steps) × P (19 + 4 * steps)) →
     IfSome (device_size stage kind) P
-size_of P Start kind one seven nine hello thirteen each =
+size_of P Start kind one seven hello gone price each =
     let Q : Option ℕ → Type 0 = λ o. IfSome o P in either Q (kind == hello_kind) _ _ hello tt
-size_of P (Opened steps) kind one seven nine hello thirteen each =
+size_of P (Opened known) kind one seven hello gone price each =
     let Q : Option ℕ → Type 0 = λ o. IfSome o P in
-    either Q (kind == resume_kind) _ _ (each steps refl).1
-    (either Q (kind == resume_gone_kind) _ _ nine (size_open P steps kind one seven thirteen (each steps refl).0))
-size_of P (Running steps) kind one seven nine hello thirteen each = size_open P steps kind one seven thirteen (each steps refl).0
+    either Q (kind == resume_kind) _ _ (each known.steps refl).1
+    (either Q (kind == resume_gone_kind) _ _ gone (size_open P known.steps kind one seven price (each known.steps refl).0))
+size_of P (Running known) kind one seven hello gone price each = size_open P known.steps kind one seven price (each known.steps refl).0
 
 some_bytes : (place : NodePlace) (kind size : ℕ) → device_size place.stage kind ≡ Some size → 1 ≤ size
 some_bytes place kind size is =

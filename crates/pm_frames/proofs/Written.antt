@@ -19,9 +19,24 @@ pub five_written : (out first second third fourth fifth a b c d e : List ℕ) �
 five_written out first second third fourth fifth a b c d e ea eb ec ed ee =
     let all : e ≡ ((((out ++ first) ++ second) ++ third) ++ fourth) ++ fifth = cc in all ∙ simp append_assoc
 
--- seven parts
-pub seven_written : (out p1 p2 p3 p4 p5 p6 p7 a b c d e f g : List ℕ) → a ≡ out ++ p1 → b ≡ a ++ p2 → c ≡ b ++ p3 → d ≡ c ++ p4 → e ≡ d ++ p5 →
-    f ≡ e ++ p6 → g ≡ f ++ p7 → g ≡ out ++ (p1 ++ (p2 ++ (p3 ++ (p4 ++ (p5 ++ (p6 ++ p7))))))
-seven_written out p1 p2 p3 p4 p5 p6 p7 a b c d e f g ea eb ec ed ee ef eg =
+-- four parts
+pub four_written : (out p1 p2 p3 p4 a b c d : List ℕ) → a ≡ out ++ p1 → b ≡ a ++ p2 → c ≡ b ++ p3 → d ≡ c ++ p4 →
+    d ≡ out ++ (p1 ++ (p2 ++ (p3 ++ p4)))
+four_written out p1 p2 p3 p4 a b c d ea eb ec ed =
+    let all : d ≡ (((out ++ p1) ++ p2) ++ p3) ++ p4 = cc in all ∙ simp append_assoc
+
+-- six parts
+pub six_written : (out p1 p2 p3 p4 p5 p6 a b c d e f : List ℕ) → a ≡ out ++ p1 → b ≡ a ++ p2 → c ≡ b ++ p3 → d ≡ c ++ p4 → e ≡ d ++ p5 →
+    f ≡ e ++ p6 → f ≡ out ++ (p1 ++ (p2 ++ (p3 ++ (p4 ++ (p5 ++ p6)))))
+six_written out p1 p2 p3 p4 p5 p6 a b c d e f ea eb ec ed ee ef =
     let five : e ≡ out ++ (p1 ++ (p2 ++ (p3 ++ (p4 ++ p5)))) = five_written out p1 p2 p3 p4 p5 a b c d e ea eb ec ed ee in
-    let all : g ≡ ((out ++ (p1 ++ (p2 ++ (p3 ++ (p4 ++ p5))))) ++ p6) ++ p7 = cc in all ∙ simp append_assoc
+    let all : f ≡ (out ++ (p1 ++ (p2 ++ (p3 ++ (p4 ++ p5))))) ++ p6 = cc in all ∙ simp append_assoc
+
+-- nine parts
+pub nine_written : (out p1 p2 p3 p4 p5 p6 p7 p8 p9 a b c d e f g h i : List ℕ) → a ≡ out ++ p1 → b ≡ a ++ p2 → c ≡ b ++ p3 → d ≡ c ++ p4 →
+    e ≡ d ++ p5 → f ≡ e ++ p6 → g ≡ f ++ p7 → h ≡ g ++ p8 → i ≡ h ++ p9 →
+    i ≡ out ++ (p1 ++ (p2 ++ (p3 ++ (p4 ++ (p5 ++ (p6 ++ (p7 ++ (p8 ++ p9))))))))
+nine_written out p1 p2 p3 p4 p5 p6 p7 p8 p9 a b c d e f g h i ea eb ec ed ee ef eg eh ei =
+    let five : e ≡ out ++ (p1 ++ (p2 ++ (p3 ++ (p4 ++ p5)))) = five_written out p1 p2 p3 p4 p5 a b c d e ea eb ec ed ee in
+    let four : i ≡ e ++ (p6 ++ (p7 ++ (p8 ++ p9))) = four_written e p6 p7 p8 p9 f g h i ef eg eh ei in
+    let all : i ≡ (out ++ (p1 ++ (p2 ++ (p3 ++ (p4 ++ p5))))) ++ (p6 ++ (p7 ++ (p8 ++ p9))) = cc in all ∙ simp append_assoc

@@ -35,13 +35,15 @@ device_size_open steps kind =
     then Some (1 + 4 * steps)
     else (if kind == leave_kind then Some 1 else (if kind == price_kind then Some 23 else (if kind == old_kind then Some 7 else None)))
 
--- Hello stands first and only there, and what the agent comes back with directly after it
+-- and directly after it, where what the agent comes back with may stand
+abbrev pub device_size_fresh : ℕ → ℕ → Option ℕ
+device_size_fresh steps kind =
+    if kind == resume_kind then Some (19 + 4 * steps) else (if kind == resume_gone_kind then Some 19 else device_size_open steps kind)
+
+-- Hello stands first and only there
 abbrev pub device_size : Stage → ℕ → Option ℕ
 device_size Start kind = if kind == hello_kind then Some 11 else None
-device_size (Opened basis) kind =
-    if kind == resume_kind
-    then Some (19 + 4 * basis.steps)
-    else (if kind == resume_gone_kind then Some 19 else device_size_open basis.steps kind)
+device_size (Opened basis) kind = device_size_fresh basis.steps kind
 device_size (Running basis) kind = device_size_open basis.steps kind
 
 -- a frame of a kind that may stand at this place, each of whose fields has its bytes

@@ -1,5 +1,5 @@
 -- A basis in a frame behind Hello: it is named as Hello names it.
-use Rattle.std.specs.Prelude.{◌≡◌, ℕ, ◌<◌, ◌^◌, pos, List, ◌++◌, Ok, FitsSigned}
+use Rattle.std.specs.Prelude.{ℕ, ◌<◌, ◌^◌, pos, List, ◌++◌, IsOk, FitsSigned}
 use Rattle.std.specs.Int.{w16, w32, to_be_bytes}
 use Rattle.pm_basis.specs.Prices.{BasisValue, checked_basis}
 use Rattle.pm_wire.specs.Frames.{signed_bytes}
@@ -13,4 +13,4 @@ IsBasisFormed basis = FitsSigned w32 basis.min × FitsSigned w32 basis.max × (b
 
 -- the numbers are a basis
 abbrev pub IsBasisAccepted : BasisValue → Type 0
-IsBasisAccepted basis = checked_basis basis.min basis.max (pos basis.steps) ≡ Ok basis
+IsBasisAccepted basis = IsOk (checked_basis basis.min basis.max (pos basis.steps))

@@ -1,16 +1,16 @@
 //! The frames of the stream to a device's agent.
 
-ghost use Rattle.std.specs.Prelude.{◌≡◌, ◌+◌, ◌*◌, ◌∷◌, length, Some, IfOk};
+ghost use Rattle.std.specs.Prelude.{◌≡◌, ◌+◌, ◌*◌, ◌%◌, ◌≤◌, ◌∷◌, ◌↔◌, IsTrue, length, Some, IfOk};
 ghost use Rattle.pm_base.specs.Limits.{AreSteps};
 ghost use Rattle.pm_wire.specs.Frames.{hello_kind};
 ghost use Rattle.pm_wire.specs.Spelling.{IsOne};
 ghost use Rattle.pm_frames.specs.Kinds.{offer_kind, resume_kind, resume_gone_kind};
-ghost use Rattle.pm_frames.specs.Places.{steps_at, IsOpen, IsFresh, IsStage};
+ghost use Rattle.pm_frames.specs.Places.{basis_at, steps_at, IsOpen, IsFresh, IsStage};
 ghost use Rattle.pm_frames.specs.ParentFrames.{parent_size};
 ghost use Rattle.pm_frames.specs.Offers.{IsOffer};
-ghost use Rattle.pm_frames.specs.DeviceFrames.{device_size, device_size_open, device_framing};
+ghost use Rattle.pm_frames.specs.DeviceFrames.{device_size, device_size_open, device_size_fresh, device_framing};
 
-use crate::basis::read_basis;
+use crate::basis::{NamedBasis, read_basis};
 use crate::kinds::{HELLO, LEAVE, OFFER, OLD, PRICE, RESUME, RESUME_GONE};
 use crate::parent::{ParentFrame, read_accepted};
 use crate::place::{NodePlace, Stage};
@@ -50,17 +50,34 @@ fn size_open(steps: usize, kind: u8) -> Option<usize>
     }
 }
 
+/// How many bytes a first frame of this kind has.
+fn size_first(kind: u8) -> Option<usize>
+    ensures { result ≡ device_size Stage.Start kind }
+{
+    if kind == HELLO { Some(11) } else { None }
+}
+
+/// How many bytes a frame of this kind has directly after a Hello of so many steps.
+fn size_fresh(steps: usize, kind: u8) -> Option<usize>
+    requires { AreSteps steps }
+    ensures { result ≡ device_size_fresh steps kind }
+{
+    match kind {
+        RESUME => Some(19 + 4 * steps),
+        RESUME_GONE => Some(19),
+        _ => size_open(steps, kind),
+    }
+}
+
 /// How many bytes a frame of this kind has at a stage, if it may stand there.
 fn size_at(stage: Stage, kind: u8) -> Option<usize>
     requires { IsStage stage }
     ensures { result ≡ device_size stage kind }
 {
     match stage {
-        Stage::Start if kind == HELLO => Some(11),
-        Stage::Start => None,
-        Stage::Opened { basis } if kind == RESUME => Some(19 + 4 * basis.steps()),
-        Stage::Opened { .. } if kind == RESUME_GONE => Some(19),
-        Stage::Opened { basis } | Stage::Running { basis } => size_open(basis.steps(), kind),
+        Stage::Start => size_first(kind),
+        Stage::Opened { basis } => size_fresh(basis.steps(), kind),
+        Stage::Running { basis } => size_open(basis.steps(), kind),
     }
 }
 
@@ -113,6 +130,20 @@ fn read_offer(
     }
 }
 
+/// Whether what a device comes back with that has left is of the basis that Hello had, under a number that a device gives.
+fn is_left(stage: Stage, number: u32, basis: &NamedBasis) -> bool
+    ensures { IsTrue result ↔ ((basis_at stage ≡ Some basis.now) × (number % 2 ≡ 0)) }
+{
+    basis.is_at(stage) && number % 2 == 0
+}
+
+/// Whether what a device comes back with that has an offer is of the basis that Hello had, under a number that a device gives.
+fn is_offered(stage: Stage, number: u32, basis: &NamedBasis) -> bool
+    ensures { IsTrue result ↔ ((basis_at stage ≡ Some basis.now) × (number % 2 ≡ 0) × (1 ≤ number)) }
+{
+    is_left(stage, number, basis) && number >= 1
+}
+
 /// Reads the fields of Resume.
 fn read_resume(
     alloc: Global,
@@ -130,7 +161,7 @@ fn read_resume(
     let Some(demand) = read_offered(alloc, place.stage.steps(), rest)? else {
         return Ok(None);
     };
-    if number == 0 || number % 2 == 1 || !basis.is_at(place.stage) {
+    if !is_offered(place.stage, number, &basis) {
         return Ok(None);
     }
     Ok(Some(DeviceFrame::Resume(StoredAgent {
@@ -150,7 +181,7 @@ fn read_resume_gone(place: NodePlace, body: &[u8]) -> Option<DeviceFrame>
     let (number, rest) = read_u32(body);
     let (index, rest) = read_u32(rest);
     let (basis, _rest) = read_basis(rest);
-    if number % 2 == 1 || !basis.is_at(place.stage) {
+    if !is_left(place.stage, number, &basis) {
         return None;
     }
     Some(DeviceFrame::Resume(StoredAgent {

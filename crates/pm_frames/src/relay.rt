@@ -1,11 +1,13 @@
 //! The frames of the stream to a relay.
 
-ghost use Rattle.std.specs.Prelude.{◌≡◌, ◌≢◌, ◌+◌, ◌≤◌, ◌∷◌, ◌↔◌, IsTrue, length, Some, IfOk};
+ghost use Rattle.std.specs.Prelude.{◌≡◌, ◌≢◌, ◌+◌, ◌≤◌, ◌∷◌, ◌↔◌, ◌==◌, if◌then◌else◌, IsTrue, length, Some, None, IfOk};
 ghost use Rattle.pm_base.specs.Limits.{most_steps};
 ghost use Rattle.pm_wire.specs.Frames.{clear_kind, size_at as bid_size_at};
 ghost use Rattle.pm_wire.specs.Spelling.{IsOne};
 ghost use Rattle.pm_frames.specs.Kinds.{resume_kind, expire_kind, limits_kind, bound_kind};
 ghost use Rattle.pm_frames.specs.Places.{bid_place, IsOpen, IsFresh, IsStage};
+ghost use Rattle.pm_frames.specs.Expiries.{IsExpireAccepted};
+ghost use Rattle.pm_frames.specs.LimitsFrames.{IsGivenAccepted, IsBoundAccepted};
 ghost use Rattle.pm_frames.specs.ParentFrames.{parent_size};
 ghost use Rattle.pm_frames.specs.Stored.{relay_resume_size};
 ghost use Rattle.pm_frames.specs.RelayFrames.{relay_size, relay_size_open, relay_framing, IsForChild};
@@ -57,16 +59,34 @@ fn size_open(steps: usize, kind: u8) -> Option<usize>
     }
 }
 
+/// How many bytes a first frame of this kind has.
+fn size_first(kind: u8) -> Option<usize>
+    ensures { result ≡ relay_size Stage.Start kind }
+{
+    if kind == HELLO { Some(11) } else { None }
+}
+
+/// How many bytes a frame of this kind has directly after a Hello of so many steps.
+fn size_fresh(steps: usize, kind: u8) -> Option<usize>
+    requires { steps ≤ most_steps }
+    ensures { result ≡ (if kind == resume_kind then Some relay_resume_size
+        else relay_size_open steps kind) }
+{
+    if kind == RESUME {
+        return Some(41 + 4 * MOST_NODES);
+    }
+    size_open(steps, kind)
+}
+
 /// How many bytes a frame of this kind has at a stage, if it may stand there.
 fn size_at(stage: Stage, kind: u8) -> Option<usize>
     requires { IsStage stage }
     ensures { result ≡ relay_size stage kind }
 {
     match stage {
-        Stage::Start if kind == HELLO => Some(11),
-        Stage::Start => None,
-        Stage::Opened { .. } if kind == RESUME => Some(41 + 4 * MOST_NODES),
-        Stage::Opened { basis } | Stage::Running { basis } => size_open(basis.steps(), kind),
+        Stage::Start => size_first(kind),
+        Stage::Opened { basis } => size_fresh(basis.steps(), kind),
+        Stage::Running { basis } => size_open(basis.steps(), kind),
     }
 }
 
@@ -128,6 +148,27 @@ fn read_resume(
     Ok(Some(RelayFrame::Resume(stored)))
 }
 
+/// Whether a child has this number, which is not the place in which limits are given.
+fn is_expiring(terms: &RelayTerms, child: u16) -> bool
+    ensures { IsTrue result ↔ (IsExpireAccepted child × ¬ (terms.now.giver ≡ Some child)) }
+{
+    is_child(child) && !terms.is_giver(child)
+}
+
+/// Whether limits may be given, and these under this number.
+fn are_given(terms: &RelayTerms, number: u32, limits: &Limits) -> bool
+    ensures { IsTrue result ↔ (¬ (terms.now.giver ≡ None) × IsGivenAccepted number limits.now) }
+{
+    terms.giver.is_some() && is_given(number, limits)
+}
+
+/// Whether a child may have this bound, and its number is not the place in which limits are given.
+fn is_childs_bound(terms: &RelayTerms, child: u16, bound: &Limits) -> bool
+    ensures { IsTrue result ↔ (IsBoundAccepted child bound.now × ¬ (terms.now.giver ≡ Some child)) }
+{
+    is_bound(child, bound) && !terms.is_giver(child)
+}
+
 /// Reads the fields of Expire.
 fn read_expire(place: RelayPlace, body: &[u8]) -> Option<RelayFrame>
     requires open { IsOpen place.stage }
@@ -135,7 +176,7 @@ fn read_expire(place: RelayPlace, body: &[u8]) -> Option<RelayFrame>
     ensures { IsOne relay_framing place (expire_kind ∷ body.now) result }
 {
     let child = read_expiring(body);
-    if !is_child(child) || place.terms.is_giver(child) {
+    if !is_expiring(&place.terms, child) {
         return None;
     }
     Some(RelayFrame::Expire { child })
@@ -148,7 +189,7 @@ fn read_new_limits(place: RelayPlace, body: &[u8]) -> Option<RelayFrame>
     ensures { IsOne relay_framing place (limits_kind ∷ body.now) result }
 {
     let (number, limits) = read_given(body);
-    if place.terms.giver.is_none() || !is_given(number, &limits) {
+    if !are_given(&place.terms, number, &limits) {
         return None;
     }
     Some(RelayFrame::Limits { number, limits })
@@ -161,7 +202,7 @@ fn read_child_bound(place: RelayPlace, body: &[u8]) -> Option<RelayFrame>
     ensures { IsOne relay_framing place (bound_kind ∷ body.now) result }
 {
     let (child, bound) = read_bound(body);
-    if !is_bound(child, &bound) || place.terms.is_giver(child) {
+    if !is_childs_bound(&place.terms, child, &bound) {
         return None;
     }
     Some(RelayFrame::Bound { child, bound })

@@ -1,21 +1,48 @@
 -- Of `read_resume`: what it ensures.
 use Rattle.std.proofs.Common.{arith}
-use Rattle.pm_frames.proofs.ReadNodes.{resume_refused, number_refused, nothing_offered, some_offered, resume_read}
+use Rattle.pm_frames.proofs.ReadNodes.{AreFields, resume_refused, number_refused, nothing_offered, some_offered, resume_read, fails, passes}
 use Rattle.pm_frames.proofs.device.read_resume.Goals as goal
 
 pub returns-in_default : goal.returns-in_default
 returns-in_default c =
-    resume_refused _ _ _ _ _ _ c.requires.fresh c.read_u32-number.ensures c.read_u32-index.ensures (omega arith) (omega arith)
+    let fields : AreFields c.args.body.now c.read_u32-number.result.1.now c.read_u32-index.result.1.now c.read_basis.result.1.now c.read_u32-number.result.0
+    c.read_u32-index.result.0 c.read_basis.result.0 = record {
+      number_first = c.read_u32-number.ensures;
+      index_next = c.read_u32-index.ensures;
+      basis_last = c.read_basis.ensures.bytes;
+      number_small = omega arith;
+      index_small = omega arith;
+      formed = c.read_basis.ensures.formed;
+    } in
+    resume_refused _ _ _ _ _ _ _ _ c.requires.fresh fields
     (nothing_offered _ _ _ _ c.steps.ensures c.in_default.is c.in_ok-demand.ensures)
 
-pub returns-then-number-eq0 : goal.returns-then-number-eq0
-returns-then-number-eq0 c =
+pub returns-then-not-is_offered : goal.returns-then-not-is_offered
+returns-then-not-is_offered c =
+    let fields : AreFields c.args.body.now c.read_u32-number.result.1.now c.read_u32-index.result.1.now c.read_basis.result.1.now c.read_u32-number.result.0
+    c.read_u32-index.result.0 c.read_basis.result.0 = record {
+      number_first = c.read_u32-number.ensures;
+      index_next = c.read_u32-index.ensures;
+      basis_last = c.read_basis.ensures.bytes;
+      number_small = omega arith;
+      index_small = omega arith;
+      formed = c.read_basis.ensures.formed;
+    } in
     let offer = some_offered _ _ _ _ c.in-Some.demand c.steps.ensures c.in-Some.is c.in_ok-demand.ensures in
-    number_refused _ _ _ _ _ _ c.in-Some.demand c.requires.fresh c.read_u32-number.ensures c.read_u32-index.ensures (omega (arith, c.if-number-eq0.true))
-    (omega arith) offer.are
+    number_refused _ _ _ _ _ _ _ _ c.in-Some.demand c.requires.fresh fields
+    (fails c.is_offered.result c.if-not-is_offered.true c.is_offered.ensures.1) offer.are
 
 pub returns : goal.returns
 returns c =
+    let fields : AreFields c.args.body.now c.read_u32-number.result.1.now c.read_u32-index.result.1.now c.read_basis.result.1.now c.read_u32-number.result.0
+    c.read_u32-index.result.0 c.read_basis.result.0 = record {
+      number_first = c.read_u32-number.ensures;
+      index_next = c.read_u32-index.ensures;
+      basis_last = c.read_basis.ensures.bytes;
+      number_small = omega arith;
+      index_small = omega arith;
+      formed = c.read_basis.ensures.formed;
+    } in
     let offer = some_offered _ _ _ _ c.in-Some.demand c.steps.ensures c.in-Some.is c.in_ok-demand.ensures in
-    resume_read _ _ _ _ _ _ c.in-Some.demand c.requires.fresh c.read_u32-number.ensures c.read_u32-index.ensures (omega (arith, c.if-number-eq0.false))
-    (omega arith) (omega arith) offer
+    resume_read _ _ _ _ _ _ _ _ c.in-Some.demand c.requires.fresh fields
+    (passes c.is_offered.result c.if-not-is_offered.false c.is_offered.ensures.0) offer

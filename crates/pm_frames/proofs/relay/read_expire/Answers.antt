@@ -2,7 +2,7 @@
 use Rattle.pm_frames.proofs.ReadNodes.{relay_expire_refused, fails}
 use Rattle.pm_frames.proofs.relay.read_expire.Goals as goal
 
-pub returns-then-not-is_child : goal.returns-then-not-is_child
-returns-then-not-is_child c =
+pub returns-then-not-is_expiring : goal.returns-then-not-is_expiring
+returns-then-not-is_expiring c =
     relay_expire_refused _ _ _ c.requires.open c.read_expiring-child.ensures.formed c.read_expiring-child.ensures.spelled
-    (fails c.is_child.result c.if-not-is_child.true c.is_child.ensures.1)
+    (fails c.is_expiring.result c.if-not-is_expiring.true c.is_expiring.ensures.1)
