@@ -20,7 +20,7 @@ demand_small place (Hello basis) accepted = tt
 demand_small place (Offer demand) accepted = accepted_small (length demand) demand accepted
 demand_small place Leave accepted = tt
 demand_small place (Parent frame) accepted = tt
-demand_small place (Resume stored) accepted = newest_small stored.number stored.newest accepted
+demand_small place (Resume stored) accepted = newest_small stored.number stored.newest accepted.2
 
 -- a frame that may be taken has demands that fit a message
 pub taken_small : (service : DeviceServiceValue) (frame : DeviceFrame) → CanTake device_framing IsDeviceStart AnswersDevice service frame →

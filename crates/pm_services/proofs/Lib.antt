@@ -1,8 +1,12 @@
+pub mod RelaySteps
 pub mod RelayPlaces
 pub mod RelayReplies
+pub mod Within
 pub mod SmallOffers
 pub mod DeviceReplies
 pub mod DeviceFrames
 pub mod OpenRoots
 pub mod RootPlaces
 pub mod RootReplies
+pub mod OpenRelays
+pub mod OpenedRoots

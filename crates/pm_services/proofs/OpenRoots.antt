@@ -11,7 +11,7 @@ use Rattle.pm_bid.proofs.Sums.{length-zeros}
 use Rattle.pm_cache.specs.Cache.{Cache, kept_number, aggregate_of}
 use Rattle.pm_cache.specs.Learning.{with_newer_bid, after_learning}
 use Rattle.pm_relay.specs.Roots.{RootValue, with_root_bid, LooksForClearing, RootCleared}
-use Rattle.pm_services.specs.OpenRootFields.{IsOpenRoot}
+use Rattle.pm_services.specs.HeldRootFields.{IsHeldRoot}
 
 -- ---- the step at which the market clears
 
@@ -65,7 +65,7 @@ bid_children : (old new : RootValue) (child number : ℕ) (demand : Option (List
 bid_children old new child number demand looks =
     ap (λ (k : Cache). length k.heads) (looks_cache old new child number demand looks) ∙ (learnt_shape old.auction.cache child number demand).children
 
-bid_inside : (steps : ℕ) (old new : RootValue) (child number : ℕ) (demand : Option (List ℤ)) → IsOpenRoot steps old →
+bid_inside : (steps : ℕ) (old new : RootValue) (child number : ℕ) (demand : Option (List ℤ)) → IsHeldRoot steps old →
     LooksForClearing (with_root_bid old child number demand) new → new.auction.step < steps
 bid_inside steps old new child number demand is (inl found) =
     let shape = learnt_shape old.auction.cache child number demand in
@@ -76,8 +76,8 @@ bid_inside steps old new child number demand is (inr stays) = omega (arith, ap (
 -- ---- what stays
 
 -- an auctioneer that learns a bid
-pub learnt : (steps : ℕ) (old new : RootValue) (child number : ℕ) (demand : Option (List ℤ)) → IsOpenRoot steps old →
-    LooksForClearing (with_root_bid old child number demand) new → IsOpenRoot steps new
+pub learnt : (steps : ℕ) (old new : RootValue) (child number : ℕ) (demand : Option (List ℤ)) → IsHeldRoot steps old →
+    LooksForClearing (with_root_bid old child number demand) new → IsHeldRoot steps new
 learnt steps old new child number demand is looks = record {
   basis = is.basis;
   steps = bid_steps old new child number demand looks ∙ is.steps;
@@ -86,7 +86,7 @@ learnt steps old new child number demand is looks = record {
 }
 
 -- one that clears the market
-pub cleared : (steps : ℕ) (old new : RootValue) (index step : ℕ) → IsOpenRoot steps old → RootCleared old new index step → IsOpenRoot steps new
+pub cleared : (steps : ℕ) (old new : RootValue) (index step : ℕ) → IsHeldRoot steps old → RootCleared old new index step → IsHeldRoot steps new
 cleared steps old new index step is made =
     let inside = clears_inside old.auction.cache (omega (arith, is.steps, is.basis.least)) in
     record {

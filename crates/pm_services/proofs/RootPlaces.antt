@@ -1,74 +1,89 @@
--- Where the frames to an auctioneer's service stand, by what it knows: a frame makes of its steps what it makes of those of the place.
-use Rattle.std.proofs.Common.{◌≡◌, ◌∙◌, sym, ap, subst, ℕ, ℤ, List, [], ◌∷◌, length, Option, None, Some, inl, inr}
+-- Where the frames to an auctioneer's service stand, by what it knows: it knows the steps of the basis that Hello had.
+use Rattle.std.proofs.Common.{◌≡◌, ◌∙◌, sym, ap, subst, refl, ℕ, ℤ, List, [], ◌∷◌, length, Option, None, Some, inl, inr}
 use Rattle.pm_base.specs.Limits.{demand_limit}
+use Rattle.pm_basis.specs.Prices.{BasisValue}
 use Rattle.pm_bid.specs.Bids.{AllWithinLimit}
 use Rattle.pm_cache.specs.Cache.{Cache}
-use Rattle.pm_auctioneer.specs.Auctions.{Auction}
 use Rattle.pm_wire.specs.Framing.{MayStand, AllStand, place_behind}
 use Rattle.pm_wire.specs.Taking.{Runs, CanTake}
 use Rattle.pm_wire.specs.Frames.{IsFormed}
-use Rattle.pm_wire.specs.declared.frame.Frame.{Frame}
 use Rattle.pm_wire.specs.declared.frame.Frame.TheVariants.{Hello, Bid, Gone, Clear}
 use Rattle.pm_wire.proofs.Markets.{accepted_small}
 use Rattle.pm_relay.specs.Roots.{RootValue}
-use Rattle.pm_frames.specs.Places.{bid_place}
+use Rattle.pm_frames.specs.Places.{bid_place, stage_behind}
 use Rattle.pm_frames.specs.RootFrames.{root_framing, root_stage_after}
 use Rattle.pm_frames.specs.declared.place.Stage.{Stage}
 use Rattle.pm_frames.specs.declared.root.RootFrame.{RootFrame}
-use Rattle.pm_frames.specs.declared.root.RootFrame.TheVariants.{Market, Expire, Resume}
+use Rattle.pm_frames.specs.declared.root.RootFrame.TheVariants.{Market, Expire, Bound, Resume}
 use Rattle.pm_frames.proofs.NodePlaces.{same_bid_place}
-use Rattle.pm_services.specs.RootAnswers.{OpensRoot, AnswersClear, AnswersRoot, IsRootStart}
+use Rattle.pm_services.specs.RootAnswers.{OpenRoot, AnswersClear, AnswersRootBid, AnswersRootExpire, AnswersRootFrame, AnswersRoot, IsRootStart}
 use Rattle.pm_services.specs.RootStands.{steps_known, MayStandWithSteps}
 use Rattle.pm_services.proofs.OpenRoots.{bid_steps}
 
+-- ---- an auctioneer keeps its steps
+
+pub clear_keeps : (basis : BasisValue) (old new : RootValue) (reply : List ℕ) → AnswersClear basis old new reply →
+    new.auction.cache.steps ≡ old.auction.cache.steps
+clear_keeps basis old new reply (inl made) = ap (λ (k : Cache). k.steps) made.2.cleared.cache
+clear_keeps basis old new reply (inr stays) = ap (λ (r : RootValue). r.auction.cache.steps) stays.2
+
+pub bid_keeps : (basis : BasisValue) (old : RootValue) (sender number : ℕ) (demand : Option (List ℤ)) (new : RootValue) (reply : List ℕ) →
+    AnswersRootBid basis old sender number demand new reply → new.auction.cache.steps ≡ old.auction.cache.steps
+bid_keeps basis old sender number demand new reply answers = bid_steps old new _ number demand answers.looks
+
+pub expire_keeps : (basis : BasisValue) (old : RootValue) (sender : ℕ) (new : RootValue) (reply : List ℕ) →
+    AnswersRootExpire basis old sender new reply → new.auction.cache.steps ≡ old.auction.cache.steps
+expire_keeps basis old sender new reply answers = bid_steps old new _ _ None answers.looks
+
+-- ---- the basis stays
+
+same_of : (old new other : OpenRoot) → new ≡ other → other.basis ≡ old.basis → new.basis ≡ old.basis
+same_of old new other is same = ap (λ (r : OpenRoot). r.basis) is ∙ same
+
+basis_same : (old : OpenRoot) (frame : RootFrame) (new : OpenRoot) (reply : List ℕ) → AnswersRootFrame old frame new reply → new.basis ≡ old.basis
+basis_same old (Market (Hello basis)) new reply answers = same_of old new old answers.0 refl
+basis_same old (Market (Bid sender number demand)) new reply (inl counts) = same_of old new _ counts.1.1 refl
+basis_same old (Market (Bid sender number demand)) new reply (inr beyond) = same_of old new old beyond.1.0 refl
+basis_same old (Market (Gone sender number)) new reply answers = same_of old new _ answers.1 refl
+basis_same old (Market Clear) new reply answers = same_of old new _ answers.1 refl
+basis_same old (Expire sender) new reply answers = same_of old new _ answers.1 refl
+basis_same old (Bound sender bound) new reply answers = same_of old new _ answers.0 refl
+basis_same old (Resume stored) new reply answers = same_of old new _ answers.1 refl
+
 -- ---- the steps that are known after a frame
 
-clear_steps : (old new : RootValue) (reply : List ℕ) → AnswersClear old new reply → new.auction.cache.steps ≡ old.auction.cache.steps
-clear_steps old new reply (inl made) = ap (λ (k : Cache). k.steps) made.2.cleared.cache
-clear_steps old new reply (inr stays) = ap (λ (r : RootValue). r.auction.cache.steps) stays.2
+no_hello : (stage : Stage) (old : OpenRoot) (frame : RootFrame) → bid_place stage ≡ Some old.basis.steps → MayStand root_framing stage frame →
+    bid_place (root_stage_after stage frame) ≡ bid_place (stage_behind stage)
+no_hello stage old (Market (Hello basis)) is stands = absurd (subst (λ (p : Option ℕ). IsFormed p (Hello basis)) is stands.formed)
+no_hello stage old (Market (Bid sender number demand)) is stands = refl
+no_hello stage old (Market (Gone sender number)) is stands = refl
+no_hello stage old (Market Clear) is stands = refl
+no_hello stage old (Expire sender) is stands = refl
+no_hello stage old (Bound sender bound) is stands = refl
+no_hello stage old (Resume stored) is stands = refl
 
-opens_steps : (steps last : ℕ) (numbers : List ℕ) (new : Option RootValue) → OpensRoot steps last numbers new → steps_known new ≡ Some steps
-opens_steps steps last numbers new opens = ap steps_known opens.opened ∙ ap (λ (a : Auction). Some a.cache.steps) opens.back.auction
-
--- a value that has the steps of another
-same_known : (old after : RootValue) (new : Option RootValue) → new ≡ Some after → after.auction.cache.steps ≡ old.auction.cache.steps →
-    steps_known new ≡ steps_known (Some old)
-same_known old after new is same = ap steps_known is ∙ ap Some same
-
-no_hello_after : (stage : Stage) (steps : ℕ) (frame : Frame) → bid_place stage ≡ Some steps → IsFormed (bid_place stage) frame →
-    IsFormed (Some steps) frame
-no_hello_after stage steps frame same formed = subst (λ (place : Option ℕ). IsFormed place frame) same formed
-
-known_after : (stage : Stage) (old new : Option RootValue) (frame : RootFrame) (reply : List ℕ) → bid_place stage ≡ steps_known old →
+known_after : (stage : Stage) (old new : Option OpenRoot) (frame : RootFrame) (reply : List ℕ) → bid_place stage ≡ steps_known old →
     MayStand root_framing stage frame → AnswersRoot old frame new reply → bid_place (root_stage_after stage frame) ≡ steps_known new
-known_after stage None new (Market (Hello basis)) reply same stands answers = sym (opens_steps _ _ _ new answers.0)
+known_after stage None new (Market (Hello basis)) reply same stands answers = sym (ap steps_known answers.0.opened)
 known_after stage None new (Market (Bid child number demand)) reply same stands answers = same_bid_place stage ∙ same ∙ ap steps_known (sym answers.0)
 known_after stage None new (Market (Gone child number)) reply same stands answers = same_bid_place stage ∙ same ∙ ap steps_known (sym answers.0)
 known_after stage None new (Market Clear) reply same stands answers = same_bid_place stage ∙ same ∙ ap steps_known (sym answers.0)
 known_after stage None new (Expire child) reply same stands answers = same_bid_place stage ∙ same ∙ ap steps_known (sym answers.0)
+known_after stage None new (Bound child bound) reply same stands answers = same_bid_place stage ∙ same ∙ ap steps_known (sym answers.0)
 known_after stage None new (Resume stored) reply same stands answers = same_bid_place stage ∙ same ∙ ap steps_known (sym answers.0)
-known_after stage (Some old) new (Market (Hello basis)) reply same stands answers =
-    absurd (no_hello_after stage old.auction.cache.steps (Hello basis) same stands.formed)
-known_after stage (Some old) new (Market (Bid child number demand)) reply same stands answers =
-    same_bid_place stage ∙ same ∙ sym (same_known old answers.0 new answers.1 (bid_steps old answers.0 _ number (Some demand) answers.2.looks))
-known_after stage (Some old) new (Market (Gone child number)) reply same stands answers =
-    same_bid_place stage ∙ same ∙ sym (same_known old answers.0 new answers.1 (bid_steps old answers.0 _ number None answers.2.looks))
-known_after stage (Some old) new (Market Clear) reply same stands answers =
-    same_bid_place stage ∙ same ∙ sym (same_known old answers.0 new answers.1 (clear_steps old answers.0 reply answers.2))
-known_after stage (Some old) new (Expire child) reply same stands answers =
-    same_bid_place stage ∙ same ∙ sym (same_known old answers.0 new answers.1 (bid_steps old answers.0 _ _ None answers.2.looks))
-known_after stage (Some old) new (Resume stored) reply same stands answers =
-    same_bid_place stage ∙ same ∙ sym (opens_steps _ _ _ new answers.0)
+known_after stage (Some old) new frame reply same stands answers =
+    no_hello stage old frame same stands ∙ same_bid_place stage ∙ same
+    ∙ ap (λ (basis : BasisValue). Some basis.steps) (sym (basis_same old frame answers.0 reply answers.2)) ∙ ap steps_known (sym answers.1)
 
 -- and after frames
-known_after_frames : (frames : List RootFrame) (stage : Stage) (old new : Option RootValue) (reply : List ℕ) → bid_place stage ≡ steps_known old →
+known_after_frames : (frames : List RootFrame) (stage : Stage) (old new : Option OpenRoot) (reply : List ℕ) → bid_place stage ≡ steps_known old →
     AllStand root_framing stage frames → Runs AnswersRoot old frames new reply → bid_place (place_behind root_framing stage frames) ≡ steps_known new
 known_after_frames [] stage old new reply same all runs = same ∙ ap steps_known (sym runs.0)
 known_after_frames (frame ∷ frames) stage old new reply same all runs =
     known_after_frames frames (root_stage_after stage frame) runs.0 new runs.2 (known_after stage old runs.0 frame runs.1 same all.0 runs.3) all.1 runs.4
 
 -- a frame that may be taken stands where what is known leaves the stream
-pub known_stands : (root : Option RootValue) (frame : RootFrame) → CanTake root_framing IsRootStart AnswersRoot root frame →
+pub known_stands : (root : Option OpenRoot) (frame : RootFrame) → CanTake root_framing IsRootStart AnswersRoot root frame →
     MayStandWithSteps (steps_known root) frame
 known_stands root frame can = record {
   stage = place_behind root_framing can.start can.frames;

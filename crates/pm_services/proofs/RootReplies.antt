@@ -4,39 +4,34 @@ use Rattle.std.proofs.Common.{length, Option, Some, None, arith, length-append, 
 use Rattle.std.proofs.Common.{inl, inr}
 use Rattle.std.specs.Prelude.{◌==◌, ◌&&◌, ◌||◌, not, nat_le, if◌then◌else◌, replicate}
 use Rattle.std.proofs.lemmas.Bool.Decides.{nat_tests}
-use Rattle.std.proofs.lemmas.List.{append-nil}
 use Rattle.pm_base.specs.Limits.{most_nodes}
 use Rattle.pm_basis.specs.Prices.{BasisValue}
-use Rattle.pm_wire.specs.Memory.{reply_limit}
-use Rattle.pm_wire.specs.Taking.{TakesFrame}
-use Rattle.pm_wire.specs.declared.frame.Frame.TheVariants.{Hello}
-use Rattle.pm_wire.proofs.Replies.{prices_few}
+use Rattle.pm_frames.proofs.Prices.{prices_few}
 use Rattle.pm_cache.specs.Cache.{kept_number}
 use Rattle.pm_relay.specs.Roots.{RootValue, newest_index, with_root_bid, RootComesBack, LooksForClearing, RootCleared, NotCleared}
 use Rattle.pm_relay.specs.declared.fault.RootFault.{RootFault}
 use Rattle.pm_frames.specs.Stored.{StoredRoot, root_resume_bytes, root_resume_size}
 use Rattle.pm_frames.proofs.OneNumber.{length-number_bytes}
-use Rattle.pm_frames.specs.declared.root.RootFrame.TheVariants.{Market, Resume}
-use Rattle.pm_services.specs.Limits.{root_reply_limit}
+use Rattle.pm_services.specs.Limits.{root_reply_limit, prices_limit}
 use Rattle.pm_services.specs.Receipts.{sender_place, receipt_bytes, Appended}
 use Rattle.pm_services.specs.RootAnswers.{stored_root, has_prices, kept_prices_bytes, clearing_bytes, clearing_again}
-use Rattle.pm_services.specs.RootAnswers.{AnswersRootBid, AnswersClear, AnswersOpenRoot, AnswersRoot, not_cleared_reply}
+use Rattle.pm_services.specs.RootAnswers.{AnswersRootBid, AnswersClear, not_cleared_reply}
 
 -- what it keeps over a restart
 pub length-root_resume : (stored : StoredRoot) → length stored.numbers ≡ most_nodes → length (root_resume_bytes stored) ≡ root_resume_size
 length-root_resume stored all = omega (arith, all, length-number_bytes stored.numbers)
 
 -- the prices of its newest clearing
-pub clearing_few : (r : RootValue) → length r.auction.cache.heads ≡ most_nodes → length (clearing_bytes r) ≤ reply_limit
-clearing_few r all = omega (arith, all, prices_few (newest_index r) r.auction.step 1 r.auction.cache.heads)
+pub clearing_few : (basis : BasisValue) (r : RootValue) → length r.auction.cache.heads ≡ most_nodes → length (clearing_bytes basis r) ≤ prices_limit
+clearing_few basis r all = omega (arith, all, prices_few basis (newest_index r) r.auction.step 1 r.auction.cache.heads)
 
 few_either : (test : Bool) (bytes : List ℕ) (most : ℕ) → length bytes ≤ most → length (if test then bytes else []) ≤ most
 few_either true bytes most few = few
 few_either false bytes most few = omega arith
 
 -- the prices of the newest clearing, if it has them, are within the limit
-pub kept_prices_few : (r : RootValue) → length r.auction.cache.heads ≡ most_nodes → length (kept_prices_bytes r) ≤ reply_limit
-kept_prices_few r all = few_either (has_prices r) (clearing_bytes r) reply_limit (clearing_few r all)
+pub kept_prices_few : (basis : BasisValue) (r : RootValue) → length r.auction.cache.heads ≡ most_nodes → length (kept_prices_bytes basis r) ≤ prices_limit
+kept_prices_few basis r all = few_either (has_prices r) (clearing_bytes basis r) prices_limit (clearing_few basis r all)
 
 -- ---- prices that are sent again
 
@@ -52,14 +47,14 @@ again_same false false lost_still learns bytes same keeps = refl
 again_same false true lost_still learns bytes same keeps = rw (same, keeps refl) refl
 
 -- the prices that are had after a bid and were not before are those of a clearing that is had again
-pub sent_again : (old new : RootValue) (child number : ℕ) (demand : Option (List ℤ)) → LooksForClearing (with_root_bid old child number demand) new →
-    (if has_prices old then [] else kept_prices_bytes new) ≡ clearing_again old new
-sent_again old new child number demand (inl found) =
-    again_rebuilt (old.auction.index == 0) old.auction.changed (new.auction.index == 0) new.auction.changed (clearing_bytes new)
+pub sent_again : (basis : BasisValue) (old new : RootValue) (child number : ℕ) (demand : Option (List ℤ)) → LooksForClearing (with_root_bid old child number demand) new →
+    (if has_prices old then [] else kept_prices_bytes basis new) ≡ clearing_again basis old new
+sent_again basis old new child number demand (inl found) =
+    again_rebuilt (old.auction.index == 0) old.auction.changed (new.auction.index == 0) new.auction.changed (clearing_bytes basis new)
     (ap (λ (n : ℕ). n == 0) found.0.lost) (ap (λ (n : ℕ). n == 0) found.1.cleared.new_index) found.1.cleared.not_changed
-sent_again old new child number demand (inr stays) =
+sent_again basis old new child number demand (inr stays) =
     let counts = not (nat_le number (kept_number old.auction.cache child)) in
-    again_same (old.auction.index == 0) old.auction.changed (new.auction.index == 0) new.auction.changed (clearing_bytes new)
+    again_same (old.auction.index == 0) old.auction.changed (new.auction.index == 0) new.auction.changed (clearing_bytes basis new)
     (ap (λ (r : RootValue). r.auction.index == 0) stays.1)
     (λ learnt. ap (λ (r : RootValue). r.auction.changed) stays.1 ∙ ap (λ (b : Bool). b || counts) learnt)
 
@@ -72,24 +67,24 @@ has_both : (none learnt : Bool) (bytes : List ℕ) → none ≡ false → learnt
 has_both none learnt bytes clears nothing = rw (clears, nothing) refl
 
 -- an auctioneer that cleared has its prices
-pub cleared_kept : (old new : RootValue) (index step : ℕ) → RootCleared old new index step → kept_prices_bytes new ≡ clearing_bytes new
-cleared_kept old new index step made =
-    has_both (new.auction.index == 0) new.auction.changed (clearing_bytes new) (above_none new.auction.index old.auction.index made.cleared.new_index)
+pub cleared_kept : (basis : BasisValue) (old new : RootValue) (index step : ℕ) → RootCleared old new index step → kept_prices_bytes basis new ≡ clearing_bytes basis new
+cleared_kept basis old new index step made =
+    has_both (new.auction.index == 0) new.auction.changed (clearing_bytes basis new) (above_none new.auction.index old.auction.index made.cleared.new_index)
     made.cleared.not_changed
 
 -- ---- what is appended
 
 -- the answer to a child's bid
-pub bid_answered : (old new : RootValue) (sender number : ℕ) (demand : Option (List ℤ)) (had : Bool) (out mid longer : List ℕ) →
+pub bid_answered : (basis : BasisValue) (old new : RootValue) (sender number : ℕ) (demand : Option (List ℤ)) (had : Bool) (out mid longer : List ℕ) →
     LooksForClearing (with_root_bid old (sender_place sender) number demand) new → had ≡ has_prices old →
     mid ≡ out ++ receipt_bytes (kept_number old.auction.cache (sender_place sender)) sender number →
-    longer ≡ mid ++ (if had then [] else kept_prices_bytes new) →
-    length longer ≤ length out + (7 + reply_limit) → Appended (AnswersRootBid old sender number demand new) (7 + reply_limit) out longer
-bid_answered old new sender number demand had out mid longer looks before receipt prices few =
+    longer ≡ mid ++ (if had then [] else kept_prices_bytes basis new) →
+    length longer ≤ length out + (7 + prices_limit) → Appended (AnswersRootBid basis old sender number demand new) (7 + prices_limit) out longer
+bid_answered basis old new sender number demand had out mid longer looks before receipt prices few =
     let first = receipt_bytes (kept_number old.auction.cache (sender_place sender)) sender number in
-    let second = clearing_again old new in
-    let again : (if had then [] else kept_prices_bytes new) ≡ second =
-    ap (λ (b : Bool). if b then [] else kept_prices_bytes new) before ∙ sent_again old new (sender_place sender) number demand looks in
+    let second = clearing_again basis old new in
+    let again : (if had then [] else kept_prices_bytes basis new) ≡ second =
+    ap (λ (b : Bool). if b then [] else kept_prices_bytes basis new) before ∙ sent_again basis old new (sender_place sender) number demand looks in
     let appended : longer ≡ out ++ (first ++ second) =
     prices ∙ ap (λ (l : List ℕ). mid ++ l) again ∙ ap (λ (l : List ℕ). l ++ second) receipt ∙ append_assoc out first second in
     record {
@@ -100,13 +95,13 @@ bid_answered old new sender number demand had out mid longer looks before receip
     }
 
 -- the answer to a Clear, by whether the market was cleared
-pub clear_answered : (old new : RootValue) (index step : ℕ) (out longer : List ℕ) → RootCleared old new index step →
-    longer ≡ out ++ (root_resume_bytes (stored_root new) ++ kept_prices_bytes new) → length longer ≤ length out + (root_resume_size + reply_limit) →
-    Appended (AnswersClear old new) root_reply_limit out longer
-clear_answered old new index step out longer made written few =
-    let reply = root_resume_bytes (stored_root new) ++ clearing_bytes new in
+pub clear_answered : (basis : BasisValue) (old new : RootValue) (index step : ℕ) (out longer : List ℕ) → RootCleared old new index step →
+    longer ≡ out ++ (root_resume_bytes (stored_root basis new) ++ kept_prices_bytes basis new) → length longer ≤ length out + (root_resume_size + prices_limit) →
+    Appended (AnswersClear basis old new) root_reply_limit out longer
+clear_answered basis old new index step out longer made written few =
+    let reply = root_resume_bytes (stored_root basis new) ++ clearing_bytes basis new in
     let appended : longer ≡ out ++ reply =
-    written ∙ ap (λ (l : List ℕ). out ++ (root_resume_bytes (stored_root new) ++ l)) (cleared_kept old new index step made) in
+    written ∙ ap (λ (l : List ℕ). out ++ (root_resume_bytes (stored_root basis new) ++ l)) (cleared_kept basis old new index step made) in
     record {
       reply = reply;
       answers = inl (index, step, made, refl);
@@ -115,31 +110,11 @@ clear_answered old new index step out longer made written few =
     }
 
 -- the answer where the market is not cleared
-pub refused_answered : (old new : RootValue) (fault : RootFault) (out longer : List ℕ) → NotCleared old fault → new ≡ old →
-    longer ≡ out ++ not_cleared_reply fault → length longer ≤ length out + 1 → Appended (AnswersClear old new) root_reply_limit out longer
-refused_answered old new fault out longer why stays written few = record {
+pub refused_answered : (basis : BasisValue) (old new : RootValue) (fault : RootFault) (out longer : List ℕ) → NotCleared old fault → new ≡ old →
+    longer ≡ out ++ not_cleared_reply fault → length longer ≤ length out + 1 → Appended (AnswersClear basis old new) root_reply_limit out longer
+refused_answered basis old new fault out longer why stays written few = record {
   reply = not_cleared_reply fault;
   answers = inr (fault, why, stays, refl);
   appended = written;
   few = omega (arith, few, ap length written, length-append out (not_cleared_reply fault));
-}
-
--- there is no answer to a Resume
-pub resume_answered : (old new : RootValue) (stored : StoredRoot) (out : List ℕ) →
-    RootComesBack old.auction.cache.steps stored.last stored.numbers new →
-    Appended (AnswersOpenRoot old (Resume stored) (Some new)) root_reply_limit out out
-resume_answered old new stored out back = record {
-  reply = [];
-  answers = (record { root = new; back = back; opened = refl }, refl);
-  appended = sym (append-nil out);
-  few = omega arith;
-}
-
--- nor to the first Hello
-pub hello_answered : (basis : BasisValue) (new : RootValue) (out : List ℕ) → RootComesBack basis.steps 0 (replicate most_nodes 0) new →
-    TakesFrame AnswersRoot None (Market (Hello basis)) (Some new) out out
-hello_answered basis new out back = record {
-  reply = [];
-  answers = (record { root = new; back = back; opened = refl }, refl);
-  appended = sym (append-nil out);
 }

@@ -1,5 +1,5 @@
 -- What a relay's service knows, and what it answers to each frame.
-use Rattle.std.specs.Prelude.{◌≡◌, ◌⊎◌, ℕ, ◌<◌, ◌≤◌, ◌==◌, ◌&&◌, ◌||◌, not, Bool, false, nat_lt, if◌then◌else◌, ℤ, int_le, List, [], ◌∷◌, ◌++◌}
+use Rattle.std.specs.Prelude.{◌≡◌, ◌⊎◌, ℕ, ◌<◌, ◌≤◌, ◌==◌, ◌&&◌, ◌||◌, not, Bool, true, false, nat_lt, if◌then◌else◌, ℤ, int_le, List, [], ◌∷◌, ◌++◌}
 use Rattle.std.specs.Prelude.{length, replicate, unwrap_or, Option, Some, None}
 use Rattle.pm_base.specs.Limits.{most_nodes}
 use Rattle.pm_base.specs.declared.limits.Limits.{Limits}
@@ -75,16 +75,24 @@ some_within limits [] = false
 some_within limits (demand ∷ demands) =
     (int_le limits.floor demand && int_le demand limits.ceiling) || some_within limits demands
 
+abbrev pub some_within_any : Option Limits → List ℤ → Bool
+some_within_any None demands = true
+some_within_any (Some limits) demands = some_within limits demands
+
 -- whether some step of the sum of what a relay holds is within its limits
 abbrev pub has_step_within : RelayValue → Bool
-has_step_within r = some_within (unwrap_or r.gathered.limits no_limits) (aggregate_of r.gathered.cache)
+has_step_within r = some_within_any r.gathered.limits (aggregate_of r.gathered.cache)
+
+-- that the bid of this number is out of its limits, if it is
+abbrev pub warning_bytes : Bool → ℕ → List ℕ
+warning_bytes within number = if within then [] else out_of_limits_bytes number
 
 -- its newest bid, where what it holds is what went into that, under the limits that the bid was made under; and behind the bid that it is
 -- out of the limits, if no step of its sum is within them
 abbrev pub own_bid_bytes : RelaySetup → RelayValue → List ℕ
 own_bid_bytes own r =
     frame_bytes (Bid own.child (newest_bid_number r) (own_demand r.gathered))
-    ++ (if has_step_within r then [] else out_of_limits_bytes (newest_bid_number r))
+    ++ warning_bytes (has_step_within r) (newest_bid_number r)
 
 -- this, if it has the record of its newest bid
 abbrev pub kept_bid_bytes : RelaySetup → RelayValue → List ℕ
@@ -213,6 +221,9 @@ pub record ComesUp (own : RelaySetup) (new : Option OpenRelay) : Type 0 where
 abbrev pub with_held : OpenRelay → WaitingRelay → OpenRelay
 with_held old held' = record old { held = held' }
 
+abbrev pub with_childs_bound : OpenRelay → ℕ → Limits → OpenRelay
+with_childs_bound old sender bound = record old { bounds = with_bound old.bounds sender bound }
+
 -- what it holds is changed and answered so, and all else stays
 abbrev pub Holds : (WaitingRelay → List ℕ → Type 0) → OpenRelay → OpenRelay → List ℕ → Type 0
 Holds Answer old new reply = (after : WaitingRelay) × (new ≡ with_held old after) × Answer after reply
@@ -279,7 +290,7 @@ AnswersFrame old (Parent (Old own kept)) new reply = IsLeft old new [] reply
 AnswersFrame old Send new reply = Holds (λ after reply'. AnswersSend old.setup old.held after reply') old new reply
 AnswersFrame old (Expire sender) new reply = Holds (λ after reply'. AnswersExpire old.setup old.held sender after reply') old new reply
 AnswersFrame old (given.Limits number limits) new reply = AnswersGiven old number limits new reply
-AnswersFrame old (Bound sender bound) new reply = (new ≡ record old { bounds = with_bound old.bounds sender bound }) × (reply ≡ [])
+AnswersFrame old (Bound sender bound) new reply = IsLeft (with_childs_bound old sender bound) new [] reply
 AnswersFrame old (Resume stored) new reply = ComesUpAgain old stored new reply
 
 -- ---- all frames

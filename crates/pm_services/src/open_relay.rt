@@ -1,13 +1,15 @@
 //! A relay after Hello: what it makes of each frame, and the bytes of its answers.
 
-ghost use Rattle.std.specs.Prelude.{◌≡◌, ◌+◌, ◌≤◌, length, vec_len, vec_capacity, IfOk, OnOk, OnErr, Some, None};
+ghost use Rattle.std.specs.Prelude.{◌≡◌, ◌+◌, ◌<◌, ◌≤◌, length, vec_len, vec_capacity, IfOk, OnOk, OnErr, Some};
 ghost use Rattle.pm_base.specs.Limits.{demand_limit, most_nodes};
 ghost use Rattle.pm_bid.specs.Bids.{AllWithinLimit};
 ghost use Rattle.pm_relay.specs.Relays.{AreRelayLimits};
 ghost use Rattle.pm_services.specs.Limits.{relay_reply_limit};
 ghost use Rattle.pm_services.specs.Receipts.{Appended};
-ghost use Rattle.pm_services.specs.RelayAnswers.{AnswersOpen, AnswersBounded, AnswersGiven, AnswersTold, AnswersKept, ComesUp, ComesUpAgain, HasStored};
+ghost use Rattle.pm_services.specs.RelayAnswers.{AnswersOpen, AnswersFrame, AnswersBounded, AnswersGiven, AnswersTold, AnswersKept, ComesUp, ComesUpAgain, HasStored, with_childs_bound};
 ghost use Rattle.pm_services.specs.RelayStands.{MayStandWithSteps};
+ghost use Rattle.pm_wire.specs.declared.frame.Frame.{Frame};
+ghost use Rattle.pm_frames.specs.declared.relay.RelayFrame.{RelayFrame};
 
 use crate::bounds::Bounds;
 use crate::setup::RelaySetup;
@@ -96,7 +98,7 @@ impl OpenRelay {
                 Ok(())
             }
             RelayFrame::Child(Frame::Gone { child, number }) => {
-                self.held.take_bid(&self.setup, *child, *number, None, out);
+                self.take_gone(*child, *number, out);
                 Ok(())
             }
             RelayFrame::Parent(
@@ -112,11 +114,11 @@ impl OpenRelay {
                 Ok(())
             }
             RelayFrame::Send => {
-                self.held.send(&self.setup, out);
+                self.send(out);
                 Ok(())
             }
             RelayFrame::Expire { child } => {
-                self.held.take_expire(&self.setup, *child, out);
+                self.take_expire(*child, out);
                 Ok(())
             }
             RelayFrame::Limits { number, limits } => {
@@ -124,7 +126,7 @@ impl OpenRelay {
                 Ok(())
             }
             RelayFrame::Bound { child, bound } => {
-                self.bounds.set(*child, *bound);
+                self.set_bound(*child, *bound);
                 Ok(())
             }
             RelayFrame::Resume(stored) => self.come_back(alloc, stored, out),
@@ -158,7 +160,7 @@ impl OpenRelay {
         ensures answered { Appended (AnswersTold self.old price basis.now self.new)
             relay_reply_limit out.old.items out.new.items }
     {
-        if !basis.is(&self.setup.basis) {
+        if !self.setup.has_basis(basis) {
             write_other_basis(price.number, price.index, out);
             return;
         }
@@ -172,9 +174,53 @@ impl OpenRelay {
         ensures answered { Appended (AnswersGiven self.old number limits self.new)
             relay_reply_limit out.old.items out.new.items }
     {
-        if let Some(giver) = self.setup.terms.giver {
-            self.held.take_limits(&self.setup, giver, number, limits, out);
-        }
+        let place = self.setup.giver();
+        let Some(giver) = place else {
+            return;
+        };
+        self.held
+            .take_limits(&self.setup, giver, number, limits, out);
+    }
+
+    /// Takes a Gone of a child, and appends what is answered.
+    fn take_gone(&mut self, sender: u16, number: u32, out: &mut Vec<u8>)
+        requires first { 1 ≤ sender }
+        requires last { sender ≤ most_nodes }
+        requires room { vec_len out.old + relay_reply_limit ≤ vec_capacity out.old }
+        ensures answered { Appended (AnswersFrame self.old
+            (RelayFrame.Child (Frame.Gone sender number)) self.new) relay_reply_limit
+            out.old.items out.new.items }
+    {
+        self.held.take_bid(&self.setup, sender, number, None, out);
+    }
+
+    /// Sends the relay's bid, or appends why there is none, and what is due for the price that waits.
+    fn send(&mut self, out: &mut Vec<u8>)
+        requires room { vec_len out.old + relay_reply_limit ≤ vec_capacity out.old }
+        ensures answered { Appended (AnswersFrame self.old RelayFrame.Send self.new)
+            relay_reply_limit out.old.items out.new.items }
+    {
+        self.held.send(&self.setup, out);
+    }
+
+    /// Lets a child go, and appends what is answered.
+    fn take_expire(&mut self, sender: u16, out: &mut Vec<u8>)
+        requires first { 1 ≤ sender }
+        requires last { sender ≤ most_nodes }
+        requires room { vec_len out.old + relay_reply_limit ≤ vec_capacity out.old }
+        ensures answered { Appended (AnswersFrame self.old (RelayFrame.Expire sender) self.new)
+            relay_reply_limit out.old.items out.new.items }
+    {
+        self.held.take_expire(&self.setup, sender, out);
+    }
+
+    /// Gives a child its bound.
+    fn set_bound(&mut self, sender: u16, bound: Limits)
+        requires first { 1 ≤ sender }
+        requires last { sender ≤ most_nodes }
+        ensures set { self.new ≡ with_childs_bound self.old sender bound }
+    {
+        self.bounds.set(sender, bound);
     }
 
     /// Comes back with what the relay gave before, and learns by itself the limits that it was given, if it was given any.
@@ -191,7 +237,8 @@ impl OpenRelay {
         ensures unchanged { OnErr result (self.new ≡ self.old) }
         ensures nothing_appended { OnErr result (out.new.items ≡ out.old.items) }
     {
-        self.held = WaitingRelay::resumed(alloc, &self.setup, stored)?;
+        let back = WaitingRelay::resumed(alloc, &self.setup, stored)?;
+        self.held = back;
         self.learn_kept(stored, out);
         Ok(())
     }
@@ -203,12 +250,16 @@ impl OpenRelay {
         ensures answered { Appended (AnswersKept self.old stored.now self.new) relay_reply_limit
             out.old.items out.new.items }
     {
-        let Some(giver) = self.setup.terms.giver else {
+        let place = self.setup.giver();
+        let Some(giver) = place else {
             return;
         };
-        let number = stored.number_of(usize::from(giver) - 1);
-        if number > 0 {
-            self.take_limits(number, stored.resume().limits, out);
+        let at = usize::from(giver) - 1;
+        let number = stored.number_of(at);
+        if number == 0 {
+            return;
         }
+        let resume = stored.resume();
+        self.take_limits(number, resume.limits, out);
     }
 }

@@ -5,14 +5,16 @@ ghost use Rattle.pm_base.specs.Limits.{demand_limit, most_nodes};
 ghost use Rattle.pm_bid.specs.Bids.{AllWithinLimit};
 ghost use Rattle.pm_services.specs.Limits.{root_reply_limit};
 ghost use Rattle.pm_services.specs.Receipts.{Appended};
-ghost use Rattle.pm_services.specs.RootAnswers.{AnswersOpenRoot, AnswersRootBounded, RootComesUp};
+ghost use Rattle.pm_services.specs.RootAnswers.{AnswersOpenRoot, AnswersRootFrame, AnswersRootBounded, RootComesUp};
 ghost use Rattle.pm_services.specs.RootStands.{MayStandWithSteps};
+ghost use Rattle.pm_wire.specs.declared.frame.Frame.{Frame};
+ghost use Rattle.pm_frames.specs.declared.root.RootFrame.{RootFrame};
 
 use crate::bounds::Bounds;
 use crate::held_root::HeldRoot;
 use pm_basis::Basis;
 use pm_bid::ArrayBid;
-use pm_frames::{RootFrame, write_too_much};
+use pm_frames::{RootFrame, StoredRoot, write_too_much};
 use pm_wire::Frame;
 use std::alloc::{AllocError, Global};
 use std::marker::Model;
@@ -81,11 +83,11 @@ impl OpenRoot {
                 Ok(())
             }
             RootFrame::Market(Frame::Gone { child, number }) => {
-                self.held.take_bid(&self.basis, *child, *number, None, out);
+                self.take_gone(*child, *number, out);
                 Ok(())
             }
             RootFrame::Market(Frame::Clear) => {
-                self.held.clear(&self.basis, out);
+                self.clear(out);
                 Ok(())
             }
             RootFrame::Expire { child } => {
@@ -96,10 +98,7 @@ impl OpenRoot {
                 self.bounds.set(*child, *bound);
                 Ok(())
             }
-            RootFrame::Resume(stored) => {
-                self.held = self.held.resumed(alloc, stored)?;
-                Ok(())
-            }
+            RootFrame::Resume(stored) => self.come_back(alloc, stored, out),
             // Hello stands first and only there.
             RootFrame::Market(Frame::Hello { .. }) => Ok(()),
         }
@@ -120,5 +119,44 @@ impl OpenRoot {
             return;
         }
         self.held.take_bid(&self.basis, sender, number, Some(demand), out);
+    }
+
+    /// Takes a Gone of a child, and appends what is answered.
+    fn take_gone(&mut self, sender: u16, number: u32, out: &mut Vec<u8>)
+        requires first { 1 ≤ sender }
+        requires last { sender ≤ most_nodes }
+        requires room { vec_len out.old + root_reply_limit ≤ vec_capacity out.old }
+        ensures answered { Appended (AnswersRootFrame self.old
+            (RootFrame.Market (Frame.Gone sender number)) self.new) root_reply_limit
+            out.old.items out.new.items }
+    {
+        self.held.take_bid(&self.basis, sender, number, None, out);
+    }
+
+    /// Clears the market, and appends what is answered.
+    fn clear(&mut self, out: &mut Vec<u8>)
+        requires room { vec_len out.old + root_reply_limit ≤ vec_capacity out.old }
+        ensures answered { Appended (AnswersRootFrame self.old (RootFrame.Market Frame.Clear)
+            self.new) root_reply_limit out.old.items out.new.items }
+    {
+        self.held.clear(&self.basis, out);
+    }
+
+    /// Comes back with what the auctioneer gave before.
+    fn come_back(
+        &mut self,
+        alloc: Global,
+        stored: &StoredRoot,
+        out: &mut Vec<u8>,
+    ) -> Result<(), AllocError>
+        requires children { length stored.now.numbers ≡ most_nodes }
+        ensures answered { OnOk result (Appended (AnswersRootFrame self.old
+            (RootFrame.Resume stored.now) self.new) root_reply_limit out.old.items out.new.items) }
+        ensures unchanged { OnErr result (self.new ≡ self.old) }
+        ensures nothing_appended { out.new.items ≡ out.old.items }
+    {
+        let back = self.held.resumed(alloc, stored)?;
+        self.held = back;
+        Ok(())
     }
 }

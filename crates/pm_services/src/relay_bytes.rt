@@ -4,8 +4,12 @@ ghost use Rattle.std.specs.Prelude.{◌≡◌, ◌+◌, ◌≤◌, ◌<◌, ◌+
 ghost use Rattle.pm_base.specs.Limits.{most_steps};
 ghost use Rattle.pm_services.specs.Limits.{own_bid_limit, prices_limit};
 ghost use Rattle.pm_frames.specs.Stored.{relay_resume_size};
-ghost use Rattle.pm_relay.specs.Relays.{HasRecord};
-ghost use Rattle.pm_services.specs.RelayAnswers.{own_resume_bytes, own_bid_bytes, down_bytes};
+ghost use Rattle.pm_wire.specs.Memory.{frame_limit};
+ghost use Rattle.pm_wire.specs.Frames.{frame_bytes};
+ghost use Rattle.pm_wire.specs.declared.frame.Frame.{Frame};
+ghost use Rattle.pm_concentrator.specs.Concentrators.{own_demand};
+ghost use Rattle.pm_relay.specs.Relays.{HasRecord, newest_bid_number};
+ghost use Rattle.pm_services.specs.RelayAnswers.{own_resume_bytes, own_bid_bytes, down_bytes, has_step_within, warning_bytes};
 
 use crate::setup::RelaySetup;
 use pm_frames::{write_bid, write_out_of_limits, write_prices, write_relay_resume};
@@ -22,8 +26,39 @@ pub(crate) fn write_resume(relay: &Relay, own: &RelaySetup, out: &mut Vec<u8>)
     write_relay_resume(&relay.resume(), &own.terms, &own.basis, out);
 }
 
-/// Appends the relay's newest bid, which has what the relay holds now, and behind it that the bid is out of the relay's limits, if it
-/// is.
+/// Appends the bid of this number, in which the relay is this child of its parent.
+fn write_plain_bid(relay: &Relay, own: &RelaySetup, out: &mut Vec<u8>)
+    requires steps { relay.now.gathered.cache.steps ≤ most_steps }
+    requires room { vec_len out.old + frame_limit ≤ vec_capacity out.old }
+    ensures written { out.new.items ≡ out.old.items ++ frame_bytes (Frame.Bid own.now.child
+        (newest_bid_number relay.now) (own_demand relay.now.gathered)) }
+    ensures few { vec_len out.new ≤ vec_len out.old + frame_limit }
+    ensures capacity { vec_capacity out.old ≤ vec_capacity out.new }
+{
+    write_bid(own.child, relay.last(), relay.demand(), out);
+}
+
+/// Appends that the bid of this number is out of its limits, unless it is within them.
+fn write_warning(within: bool, number: u32, out: &mut Vec<u8>)
+    requires room { vec_len out.old + 5 ≤ vec_capacity out.old }
+    ensures written { out.new.items ≡ out.old.items ++ warning_bytes within number }
+    ensures few { vec_len out.new ≤ vec_len out.old + 5 }
+    ensures capacity { vec_capacity out.old ≤ vec_capacity out.new }
+{
+    if !within {
+        write_out_of_limits(number, out);
+    }
+}
+
+/// Whether some step of the sum of what the relay holds is within its limits.
+fn is_within(relay: &Relay) -> bool
+    ensures { result ≡ has_step_within relay.now }
+{
+    relay.has_step_within()
+}
+
+/// Appends the relay's newest bid, where the relay holds what went into it, under the limits that it was made under; and behind it that
+/// the bid is out of the limits, if it is.
 pub(crate) fn write_own_bid(relay: &Relay, own: &RelaySetup, out: &mut Vec<u8>)
     requires steps { relay.now.gathered.cache.steps ≤ most_steps }
     requires room { vec_len out.old + own_bid_limit ≤ vec_capacity out.old }
@@ -31,10 +66,8 @@ pub(crate) fn write_own_bid(relay: &Relay, own: &RelaySetup, out: &mut Vec<u8>)
     ensures few { vec_len out.new ≤ vec_len out.old + own_bid_limit }
     ensures capacity { vec_capacity out.old ≤ vec_capacity out.new }
 {
-    write_bid(own.child, relay.last(), relay.demand(), out);
-    if !relay.has_step_within() {
-        write_out_of_limits(relay.last(), out);
-    }
+    write_plain_bid(relay, own, out);
+    write_warning(is_within(relay), relay.last(), out);
 }
 
 /// Appends the relay's newest bid, and before it what the relay keeps over a restart.

@@ -14,7 +14,7 @@ const DONE: Ending = Ending::Served(Served::Done);
 const REFUSED: Ending = Ending::Served(Served::Refused);
 
 const USAGE: &[u8] =
-    b"usage: live relay CHILD FLOOR CEILING | live auctioneer | live device CHILD\n";
+    b"usage: live relay CHILD FLOOR CEILING [GIVER] | live auctioneer | live device CHILD\n";
 
 /// Hello of two steps: prices 0 and 9.
 const HELLO: &[u8] = &[1, 0, 0, 0, 0, 0, 0, 0, 9, 0, 2];
@@ -28,55 +28,121 @@ const BIDS: &[u8] = &[
 /// The numbers of the children behind the first two, none of which has bid.
 const NUMBERS: &[u8] = &[0; 1016];
 
-/// Send, and the price of clearing 7 for bid 1 of child 3, at step 1.
-const SEND_AND_PRICE: &[u8] = &[9, 5, 0, 3, 0, 0, 0, 1, 0, 0, 0, 7, 0, 1];
+/// The basis of Hello, as a Price and a Resume name it.
+const BASIS: &[u8] = &[0, 0, 0, 0, 0, 0, 0, 9, 0, 2];
 
-/// What the relay keeps: its last number, the number answered, the index, the limits of its newest bid, and the numbers of its
-/// children.
-const KEPT: &[u8] = &[
-    12, 0, 0, 0, 1, 0, 0, 0, 0, 0, 0, 0, 0, 255, 255, 252, 24, 0, 0, 3, 232, 0, 0, 0, 1, 0, 0, 0, 4,
+/// Send, and the price of clearing 7 for bid 1 of child 3, at step 1; its basis stands behind it.
+const SEND_AND_PRICE: &[u8] = &[9, 23, 0, 3, 0, 0, 0, 1, 0, 0, 0, 7, 0, 1];
+
+/// What the relay keeps: its last number, the number answered and the index; and behind the basis the limits of the arguments, no
+/// giver, the limits of its newest bid, and the numbers of its children.
+const KEPT: &[u8] = &[25, 0, 0, 0, 1, 0, 0, 0, 0, 0, 0, 0, 0];
+
+const TERMS: &[u8] = &[
+    255, 255, 252, 24, 0, 0, 3, 232, 0, 0, 255, 255, 252, 24, 0, 0, 3, 232, 0, 0, 0, 1, 0, 0, 0, 4,
 ];
 
 /// Its bid: 21 watts at step 0 and -3 at step 1.
 const OWN_BID: &[u8] = &[2, 0, 3, 0, 0, 0, 1, 0, 0, 0, 21, 255, 255, 255, 253];
 
-/// The prices for both children.
-const DOWN: &[u8] = &[
-    5, 0, 1, 0, 0, 0, 1, 0, 0, 0, 7, 0, 1, 5, 0, 2, 0, 0, 0, 4, 0, 0, 0, 7, 0, 1,
-];
+/// The prices for both children, each with the basis behind it.
+const DOWN_1: &[u8] = &[23, 0, 1, 0, 0, 0, 1, 0, 0, 0, 7, 0, 1];
+
+const DOWN_2: &[u8] = &[23, 0, 2, 0, 0, 0, 4, 0, 0, 0, 7, 0, 1];
 
 /// What the relay keeps once it took the price.
-const KEPT_LATER: &[u8] = &[
-    12, 0, 0, 0, 1, 0, 0, 0, 1, 0, 0, 0, 7, 255, 255, 252, 24, 0, 0, 3, 232, 0, 0, 0, 1, 0, 0, 0, 4,
+const KEPT_LATER: &[u8] = &[25, 0, 0, 0, 1, 0, 0, 0, 1, 0, 0, 0, 7];
+
+/// Bid 1 of child 1; limits of -1 to 1 watts under number 2; a bound of 0 to 4 watts for child 2, and its bid of 6 watts.
+const BID_1: &[u8] = &[2, 0, 1, 0, 0, 0, 1, 0, 0, 0, 5, 255, 255, 255, 253];
+
+const LIMITS: &[u8] = &[20, 0, 0, 0, 2, 255, 255, 255, 255, 0, 0, 0, 1];
+
+const BOUND: &[u8] = &[21, 0, 2, 0, 0, 0, 0, 0, 0, 0, 4];
+
+const BEYOND: &[u8] = &[2, 0, 2, 0, 0, 0, 1, 0, 0, 0, 6, 0, 0, 0, 0];
+
+/// Send, and a price of ten steps.
+const SEND_AND_OTHER: &[u8] = &[
+    9, 23, 0, 3, 0, 0, 0, 1, 0, 0, 0, 7, 0, 1, 0, 0, 0, 0, 0, 0, 0, 9, 0, 10,
 ];
+
+/// The bid of child 2 is too much.
+const TOO_MUCH: &[u8] = &[22, 0, 2, 0, 0, 0, 1];
+
+/// Behind the basis: the limits of the arguments, the giver, the limits that were given, and the numbers of the first five children.
+const GIVEN: &[u8] = &[
+    255, 255, 252, 24, 0, 0, 3, 232, 0, 5, 255, 255, 255, 255, 0, 0, 0, 1, 0, 0, 0, 1, 0, 0, 0, 0,
+    0, 0, 0, 0, 0, 0, 0, 0, 0, 0, 0, 2,
+];
+
+/// The numbers behind those of the first five.
+const NUMBERS_BEHIND_5: &[u8] = &[0; 1004];
+
+/// No step of 5 and -3 watts is within the limits: the relay settles at the second, and says that it is out of them.
+const OUT_OF_LIMITS: &[u8] = &[
+    2, 0, 3, 0, 0, 0, 1, 255, 255, 255, 253, 255, 255, 255, 253, 27, 0, 0, 0, 1,
+];
+
+/// The price of clearing 7 is of another basis.
+const OTHER_BASIS: &[u8] = &[24, 0, 0, 0, 1, 0, 0, 0, 7];
 
 /// Clear, twice.
 const CLEARS: &[u8] = &[4, 4];
 
-/// What the auctioneer keeps of its first clearing, before the numbers.
-const CLEARED: &[u8] = &[12, 0, 0, 0, 1, 0, 0, 0, 1, 0, 0, 0, 4];
+/// What the auctioneer keeps of its first clearing, before the basis and the numbers.
+const CLEARED: &[u8] = &[25, 0, 0, 0, 1];
+
+const FIRST_NUMBERS: &[u8] = &[0, 0, 0, 1, 0, 0, 0, 4];
 
 /// The prices of the clearing, at step 1, and that nothing changed since.
-const PRICES: &[u8] = &[
-    5, 0, 1, 0, 0, 0, 1, 0, 0, 0, 1, 0, 1, 5, 0, 2, 0, 0, 0, 4, 0, 0, 0, 1, 0, 1, 6,
-];
+const PRICE_1: &[u8] = &[23, 0, 1, 0, 0, 0, 1, 0, 0, 0, 1, 0, 1];
 
-/// An offer of 500 watts at step 0 and of -300 at step 1, the price of clearing 7 for it, and leaving.
+const PRICE_2: &[u8] = &[23, 0, 2, 0, 0, 0, 4, 0, 0, 0, 1, 0, 1];
+
+const NOT_CHANGED: &[u8] = &[6];
+
+/// An offer of 500 watts at step 0 and of -300 at step 1, and the price of clearing 7 for it, before its basis.
 const OFFER: &[u8] = &[
-    13, 0, 0, 1, 244, 255, 255, 254, 212, 5, 0, 2, 0, 0, 0, 2, 0, 0, 0, 7, 0, 1, 14,
+    13, 0, 0, 1, 244, 255, 255, 254, 212, 23, 0, 2, 0, 0, 0, 2, 0, 0, 0, 7, 0, 1,
 ];
 
-/// What the agent keeps, its bid, the setpoint of -300 watts, what it keeps then, and that it left.
+const LEAVE: &[u8] = &[14];
+
+/// What the agent keeps: its last number and the index, and behind the basis its offer.
+const OFFERED: &[u8] = &[25, 0, 0, 0, 2, 0, 0, 0, 0];
+
+/// Its offer, its bid, and the setpoint of -300 watts.
 const SETPOINT: &[u8] = &[
-    12, 0, 0, 0, 2, 0, 0, 0, 0, 0, 0, 1, 244, 255, 255, 254, 212, 2, 0, 2, 0, 0, 0, 2, 0, 0, 1,
-    244, 255, 255, 254, 212, 15, 0, 0, 0, 2, 0, 0, 0, 7, 0, 1, 255, 255, 254, 212, 12, 0, 0, 0, 2,
-    0, 0, 0, 7, 0, 0, 1, 244, 255, 255, 254, 212, 16, 0, 0, 0, 4, 0, 0, 0, 7, 3, 0, 2, 0, 0, 0, 4,
+    0, 0, 1, 244, 255, 255, 254, 212, 2, 0, 2, 0, 0, 0, 2, 0, 0, 1, 244, 255, 255, 254, 212, 15, 0,
+    0, 0, 2, 0, 0, 0, 7, 0, 1, 255, 255, 254, 212,
 ];
 
-/// An agent comes back with number 4 and the offer of 5 and -3 watts, and sends its bid again.
-const COMES_BACK: &[u8] = &[12, 0, 0, 0, 4, 0, 0, 0, 7, 0, 0, 0, 5, 255, 255, 255, 253];
+/// What it keeps then, and that it left.
+const PRICED: &[u8] = &[25, 0, 0, 0, 2, 0, 0, 0, 7];
+
+const DEMAND: &[u8] = &[0, 0, 1, 244, 255, 255, 254, 212];
+
+const GONE: &[u8] = &[26, 0, 0, 0, 4, 0, 0, 0, 7];
+
+const LEFT: &[u8] = &[3, 0, 2, 0, 0, 0, 4];
+
+/// An agent comes back with number 4 and the offer of 5 and -3 watts, and sends its bid again. Its parent let it go under number 5, so
+/// it makes the offer anew under number 8.
+const COMES_BACK: &[u8] = &[25, 0, 0, 0, 4, 0, 0, 0, 7];
+
+const SMALL: &[u8] = &[0, 0, 0, 5, 255, 255, 255, 253];
+
+const OLD: &[u8] = &[7, 0, 2, 0, 0, 0, 5];
 
 const BID_AGAIN: &[u8] = &[2, 0, 2, 0, 0, 0, 4, 0, 0, 0, 5, 255, 255, 255, 253];
+
+const ANEW: &[u8] = &[25, 0, 0, 0, 8, 0, 0, 0, 7];
+
+const BID_ANEW: &[u8] = &[2, 0, 2, 0, 0, 0, 8, 0, 0, 0, 5, 255, 255, 255, 253];
+
+/// The same under a number of its parent.
+const PARENTS_NUMBER: &[u8] = &[25, 0, 0, 0, 5, 0, 0, 0, 7];
 
 /// The fault of a frame behind Hello.
 const FAULT: &[u8] = &[8, 0, 0, 0, 0, 0, 0, 0, 11];
@@ -92,20 +158,80 @@ type Row = (
 const ROWS: &[Row] = &[
     (
         "relay 3 -1000 1000",
-        &[HELLO, BIDS, SEND_AND_PRICE],
+        &[HELLO, BIDS, SEND_AND_PRICE, BASIS],
         DONE,
-        &[KEPT, NUMBERS, OWN_BID, DOWN, KEPT_LATER, NUMBERS],
+        &[
+            KEPT, BASIS, TERMS, NUMBERS, OWN_BID, DOWN_1, BASIS, DOWN_2, BASIS, KEPT_LATER, BASIS,
+            TERMS, NUMBERS,
+        ],
     ),
+    (
+        "relay 3 -1000 1000 5",
+        &[HELLO, BID_1, LIMITS, BOUND, BEYOND, SEND_AND_OTHER],
+        DONE,
+        &[
+            TOO_MUCH,
+            KEPT,
+            BASIS,
+            GIVEN,
+            NUMBERS_BEHIND_5,
+            OUT_OF_LIMITS,
+            OTHER_BASIS,
+        ],
+    ),
+    (
+        "relay 3 -1000 1000 5",
+        &[HELLO, KEPT, BASIS, GIVEN, NUMBERS_BEHIND_5, BID_1],
+        DONE,
+        &[OUT_OF_LIMITS],
+    ),
+    (
+        "relay 3 -1000 1000 4",
+        &[HELLO, KEPT, BASIS, GIVEN, NUMBERS_BEHIND_5],
+        REFUSED,
+        &[FAULT],
+    ),
+    ("relay 3 -1000 1000", &[HELLO, LIMITS], REFUSED, &[FAULT]),
+    ("relay 3 -1000 1000 2", &[HELLO, BOUND], REFUSED, &[FAULT]),
     ("relay 3 -1000 1000", &[HELLO, CLEARS], REFUSED, &[FAULT]),
     (
         "auctioneer",
         &[HELLO, BIDS, CLEARS],
         DONE,
-        &[CLEARED, NUMBERS, PRICES],
+        &[
+            CLEARED,
+            BASIS,
+            FIRST_NUMBERS,
+            NUMBERS,
+            PRICE_1,
+            BASIS,
+            PRICE_2,
+            BASIS,
+            NOT_CHANGED,
+        ],
     ),
+    ("auctioneer", &[HELLO, BOUND, BEYOND], DONE, &[TOO_MUCH]),
     ("auctioneer", &[HELLO, OFFER], REFUSED, &[FAULT]),
-    ("device 2", &[HELLO, OFFER], DONE, &[SETPOINT]),
-    ("device 2", &[HELLO, COMES_BACK], DONE, &[BID_AGAIN]),
+    (
+        "device 2",
+        &[HELLO, OFFER, BASIS, LEAVE],
+        DONE,
+        &[
+            OFFERED, BASIS, SETPOINT, PRICED, BASIS, DEMAND, GONE, BASIS, LEFT,
+        ],
+    ),
+    (
+        "device 2",
+        &[HELLO, COMES_BACK, BASIS, SMALL, OLD],
+        DONE,
+        &[BID_AGAIN, ANEW, BASIS, SMALL, BID_ANEW],
+    ),
+    (
+        "device 2",
+        &[HELLO, PARENTS_NUMBER, BASIS, SMALL],
+        REFUSED,
+        &[FAULT],
+    ),
     ("device 2", &[HELLO, BIDS], REFUSED, &[FAULT]),
     ("device 0", &[HELLO], Ending::Usage, &[USAGE]),
     ("device 02", &[HELLO], Ending::Usage, &[USAGE]),
@@ -113,6 +239,8 @@ const ROWS: &[Row] = &[
     ("relay 3 -0 1000", &[HELLO], Ending::Usage, &[USAGE]),
     ("relay 3 0 1000000001", &[HELLO], Ending::Usage, &[USAGE]),
     ("relay 257 0 0", &[HELLO], Ending::Usage, &[USAGE]),
+    ("relay 3 0 0 257", &[HELLO], Ending::Usage, &[USAGE]),
+    ("relay 3 0 0 0", &[HELLO], Ending::Usage, &[USAGE]),
     ("", &[HELLO], Ending::Usage, &[USAGE]),
 ];
 

@@ -15,7 +15,7 @@ pub write_agent_resume-requires-clause-room : goal.write_agent_resume-requires-c
 write_agent_resume-requires-clause-room c =
     let resume = c.resume-resume.result in
     let steps = c.steps_if_some-steps in
-    omega (arith, newest_few resume.number resume.index (option_copied resume.newest) steps.result steps.ensures.steps steps.ensures.few)
+    omega (arith, newest_few resume.number resume.index c.self.inside.basis (option_copied resume.newest) steps.result steps.ensures.steps steps.ensures.few)
 
 pub returns-clause-few : goal.returns-clause-few
 returns-clause-few c =
@@ -24,6 +24,6 @@ returns-clause-few c =
     omega (
       arith,
       ap length c.write_agent_resume.ensures.written,
-      length-append c.args.out.now.items (newest_bytes resume.number resume.index (option_copied resume.newest)),
-      newest_few resume.number resume.index (option_copied resume.newest) steps.result steps.ensures.steps steps.ensures.few,
+      length-append c.args.out.now.items (newest_bytes resume.number resume.index c.self.inside.basis (option_copied resume.newest)),
+      newest_few resume.number resume.index c.self.inside.basis (option_copied resume.newest) steps.result steps.ensures.steps steps.ensures.few,
     )

@@ -1,59 +1,29 @@
 -- Of `OpenRelay::take_limits`: what it ensures.
-use Rattle.std.proofs.Common.{◌≡◌, ◌∙◌, sym, ap, subst, ℕ, Bool, true, false, not, ◌&&◌, cond, List, [], ◌++◌, length, Option, arith, refl, length-append}
-use Rattle.std.specs.Prelude.{◌==◌, if◌then◌else◌}
-use Rattle.std.proofs.lemmas.Bool.{true≢false}
-use Rattle.std.proofs.lemmas.List.{append_assoc}
-use Rattle.pm_session.specs.declared.price.PriceUpdate.{PriceUpdate}
-use Rattle.pm_cache.specs.Cache.{kept_number}
-use Rattle.pm_services.specs.Receipts.{sender_place, receipt_bytes}
-use Rattle.pm_services.specs.RelayAnswers.{TriesWaiting, kept_bid_bytes, own_bid_bytes, bid_again}
+use Rattle.std.proofs.Common.{◌≡◌, ◌∙◌, sym, ap, subst, arith, Option, Some, None, ℕ}
+use Rattle.pm_services.specs.Limits.{relay_reply_limit}
+use Rattle.pm_services.specs.Receipts.{Appended}
+use Rattle.pm_services.specs.RelayAnswers.{OpenRelay, AnswersGiven}
+use Rattle.pm_services.proofs.RelaySteps.{limits_keep}
+use Rattle.pm_services.proofs.OpenRelays.{is_given, is_fixed}
 use Rattle.pm_services.proofs.open_relay.OpenRelay.take_limits.Goals as goal
 
-again_of : (had none lost : Bool) (bytes : List ℕ) → had ≡ not none → cond had [] (cond lost [] bytes) ≡ cond (none && not lost) bytes []
-again_of true true lost bytes e = absurd (true≢false e)
-again_of true false lost bytes e = refl
-again_of false true true bytes e = refl
-again_of false true false bytes e = refl
-again_of false false lost bytes e = absurd (true≢false (sym e))
+pub returns-in_default : goal.returns-in_default
+returns-in_default c =
+    let old : OpenRelay = record { setup = c.self.inside.setup; bounds = c.self.inside.bounds; held = c.self.inside.held } in
+    record {
+      answered = subst (λ (it : OpenRelay). Appended (AnswersGiven it c.args.number c.args.limits c.args.self.now) relay_reply_limit c.args.out.now.items c.args.out.now.items) c.self.view_is
+      (subst (λ (now : OpenRelay). Appended (AnswersGiven old c.args.number c.args.limits now) relay_reply_limit c.args.out.now.items c.args.out.now.items)
+      c.self.view_is (is_fixed old _ _ _ (sym c.giver-place.ensures.giver ∙ c.in_default.is)));
+    }
 
 pub returns : goal.returns
 returns c =
-    let own = c.args.own in
-    let old = c.args.self.now in
-    let learnt = c.learn_limits.new.self.relay in
-    let had : Bool = c.is_some-had_record.result in
-    let tried = c.try_waiting.ensures.answered in
-    let out : List ℕ = c.args.out.now.items in
-    let again : List ℕ = if had then [] else kept_bid_bytes own learnt in
-    let is_had : had ≡ not (old.relay.gathered.window.last == 0) = grind (arith, c.resend.ensures, c.is_some-had_record.ensures) in
-    let same : again ≡ bid_again own old.relay learnt =
-    again_of had (old.relay.gathered.window.last == 0) (learnt.gathered.window.last == 0) (own_bid_bytes own learnt) is_had in
-    let receipt : List ℕ = receipt_bytes (kept_number old.relay.gathered.cache (sender_place c.args.sender)) c.args.sender c.args.number in
-    let two : List ℕ = again ++ tried.reply in
+    let old : OpenRelay = record { setup = c.self.inside.setup; bounds = c.self.inside.bounds; held = c.self.inside.held } in
     record {
-      answered = record {
-        reply = receipt ++ two;
-        answers = record {
-          learnt = learnt;
-          looks = c.learn_limits.ensures.learnt;
-          waiting_reply = tried.reply;
-          tries = subst (λ (w : Option PriceUpdate). TriesWaiting w learnt c.try_waiting.new.self tried.reply) c.learn_limits.ensures.waits tried.answers;
-          replied = ap (λ (l : List ℕ). receipt ++ (l ++ tried.reply)) same;
-        };
-        appended = tried.appended ∙ ap (λ (l : List ℕ). l ++ tried.reply) c.send_again.ensures.written
-            ∙ ap (λ (l : List ℕ). (l ++ again) ++ tried.reply) c.learn_limits.ensures.written
-            ∙ append_assoc (out ++ receipt) again tried.reply ∙ append_assoc out receipt two;
-        few = omega (
-          arith,
-          length-append receipt two,
-          length-append again tried.reply,
-          length-append out receipt,
-          length-append c.learn_limits.new.out.items again,
-          ap (λ (l : List ℕ). length l) c.learn_limits.ensures.written,
-          c.learn_limits.ensures.few,
-          ap (λ (l : List ℕ). length l) c.send_again.ensures.written,
-          c.send_again.ensures.few,
-          tried.few,
-        );
-      };
+      answered = subst (λ (it : OpenRelay). Appended (AnswersGiven it c.args.number c.args.limits (record { setup = c.self.inside.setup; bounds = c.self.inside.bounds; held = c.take_limits.new.self })) relay_reply_limit c.args.out.now.items c.take_limits.new.out.items) c.self.view_is
+      (is_given old _ _ _ _ _ _ (sym c.giver-place.ensures.giver ∙ c.in-Some.is) c.take_limits.ensures.answered);
     }
+
+pub invariant_of-self : goal.invariant_of-self
+invariant_of-self c =
+    limits_keep c.self.inside.setup c.self.inside.held _ _ _ _ _ c.take_limits.ensures.answered.answers ∙ c.self.invariant

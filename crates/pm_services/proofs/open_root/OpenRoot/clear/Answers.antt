@@ -1,6 +1,17 @@
--- Of `OpenRoot::clear`: what it ensures, and what the type keeps.
-use Rattle.pm_services.proofs.OpenRoots.{cleared}
+-- Of `OpenRoot::clear`: what it ensures.
+use Rattle.std.proofs.Common.{◌≡◌, ◌∙◌, sym, ap, subst, arith, ℕ}
+use Rattle.pm_wire.specs.declared.frame.Frame.TheVariants.{Clear}
+use Rattle.pm_frames.specs.declared.root.RootFrame.TheVariants.{Market}
+use Rattle.pm_services.specs.Limits.{root_reply_limit}
+use Rattle.pm_services.specs.Receipts.{Appended}
+use Rattle.pm_services.specs.RootAnswers.{OpenRoot, AnswersRootFrame}
+use Rattle.pm_services.proofs.OpenedRoots.{hands_clear}
 use Rattle.pm_services.proofs.open_root.OpenRoot.clear.Goals as goal
 
-pub invariant_of-self : goal.invariant_of-self
-invariant_of-self c = cleared c.self.inside.steps c.self.inside.root c.clear.new.self _ _ c.self.invariant c.in-Ok.ensures.cleared
+pub returns : goal.returns
+returns c =
+    let old : OpenRoot = record { basis = c.self.inside.basis; bounds = c.self.inside.bounds; root = c.self.inside.held } in
+    record {
+      answered = subst (λ (it : OpenRoot). Appended (AnswersRootFrame it (Market Clear) (record { basis = c.self.inside.basis; bounds = c.self.inside.bounds; root = c.clear.new.self })) root_reply_limit c.args.out.now.items c.clear.new.out.items) c.self.view_is
+      (hands_clear old _ _ _ c.clear.ensures.answered);
+    }

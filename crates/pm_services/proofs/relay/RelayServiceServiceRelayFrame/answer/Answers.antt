@@ -1,24 +1,23 @@
 -- Of `answer` of a relay: what the call of `take` requires; what Hello makes of it.
-use Rattle.std.proofs.Common.{◌≡◌, ◌∙◌, sym, ap, subst, refl, replicate, [], Some, None}
+use Rattle.std.proofs.Common.{◌≡◌, ◌∙◌, sym, ap, subst, refl, [], Some, None}
 use Rattle.std.proofs.lemmas.List.{append-nil}
-use Rattle.pm_base.specs.Limits.{most_nodes}
 use Rattle.pm_wire.specs.declared.frame.Frame.{Frame}
 use Rattle.pm_wire.specs.declared.frame.Frame.TheVariants.{Hello}
 use Rattle.pm_frames.specs.declared.relay.RelayFrame.{RelayFrame}
 use Rattle.pm_frames.specs.declared.relay.RelayFrame.TheVariants.{Child}
-use Rattle.pm_services.specs.RelayAnswers.{OpenRelay, RelayServiceValue, AnswersRelay, AnswersNow, AnswersClosed, Opens}
+use Rattle.pm_services.specs.RelayAnswers.{OpenRelay, RelayServiceValue, AnswersRelay, AnswersNow, AnswersClosed}
 use Rattle.pm_services.specs.RelayStands.{MayStandWithSteps, steps_known}
 use Rattle.pm_services.proofs.RelayPlaces.{relay_stands}
 use Rattle.pm_services.proofs.relay.RelayServiceServiceRelayFrame.answer.Goals as goal
 
 -- before Hello a child's frame is answered so
 answered_before : (service : RelayServiceValue) (frame : RelayFrame) (child : Frame) (new : OpenRelay) → service.relay ≡ None → frame ≡ Child child →
-    AnswersClosed service.limits (Child child) (Some new) [] → AnswersRelay service frame (record service { relay = Some new }) []
+    AnswersClosed service.child service.terms (Child child) (Some new) [] → AnswersRelay service frame (record service { relay = Some new }) []
 answered_before service frame child new closed is answers = record {
   child = refl;
-  limits = refl;
-  answers = subst (λ known. AnswersNow service.child service.limits known frame (Some new) []) (sym closed)
-      (subst (λ first. AnswersClosed service.limits first (Some new) []) (sym is) answers);
+  terms = refl;
+  answers = subst (λ known. AnswersNow service.child service.terms known frame (Some new) []) (sym closed)
+      (subst (λ first. AnswersClosed service.child service.terms first (Some new) []) (sym is) answers);
 }
 
 pub take-requires-clause-stands : goal.take-requires-clause-stands
@@ -28,11 +27,10 @@ take-requires-clause-stands c =
 
 pub returns-in_ok-new-clause-taken : goal.returns-in_ok-new-clause-taken
 returns-in_ok-new-clause-taken c =
-    let old : RelayServiceValue = record { child = c.self.inside.child; limits = c.self.inside.limits; relay = c.self.inside.relay } in
+    let old : RelayServiceValue = record { child = c.self.inside.child; terms = c.self.inside.terms; relay = c.self.inside.relay } in
     let hello : c.in-Child-Hello.field-0 ≡ Hello c.in-Child-Hello.basis = rw c.in-Child-Hello.is at c.in-Child-Hello.field-0-is in
-    let opens = subst (λ steps. Opens old.limits steps 0 0 0 (replicate most_nodes 0) old.limits (Some c.in_ok-new.field-0)) c.steps.ensures.steps
-    c.in_ok-new.ensures.opens in
-    let answers = subst (λ (child : Frame). AnswersClosed old.limits (Child child) (Some c.in_ok-new.field-0) []) (sym hello) (opens, refl) in
+    let answers = subst (λ (child : Frame). AnswersClosed old.child old.terms (Child child) (Some c.in_ok-new.field-0) []) (sym hello)
+    (c.in_ok-new.ensures.opens, refl) in
     record {
       reply = [];
       answers = subst (λ (service : RelayServiceValue). AnswersRelay service c.args.frame.now (record old { relay = Some c.in_ok-new.field-0 }) [])

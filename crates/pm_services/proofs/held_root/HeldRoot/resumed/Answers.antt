@@ -1,9 +1,9 @@
--- Of `OpenRoot::resumed`: what it ensures.
+-- Of `HeldRoot::resumed`: what it ensures.
 use Rattle.std.proofs.Common.{◌≡◌, ◌∙◌, sym, ap, ℕ}
 use Rattle.pm_base.specs.Limits.{most_nodes}
 use Rattle.pm_auctioneer.specs.Auctions.{new_auction}
 use Rattle.pm_relay.specs.Roots.{RootValue}
-use Rattle.pm_services.proofs.open_root.OpenRoot.resumed.Goals as goal
+use Rattle.pm_services.proofs.held_root.HeldRoot.resumed.Goals as goal
 
 pub returns : goal.returns
 returns c =

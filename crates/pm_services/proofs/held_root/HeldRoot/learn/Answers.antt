@@ -1,8 +1,8 @@
--- Of `OpenRoot::learn`: what the type keeps.
+-- Of `HeldRoot::learn`: what the type keeps.
 use Rattle.std.proofs.Common.{◌-◌}
 use Rattle.std.specs.Option.{option_copied}
 use Rattle.pm_services.proofs.OpenRoots.{learnt}
-use Rattle.pm_services.proofs.open_root.OpenRoot.learn.Goals as goal
+use Rattle.pm_services.proofs.held_root.HeldRoot.learn.Goals as goal
 
 pub invariant_of-self : goal.invariant_of-self
 invariant_of-self c =

@@ -1,7 +1,7 @@
--- Of `OpenRoot::expire`: what the type keeps.
+-- Of `HeldRoot::expire`: what the type keeps.
 use Rattle.std.proofs.Common.{◌-◌, None}
 use Rattle.pm_services.proofs.OpenRoots.{learnt}
-use Rattle.pm_services.proofs.open_root.OpenRoot.expire.Goals as goal
+use Rattle.pm_services.proofs.held_root.HeldRoot.expire.Goals as goal
 
 pub invariant_of-self : goal.invariant_of-self
 invariant_of-self c =
