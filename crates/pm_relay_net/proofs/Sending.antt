@@ -86,7 +86,7 @@ module _ (lists : Lists) (law : Lawful lists) (p : Pricing) (numbering : Numberi
       (omega (arith, is.inside x node, Rattle.std.proofs.lemmas.List.length-replicate {A = BidHead} most_nodes nothing_sent))) in
       omega (arith, heard_at lists p numbering is net c r m x node up, nothing)
 
-  no_news : IsCaughtUp r → r.gathered.cache.heads ≡ published_heads r.gathered → has_news lists net c ≡ false
+  pub no_news : IsCaughtUp r → r.gathered.cache.heads ≡ published_heads r.gathered → has_news lists net c ≡ false
   no_news caught same = level lists net c (caught_to lists p numbering is net c r m caught)
       (over_to lists p numbering is net c r m (nothing_newer lists p numbering is net c r m
       (over_level (ltb 0 r.gathered.window.last) refl caught same)))

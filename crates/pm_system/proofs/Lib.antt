@@ -17,3 +17,5 @@ pub mod Worked
 pub mod WorkedGiven
 mod WorkedEnd
 mod Reached
+mod Told
+mod Anew

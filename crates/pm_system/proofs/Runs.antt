@@ -108,3 +108,26 @@ module _ (lists : Lists) (p : Pricing) (numbering : Numbering) (market : IsTreeM
   system_runs sys new calls at runs =
       let all = calls_follow calls (start_devices p) start (agree_at_start lists market.law p market.by_nodes) sys (started sys at) new runs in
       record { events = all.events; is = all.is; restarts = all.restarts }
+
+  -- and what runs the market goes on to
+  first_stays : (x : ℕ) (calls more : List NodeCall) → StaysUp x (calls ++ more) → StaysUp x calls
+  first_stays x [] more up = tt
+  first_stays x (call ∷ calls) more up = (up.0, first_stays x calls more up.1)
+
+  more_stays : (x : ℕ) (calls more : List NodeCall) → StaysUp x (calls ++ more) → StaysUp x more
+  more_stays x [] more up = up
+  more_stays x (call ∷ calls) more up = more_stays x calls more up.1
+
+  pub goes_on : (before more : List NodeCall) (sys new : System) → RunsTheMarket lists p numbering before sys →
+      SystemRuns lists p numbering sys more new → RunsTheMarket lists p numbering (before ++ more) new
+  goes_on before more sys new has runs =
+      let goes = run_goes_on lists market.law market.one_phase p market.by_nodes has.events (start_devices p) start
+      (agree_at_start lists market.law p market.by_nodes) in
+      let rest = calls_follow more (devices_after lists p (start_devices p) has.events) (after_from lists start goes.moves) goes.agree sys has.is new runs in
+      let Is : Devices → Type 0 = λ w. SystemIs lists p numbering w new in
+      record {
+        events = has.events ++ rest.events;
+        is = subst Is (sym (after_both lists p (start_devices p) has.events rest.events)) rest.is;
+        restarts = λ x up. on_both x has.events rest.events (has.restarts x (first_stays x before more up))
+            (rest.restarts x (more_stays x before more up));
+      }

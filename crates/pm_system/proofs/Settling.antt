@@ -38,9 +38,11 @@ use Rattle.pm_system.specs.System.{System, price_in_channel}
 use Rattle.pm_system.specs.Calls.{NodeCall, StaysUp}
 use Rattle.pm_system.specs.Given.{IsTreeMarket}
 use Rattle.pm_system.specs.Market.{RunsTheMarket}
-use Rattle.pm_system.specs.Settled.{number_made, number_held, index_of_held, IsSettledSystem, IsReachedSystem, IsCurrentSystem, HoldsNewestBid, WasTold, numbers_counted, head_held, CountsAtParent, HasNothingToSend, HasNothingToClear}
+use Rattle.pm_system.specs.Settled.{number_made, number_held, index_of_held, IsSettledSystem, IsReachedSystem, IsToldSystem, IsCurrentSystem, HoldsNewestBid, WasTold, numbers_counted, head_held, CountsAtParent, HasNothingToSend, HasNothingToClear}
 use Rattle.pm_system.proofs.Reached as reaching
 use Rattle.pm_system.proofs.Reached.{CountsIn}
+use Rattle.pm_system.proofs.Told as telling
+use Rattle.pm_net.specs.Running.{has_news}
 use Rattle.pm_system.proofs.Moving.{same_price, prices_in, parent_relay}
 
 -- a node that sends and does not change cannot send
@@ -317,4 +319,33 @@ module _ (lists : Lists) (p : Pricing) (numbering : Numbering) (market : IsTreeM
           counted = reaching.all_counted lists market.law p market.by_nodes net s agrees held relays root reached_net;
           one = reaching.one_cleared lists market.law p market.by_nodes net s agrees held relays root reached_net;
           held = reaching.all_held lists market.law p market.by_nodes net s agrees held relays root reached_net;
+        })
+
+  module _ (quiet : IsToldSystem lists numbering sys) where
+    no_relay_news : (c : ℕ) → IsConcentrator lists c → has_news lists net c ≡ false
+    no_relay_news c conc =
+        let why = quiet.relays c conc in
+        sending.no_news lists market.law p numbering market.places net s agrees c conc (sys.relays c) (has.is.relays c conc) why.0 why.1
+
+    no_root_news : has_news lists net 0 ≡ false
+    no_root_news = clearing.no_news lists p numbering market.places net sys.root has.is.root quiet.root.0 quiet.root.1
+
+    told_net : (d : ℕ) → IsLeaf lists d → (net.heard d).gone ≡ false → clearings s ≤ (net.taken d).index
+    told_net d leaf there =
+        let node : IsNode lists d = leaf_node lists market.law d leaf in
+        omega (
+          arith,
+          newest_is,
+          quiet.devices d leaf (ap (λ (h : BidHead). h.gone) (head_is d node) ∙ there),
+          index_is d node,
+        )
+
+    -- and so is one of which each device that counts was told the newest clearing, and nobody has news
+    pub current_told : IsCurrentSystem lists p numbering calls sys
+    current_told =
+        let held : (x : ℕ) → IsNode lists x → made_number lists net x ≤ (net.heard x).number = bids_held quiet.bids quiet.expired in
+        current_where quiet.bids quiet.expired (record {
+          counted = telling.all_counted lists market.law p market.by_nodes net s agrees held no_relay_news no_root_news told_net;
+          one = telling.one_cleared lists market.law p market.by_nodes net s agrees held no_relay_news no_root_news told_net;
+          held = telling.all_held lists market.law p market.by_nodes net s agrees held no_relay_news no_root_news told_net;
         })

@@ -19,10 +19,10 @@ use Rattle.pm_net_plan.specs.Places.{children_to, place_in, child_in}
 use Rattle.pm_auctioneer.specs.Auctions.{new_auction}
 use Rattle.pm_concentrator.specs.Concentrators.{own_demand}
 use Rattle.pm_relay.specs.Numbers.{child_number, head_number, AreReached, AreEnough}
-use Rattle.pm_relay.specs.Relays.{RelayValue, with_child_bid, HearsItsRecord}
+use Rattle.pm_relay.specs.Relays.{RelayValue, limits_places, with_child_bid, HearsItsRecord}
 use Rattle.pm_relay.specs.Roots.{RootValue, with_root_bid, HearsItsClearing}
 use Rattle.pm_relay.specs.declared.outcome.PriceOutcome.TheVariants.{PassedOn}
-use Rattle.pm_relay_net.specs.RelayIs.{told_demand, update_of, prices_down}
+use Rattle.pm_relay_net.specs.RelayIs.{LimitsPassBy, told_demand, update_of, prices_down}
 use Rattle.pm_relay_net.specs.RootIs.{root_prices}
 use Rattle.pm_system.specs.System.{System, bid_in_channel, price_in_channel, with_root, with_relay, with_agent, with_setpoints, with_bid_sent}
 use Rattle.pm_system.specs.System.{with_prices_sent}
@@ -82,6 +82,7 @@ relay_back last number index' numbers = record {
   answered = number;
   index = index';
   recorded = numbers;
+  made_under = replicate limits_places small_limits;
 }
 
 abbrev pub new_root : RootValue
@@ -228,6 +229,7 @@ started = record {
       answered = refl;
       index = refl;
       recorded = refl;
+      made_under = refl;
     },
   );
   agents = λ d leaf. refl;
@@ -235,6 +237,10 @@ started = record {
   bids_sent = λ x. refl;
   prices_sent = λ x. refl;
 }
+
+-- the limits are fixed, so they go by no numbers
+passes_by : (x : ℕ) → LimitsPassBy small_pricing 1 x
+passes_by x a b same = refl
 
 pub does_1 : Does small_tree small_pricing small_places s0 (Bids 2) s1
 unfolding is_leaf is_member changes
@@ -261,7 +267,7 @@ does_3 = inl (record {
   below = λ e. absurd (omega (arith, e));
   inside = omega arith;
   relay = _;
-  learnt = inr ((λ h. omega (arith, h.came_back)), refl);
+  learnt = inl (record { passes = passes_by 2; learnt = inr ((λ h. omega (arith, h.came_back)), refl) });
   new_is = refl;
 })
 
@@ -272,7 +278,7 @@ does_4 = inl (record {
   below = λ e. absurd (omega (arith, e));
   inside = omega arith;
   relay = _;
-  learnt = inr ((λ h. omega (arith, h.came_back)), refl);
+  learnt = inl (record { passes = passes_by 3; learnt = inr ((λ h. omega (arith, h.came_back)), refl) });
   new_is = refl;
 })
 
@@ -308,6 +314,8 @@ does_5 = record {
     base = refl;
     answered = refl;
     index = refl;
+    made_under = refl;
+    kept_under = λ n from to. refl;
   };
   new_is = refl;
 }
@@ -356,7 +364,7 @@ does_9 = inl (record {
   below = λ e. absurd (omega (arith, e));
   inside = omega arith;
   relay = _;
-  learnt = inr ((λ h. omega (arith, h.came_back)), refl);
+  learnt = inl (record { passes = passes_by 2; learnt = inr ((λ h. omega (arith, h.came_back)), refl) });
   new_is = refl;
 })
 
@@ -396,6 +404,8 @@ does_10 = inl (record {
     base = refl;
     answered = refl;
     index = refl;
+    made_under = refl;
+    kept_under = λ n from to. refl;
   };
   new_is = refl;
 })
@@ -406,6 +416,8 @@ does_11 = inr (inl (record {
   conc = (omega arith, omega arith, refl);
   limits = small_limits;
   limited = refl;
+  under = small_limits;
+  under_is = refl;
   relay = _;
   back = record {
     gathered = record { cache = refl; window = record { children = refl; steps = refl; answered = refl; last = refl; opening = refl }; limits = refl; announced = refl };
@@ -413,6 +425,7 @@ does_11 = inr (inl (record {
     answered = refl;
     index = refl;
     recorded = refl;
+    made_under = refl;
   };
   new_is = refl;
 }))
@@ -424,7 +437,7 @@ does_12 = inl (record {
   below = λ e. absurd (omega (arith, e));
   inside = omega arith;
   relay = _;
-  learnt = inr ((λ h. omega (arith, h.caught_up 0 (omega arith))), refl);
+  learnt = inl (record { passes = passes_by 3; learnt = inr ((λ h. omega (arith, h.caught_up 0 (omega arith))), refl) });
   new_is = refl;
 })
 
@@ -435,28 +448,32 @@ does_13 = inl (record {
   below = λ e. absurd (omega (arith, e));
   inside = omega arith;
   relay = rebuilt_relay (told_relay s12 2 1);
-  learnt = inl (
-    record {
-      came_back = omega arith;
-      lost = refl;
-      caught_up = reached (told_relay s12 2 1).recorded (told_relay s12 2 1).gathered.cache.heads refl;
-      nothing_newer = enough (told_relay s12 2 1).recorded (told_relay s12 2 1).gathered.cache.heads refl;
-      changed = λ e. absurd (omega (arith, ap (λ (l : List BidHead). head_number l 0) e));
-    },
-    record {
-      base = refl;
-      last = refl;
-      window = refl;
-      heads = refl;
-      sum = refl;
-      announced = refl;
-      cache = refl;
-      limits = refl;
-      answered = refl;
-      index = refl;
-      recorded = refl;
-    },
-  );
+  learnt = inl (record {
+    passes = passes_by 2;
+    learnt = inl (
+      record {
+        came_back = omega arith;
+        lost = refl;
+        caught_up = reached (told_relay s12 2 1).recorded (told_relay s12 2 1).gathered.cache.heads refl;
+        nothing_newer = enough (told_relay s12 2 1).recorded (told_relay s12 2 1).gathered.cache.heads refl;
+        changed = λ e. absurd (omega (arith, ap (λ (l : List BidHead). head_number l 0) e));
+      },
+      record {
+        base = refl;
+        last = refl;
+        window = refl;
+        heads = refl;
+        sum = refl;
+        announced = refl;
+        cache = refl;
+        limits = refl;
+        answered = refl;
+        index = refl;
+        recorded = refl;
+        made_under = refl;
+      },
+    );
+  });
   new_is = refl;
 })
 
@@ -520,6 +537,7 @@ does_17 = inl (record {
       answered = refl;
       index = refl;
       recorded = refl;
+      made_under = refl;
     },
   );
   new_is = refl;

@@ -10,7 +10,7 @@ use Rattle.pm_net.proofs.Messages.{either}
 use Rattle.pm_net_plan.specs.Places.{HasFewChildren}
 use Rattle.pm_net_plan.proofs.Children.{small}
 use Rattle.pm_system.specs.Given.{IsDemand, IsGiven, IsTreeMarket}
-use Rattle.pm_system.specs.Worked.{small_tree, small_places, small_limits, small_demand, small_offer, small_pricing}
+use Rattle.pm_system.specs.Worked.{small_tree, small_places, small_limits, no_giver, small_demand, small_offer, small_pricing}
 use Rattle.pm_system.proofs.Given.{is_market}
 
 three_within : (a b c : ℤ) → IsWithin demand_limit a → IsWithin demand_limit b → IsWithin demand_limit c → (step : ℕ) → step < 3 →
@@ -110,7 +110,7 @@ lawful = record {
 }
 
 -- so all that holds of markets holds of it
-pub given : IsGiven small_tree 3 small_demand (λ c. small_limits)
+pub given : IsGiven small_tree 3 small_demand (λ c n. small_limits) no_giver
 given = record {
   law = lawful;
   one_phase = refl;
@@ -118,7 +118,7 @@ given = record {
   are_steps = record { least = omega arith; most = omega arith };
   demands = small_is_demand;
   absent = λ d n out. cond-false (is_member small_tree d n) (small_offer d n) (zeros 3) out;
-  are_limits = λ c. record {
+  are_limits = λ c n. record {
     around = record {
       floor_not_positive = omega (arith, ints);
       ceiling_not_negative = omega (arith, ints);
@@ -128,7 +128,8 @@ given = record {
     floor = below (negsuc 2) (omega (arith, ints)) (omega (arith, ints));
     ceiling = within (pos 7) (omega (arith, ints)) (omega (arith, ints));
   };
+  givers = λ c. inr (λ n. refl);
 }
 
 pub market : IsTreeMarket small_tree small_pricing small_places
-market = is_market small_tree 3 small_demand (λ c. small_limits) given
+market = is_market small_tree 3 small_demand (λ c n. small_limits) no_giver given

@@ -75,6 +75,18 @@ pub record IsReachedSystem (lists : Lists) (numbering : Numbering) (sys : System
   pub relays : (c : ℕ) → IsConcentrator lists c → HasNothingToSend (sys.relays c)
   pub root : HasNothingToClear sys.root
 
+-- ---- told the newest clearing
+
+-- Of prices only that each device which its parent counts took one of the newest clearing. Nothing is asked of those that relays
+-- hold, who may have come back with older ones; but no relay, nor the root, has heard anything that is not in its newest bid or
+-- clearing.
+pub record IsToldSystem (lists : Lists) (numbering : Numbering) (sys : System) : Type 0 where
+  pub bids : (x : ℕ) → IsNode lists x → number_made lists sys x ≤ number_held lists numbering sys x
+  pub expired : (d : ℕ) → IsLeaf lists d → All (λ (bid : BidMessage). bid.number ≤ number_held lists numbering sys d) (sys.bids_sent d)
+  pub devices : (d : ℕ) → IsLeaf lists d → (head_held lists numbering sys d).gone ≡ false → newest_index sys.root ≤ index_of_held lists sys d
+  pub relays : (c : ℕ) → IsConcentrator lists c → NotSent (sys.relays c) send_fault.NotChanged
+  pub root : NotCleared sys.root root_fault.NotChanged
+
 -- ---- current
 
 -- The number under which each device is counted by its parent: that of the newest bid which it made, or a later one under which

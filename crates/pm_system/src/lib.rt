@@ -5,7 +5,7 @@
 //! message that was ever sent to it. Each law is the contract of a function that has nothing to do.
 #![tactic(auto)]
 
-ghost use Rattle.std.specs.Prelude.{◌≡◌, ℕ, ◌<◌, ◌≤◌, ℤ, List};
+ghost use Rattle.std.specs.Prelude.{◌≡◌, ℕ, ◌<◌, ◌≤◌, ℤ, List, ◌++◌};
 ghost use Rattle.std.specs.List.{AllPairs};
 ghost use Rattle.pm_base.specs.declared.limits.Limits.{Limits};
 ghost use Rattle.pm_market.specs.Lists.{Lists, IsLeaf};
@@ -17,9 +17,10 @@ ghost use Rattle.pm_system.specs.System.{System};
 ghost use Rattle.pm_system.specs.Calls.{NodeCall, Does, SystemRuns, IsNoRestart, StaysUp};
 ghost use Rattle.pm_system.specs.Given.{IsTreeMarket, IsGiven, placed_pricing, IsStarted};
 ghost use Rattle.pm_system.specs.Market.{RunsTheMarket, KeepsTheLaw};
-ghost use Rattle.pm_system.specs.Settled.{index_of_held, numbers_counted, IsSettledSystem, IsReachedSystem, IsCurrentSystem};
+ghost use Rattle.pm_system.specs.Settled.{index_of_held, numbers_counted, IsSettledSystem, IsReachedSystem, IsToldSystem, IsCurrentSystem};
 ghost use Rattle.pm_system.specs.Flow.{FlowsIn, TakeWhatWasTold};
 ghost use Rattle.pm_system.specs.Expiry.{RelayExpires, RootExpires, AreTwoCalls};
+ghost use Rattle.pm_system.specs.Expiry.{DeviceOffersAnew, offers_anew};
 ghost use Rattle.pm_system.specs.Frames.{AreSent};
 ghost use Rattle.pm_system.specs.Worked.{Settles};
 
@@ -36,6 +37,10 @@ pub fn systems_run_the_market()
     ensures run { (lists : Lists) (p : Pricing) (numbering : Numbering) (sys new : System)
         (calls : List NodeCall) → IsTreeMarket lists p numbering → IsStarted lists p sys →
         SystemRuns lists p numbering sys calls new → RunsTheMarket lists p numbering calls new }
+    ensures goes_on { (lists : Lists) (p : Pricing) (numbering : Numbering)
+        (before more : List NodeCall) (sys new : System) → IsTreeMarket lists p numbering →
+        RunsTheMarket lists p numbering before sys → SystemRuns lists p numbering sys more new →
+        RunsTheMarket lists p numbering (before ++ more) new }
     ensures named { (lists : Lists) (p : Pricing) (numbering : Numbering) (calls : List NodeCall)
         (sys : System) → IsTreeMarket lists p numbering →
         RunsTheMarket lists p numbering calls sys → KeepsTheLaw lists p sys }
@@ -69,6 +74,14 @@ pub fn expiring_is_two_calls()
         AreTwoCalls lists p numbering sys d did.number new }
 {}
 
+/// A law: an agent that offers anew, since its parent let the device go, does what two calls of a system do. It leaves, and stops
+/// before that is sent; and it offers. So all that holds of runs of a system holds with its call `take_old`.
+pub fn offering_anew_is_two_calls()
+    ensures { (lists : Lists) (p : Pricing) (numbering : Numbering) (sys new : System)
+        (d kept : ℕ) → DeviceOffersAnew lists p sys d kept new →
+        SystemRuns lists p numbering sys (offers_anew d) new }
+{}
+
 /// A law: nobody goes back, except over its own restart. No call lowers the index of the price that a node holds; a restart
 /// never raises it. The setpoints of a device that did not restart have rising indices.
 pub fn systems_do_not_go_back()
@@ -88,7 +101,8 @@ pub fn systems_do_not_go_back()
 /// its newest clearing to each child that is not gone, and no node has anything new to send. Then the newest clearing is over
 /// the newest bid of each device that was not let go since: each such member holds its price, under its own newest number and
 /// with its local step. The control of a member that did not restart was told so. Of prices it is enough that each node which
-/// its parent counts took one of the newest clearing, whatever else was sent. If all below a relay take what they were told
+/// its parent counts took one of the newest clearing, whatever else was sent; or that each device did, if no relay and no root
+/// has heard anything that is not in its newest bid or clearing. If all below a relay take what they were told
 /// so, and who is no member takes nothing, they take together what the relay announced.
 pub fn settled_systems_are_current()
     ensures current { (lists : Lists) (p : Pricing) (numbering : Numbering) (calls : List NodeCall)
@@ -98,6 +112,10 @@ pub fn settled_systems_are_current()
     ensures reached { (lists : Lists) (p : Pricing) (numbering : Numbering) (calls : List NodeCall)
         (sys : System) → IsTreeMarket lists p numbering →
         RunsTheMarket lists p numbering calls sys → IsReachedSystem lists numbering sys →
+        IsCurrentSystem lists p numbering calls sys }
+    ensures told { (lists : Lists) (p : Pricing) (numbering : Numbering) (calls : List NodeCall)
+        (sys : System) → IsTreeMarket lists p numbering →
+        RunsTheMarket lists p numbering calls sys → IsToldSystem lists numbering sys →
         IsCurrentSystem lists p numbering calls sys }
     ensures flows { (lists : Lists) (p : Pricing) (numbering : Numbering) (sys : System) →
         IsTreeMarket lists p numbering →
