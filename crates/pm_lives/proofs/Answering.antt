@@ -12,7 +12,7 @@ use Rattle.pm_control.specs.Control.{newest_demand, after_old}
 use Rattle.pm_wire.specs.Answers.{answer_bytes}
 use Rattle.pm_wire.specs.declared.answer.Reply as reply_kind
 use Rattle.pm_wire.specs.declared.frame.Frame.TheVariants.{Hello, Bid, Gone, Clear}
-use Rattle.pm_relay.specs.Relays.{RelayValue, record_at}
+use Rattle.pm_relay.specs.Relays.{RelayValue, record_at, limits_of_number}
 use Rattle.pm_relay.specs.Roots.{RootValue, newest_index}
 use Rattle.pm_relay.specs.declared.outcome.PriceOutcome.{PriceOutcome}
 use Rattle.pm_relay.specs.declared.outcome.PriceOutcome.TheVariants.{PassedOn, Alone, Waits, Dropped}
@@ -21,7 +21,7 @@ use Rattle.pm_frames.specs.Stored.{StoredRelay, relay_resume_bytes, root_resume_
 use Rattle.pm_frames.specs.declared.stored.StoredAgent.{StoredAgent}
 use Rattle.pm_frames.specs.declared.parent.ParentFrame.TheVariants.{Price, Old}
 use Rattle.pm_frames.specs.declared.relay.RelayFrame.{RelayFrame}
-use Rattle.pm_frames.specs.declared.relay.RelayFrame.TheVariants.{Child, Parent, Send, Expire, Resume}
+use Rattle.pm_frames.specs.declared.relay.RelayFrame.TheVariants.{Child, Parent, Send, Expire, NewLimits, Resume}
 use Rattle.pm_frames.specs.declared.root.RootFrame.{RootFrame}
 use Rattle.pm_frames.specs.declared.root.RootFrame.TheVariants as root_frame
 use Rattle.pm_frames.specs.declared.device.DeviceFrame.{DeviceFrame}
@@ -63,7 +63,7 @@ module _ (child : ℕ) where
   price_written : (waiting : Option PriceUpdate) (r : RelayValue) (price : PriceUpdate) (outcome : PriceOutcome) →
       price_reply waiting r price outcome ≡ bytes_of (price_outs waiting r price outcome)
   price_written waiting r price PassedOn =
-      let step : ℕ = settled_step_of_record r.gathered.limits price.step (record_at r price.number).sum in
+      let step : ℕ = settled_step_of_record (limits_of_number r price.number) price.step (record_at r price.number).sum in
       written_then relay_resume_bytes child (downs price.index step 0 (record_at r price.number).heads) (Keeps (stored_relay r) ∷ [])
       (down_bytes r price) (own_resume_bytes r) (downs_written relay_resume_bytes child price.index step 0 (record_at r price.number).heads)
       (sym (append-nil (own_resume_bytes r)))
@@ -185,6 +185,22 @@ module _ (child : ℕ) where
         writes = record { learnt = a.learnt; looks = a.looks; waiting_reply = w.outs; tries = w.writes; replied = refl };
         written = a.replied ∙ written_then relay_resume_bytes child (again_outs old.relay a.learnt) w.outs (bid_again child old.relay a.learnt)
             a.waiting_reply (again_written test a.learnt) w.written;
+      }
+  relay_in_frames limits old (NewLimits sender number limits') new reply other did =
+      let a = did.2 in
+      let w = waited old.waiting a.learnt did.0 a.waiting_reply a.tries in
+      let kept : ℕ = kept_number old.relay.gathered.cache (sender_place sender) in
+      let test : Bool = eqb old.relay.gathered.window.last 0 && not (eqb a.learnt.gathered.window.last 0) in
+      record {
+        after = did.0;
+        new_is = did.1;
+        outs = receipt_outs kept sender number ++ (again_outs old.relay a.learnt ++ w.outs);
+        writes = record { learnt = a.learnt; looks = a.looks; waiting_reply = w.outs; tries = w.writes; replied = refl };
+        written = a.replied ∙ written_then relay_resume_bytes child (receipt_outs kept sender number) (again_outs old.relay a.learnt ++ w.outs)
+            (receipt_bytes kept sender number) (bid_again child old.relay a.learnt ++ a.waiting_reply)
+            (says_written relay_resume_bytes child (leb number kept) (answer_bytes (reply_kind.TheVariants.Old sender kept)))
+            (written_then relay_resume_bytes child (again_outs old.relay a.learnt) w.outs (bid_again child old.relay a.learnt) a.waiting_reply
+            (again_written test a.learnt) w.written);
       }
   relay_in_frames limits old (Resume stored) new reply other did = absurd other
 

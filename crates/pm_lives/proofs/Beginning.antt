@@ -3,6 +3,7 @@ use Rattle.std.proofs.Common.{◌≡◌, ◌∙◌, sym, ap, subst, subst₂, �
 use Rattle.std.proofs.lemmas.Bool.{cases_Bool, cond-true, cond-false, eq-eqb}
 use Rattle.pm_base.specs.declared.limits.Limits.{Limits}
 use Rattle.pm_market.specs.Lists.{Lists, IsConcentrator, IsLeaf}
+use Rattle.pm_market.specs.State.{no_changes}
 use Rattle.pm_market.proofs.Cuts.{updated_same}
 use Rattle.pm_net.specs.Pricing.{Pricing}
 use Rattle.pm_net.specs.Messages.{BidMessage, PriceMessage, price_message, no_price}
@@ -17,15 +18,17 @@ use Rattle.pm_frames.specs.declared.stored.StoredAgent.{StoredAgent}
 use Rattle.pm_system.specs.System.{System, price_in_channel, price_stored, with_relay, with_root, with_agent, with_bid_sent}
 use Rattle.pm_system.specs.Calls as call
 use Rattle.pm_system.specs.Calls.{NodeCall, SystemRuns, StaysUp, bid_kept}
+use Rattle.pm_system.specs.Given.{IsTreeMarket}
+use Rattle.pm_system.specs.Market.{RunsTheMarket}
 use Rattle.pm_system.proofs.Moving.{new_in}
 use Rattle.pm_lives.specs.Outputs.{Output, Up, WereSent}
 use Rattle.pm_lives.specs.Moves.{OnlyMoves}
-use Rattle.pm_lives.specs.RelayLife.{IsOfPrice, RelayStands, IsKept}
+use Rattle.pm_lives.specs.RelayLife.{IsOfPrice, RelayStands, IsKept, numbers_in_places}
 use Rattle.pm_lives.specs.RootLife.{IsRootKept}
 use Rattle.pm_lives.specs.DeviceLife.{IsIndexOf, AgentStands, IsAgentKept}
 use Rattle.pm_lives.specs.Lives.{restart_outs}
 use Rattle.pm_lives.proofs.Staying.{relay_moved, root_moved, agent_moved, bid_pushed, then_moves}
-use Rattle.pm_lives.proofs.RelayMoves.{of_price_stays}
+use Rattle.pm_lives.proofs.RelayMoves.{of_price_stays, under_numbers}
 use Rattle.pm_lives.proofs.DeviceMoves.{index_stays}
 use Rattle.pm_lives.specs.Moves.{lets_none}
 use Rattle.pm_lives.proofs.Giving.{GivesOnly}
@@ -100,18 +103,21 @@ stored_at sys x held_number held_index index (inr at) le = record {
 
 module _ (lists : Lists) (p : Pricing) (numbering : Numbering) where
   -- a relay
-  pub relay_begins : (sys : System) (c : ℕ) → IsConcentrator lists c → (limits : Limits) → p.limits c ≡ Some limits → (stored : StoredRelay) →
-      IsKept sys c stored → (relay : RelayValue) → ComesBack p.steps limits stored.last stored.answered stored.index stored.numbers relay →
-      Began {K = StoredRelay} lists p numbering (λ t. RelayStands t c (record { relay = relay; waiting = None })) (λ t. IsKept t c stored) sys c []
-  relay_begins sys c conc limits limited stored kept relay back =
+  pub relay_begins : IsTreeMarket lists p numbering → (before : List NodeCall) (sys : System) → RunsTheMarket lists p numbering before sys → (c : ℕ) →
+      IsConcentrator lists c → (limits : Limits) → p.limits c no_changes ≡ Some limits → (stored : StoredRelay) →
+      IsKept p numbering sys c stored → (relay : RelayValue) →
+      ComesBack p.steps limits stored.last stored.answered stored.index stored.numbers stored.limits relay →
+      Began {K = StoredRelay} lists p numbering (λ t. RelayStands t c (record { relay = relay; waiting = None }))
+      (λ t. IsKept p numbering t c stored) sys c []
+  relay_begins market before sys has c conc limits limited stored kept relay back =
       let r : RelayValue = sys.relays c in
       let new : System = with_relay sys c relay in
       let is : new.relays c ≡ relay = updated_same sys.relays c relay in
       let at = stored_whole sys c r.answered r.index stored.answered stored.index kept.price kept.older in
       let now = price_stored sys c at.place r.answered r.index in
-      let Back : ℕ → ℕ → Type 0 = λ n i. ComesBack p.steps limits (newest_bid_number r) n i r.recorded relay in
+      let Back : ℕ → ℕ → Type 0 = λ n i. ComesBack p.steps limits (newest_bid_number r) n i r.recorded stored.limits relay in
       let mine : Back stored.answered stored.index =
-      subst₂ (λ (n : ℕ) (l : List ℕ). ComesBack p.steps limits n stored.answered stored.index l relay) kept.last kept.numbers back in
+      subst₂ (λ (n : ℕ) (l : List ℕ). ComesBack p.steps limits n stored.answered stored.index l stored.limits relay) kept.last kept.numbers back in
       record {
         calls = call.Restarts c at.place ∷ [];
         up = λ x ne. (λ e. ne (sym e), tt);
@@ -124,6 +130,9 @@ module _ (lists : Lists) (p : Pricing) (numbering : Numbering) where
             conc = conc;
             limits = limits;
             limited = limited;
+            under = stored.limits;
+            under_is = sym kept.limits ∙ ap (λ (l : List ℕ). p.limits c (numbers_in_places numbering l)) kept.numbers
+                ∙ under_numbers lists p numbering market before sys has c conc;
             relay = relay;
             back = subst₂ Back (sym at.number_is) (sym at.index_is) mine;
             new_is = refl;
@@ -140,6 +149,7 @@ module _ (lists : Lists) (p : Pricing) (numbering : Numbering) where
         kept = record {
           last = sym (ap newest_bid_number is ∙ omega (arith, back.base, back.gathered.window.last));
           numbers = sym (ap (λ (q : RelayValue). q.recorded) is ∙ back.recorded);
+          limits = kept.limits;
           price = of_price_stays c sys new (relay_moved sys c relay) c stored.answered stored.index kept.price;
           older = omega (arith, ap (λ (q : RelayValue). q.index) is, back.index);
         };

@@ -3,6 +3,7 @@ use Rattle.std.proofs.Common.{◌≡◌, ◌∙◌, sym, ap, subst, ℕ, ℤ, ze
 use Rattle.std.proofs.lemmas.Bool.{cases_eq, cases_Bool, cond-true, cond-false, eq-eqb, ne_eqb}
 use Rattle.std.proofs.lemmas.List.FromFn.{get_or-map-range_with_len}
 use Rattle.std.specs.List.{range_with_len}
+use Rattle.pm_base.specs.Cuts.{Cut}
 use Rattle.pm_base.specs.Limits.{AreLimits, most_nodes}
 use Rattle.pm_base.specs.declared.limits.Limits.{Limits}
 use Rattle.pm_bid.specs.Bids.{zeros, sum_of}
@@ -100,7 +101,7 @@ module _ (tree : Lists) (member : ℕ → ℕ → Bool) (count : ℕ) where
       zero_only q inside = omega (arith, inside)
 
   module _ (offer : ℕ → ℕ → List ℤ) (p : Pricing) (numbering : Numbering) (market : IsTreeMarket tree p numbering)
-      (around : (x : ℕ) (l : Limits) → p.limits x ≡ Some l → AreLimits l) (offers : (d n : ℕ) → IsDemand p.steps (offer d n))
+      (around : (x : ℕ) (cut : Cut) (l : Limits) → p.limits x cut ≡ Some l → AreLimits l) (offers : (d n : ℕ) → IsDemand p.steps (offer d n))
       (nothing : IsDemand p.steps (zeros p.steps)) where
     abbrev pub asked_demand : ℕ → ℕ → List ℤ
     asked_demand = demand_of (lists_of tree member count) p.steps offer
@@ -134,11 +135,13 @@ module _ (tree : Lists) (member : ℕ → ℕ → Bool) (count : ℕ) where
     asked = record { steps = p.steps; demand = asked_demand; limits = p.limits; add = add }
 
     is_asked : IsTreeDemand lists asked
+    unfolding parent is_leaf
     is_asked = record {
       none = λ d. cond-false (is_member lists d 0) (offer d 0) (zeros p.steps) (none_at_zero d);
       sums = sums;
       sums_of_none = sums_of_none;
       around = around;
+      limits_alike = market.by_nodes.limits_alike;
     }
 
     pub is_market : IsTreeMarket (lists_of tree member count) (pricing_of (lists_of tree member count) numbering p.steps

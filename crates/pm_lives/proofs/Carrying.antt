@@ -10,7 +10,7 @@ use Rattle.pm_net_plan.specs.Places.{Numbering}
 use Rattle.pm_wire.specs.Frames.{frame_bytes}
 use Rattle.pm_wire.specs.declared.frame.Frame.TheVariants.{Hello, Bid, Gone}
 use Rattle.pm_relay.specs.Relays.{RelayValue}
-use Rattle.pm_relay_net.specs.RelayIs.{told_demand}
+use Rattle.pm_relay_net.specs.RelayIs.{LimitsPassBy, GivesLimits, told_demand}
 use Rattle.pm_frames.specs.Stored.{StoredRelay}
 use Rattle.pm_frames.specs.RelayFrames.{relay_frame_bytes, IsRelayFormed}
 use Rattle.pm_frames.specs.RootFrames.{root_frame_bytes, IsRootFormed}
@@ -30,7 +30,7 @@ use Rattle.pm_basis.specs.declared.basis.Basis.{Basis}
 use Rattle.pm_services.specs.RelayAnswers.{OpenRelay, RelayServiceValue, AnswersRelay, AnswersNow}
 use Rattle.pm_system.specs.System.{System}
 use Rattle.pm_lives.specs.Outputs.{Up, outputs_bytes, PriceWasSent, BidWasSent, up_bytes, down_bytes}
-use Rattle.pm_lives.specs.RelayLife.{CarriesBid, RelayMayRead, nothing_stored}
+use Rattle.pm_lives.specs.RelayLife.{CarriesBid, CarriesLimits, RelayMayRead, nothing_stored}
 use Rattle.pm_lives.specs.RootLife.{RootMayRead}
 use Rattle.pm_lives.specs.DeviceLife.{DeviceMayRead}
 use Rattle.pm_net.specs.Agents.{DeviceAgent, new_agent}
@@ -41,7 +41,7 @@ use Rattle.pm_services.specs.RootAnswers.{AnswersRoot}
 use Rattle.pm_services.specs.DeviceAnswers.{DeviceServiceValue, AnswersDevice, agent_after, reply_to, sent_again}
 use Rattle.pm_system.specs.Calls.{bid_kept}
 use Rattle.pm_lives.specs.Lives.{no_root_stored}
-use Rattle.pm_lives.specs.Carrying.{RootIsGiven, RootIsBack, DeviceIsBack, root_hello, root_resumed, bid_frame, price_frame, RelayIsGiven, RelayIsBack, hello, resumed}
+use Rattle.pm_lives.specs.Carrying.{RootIsGiven, RootIsBack, DeviceIsBack, root_hello, root_resumed, bid_frame, limits_frame, price_frame, RelayIsGiven, RelayIsBack, hello, resumed}
 
 -- a bid has the bytes of its frame
 bytes_by : (g : Bool) (child number : ℕ) (demand : List Rattle.std.proofs.Common.ℤ) →
@@ -54,9 +54,9 @@ up_is child bid = bytes_by bid.gone child bid.number bid.demand
 
 module _ (lists : Lists) (p : Pricing) (numbering : Numbering) (sys : System) (x : ℕ) (node : IsNode lists x) (bid : BidMessage)
     (sent : BidWasSent p sys x bid) where
-  carried : (y : ℕ) → parent lists x ≡ y → (demand : Option (List Rattle.std.proofs.Common.ℤ)) → demand ≡ told_demand bid →
+  carried : (y : ℕ) → parent lists x ≡ y → ((y ≡ 0 → ⊥) → LimitsPassBy p y x) → (demand : Option (List Rattle.std.proofs.Common.ℤ)) → demand ≡ told_demand bid →
       CarriesBid lists p numbering sys y (numbering.place x + 1) bid.number demand
-  carried y up demand is = record {
+  carried y up passes demand is = record {
     x = x;
     node = node;
     up = up;
@@ -65,29 +65,51 @@ module _ (lists : Lists) (p : Pricing) (numbering : Numbering) (sys : System) (x
     inside = sent.inside;
     number_is = ap (λ (b : BidMessage). b.number) (sym sent.is);
     demand_is = is ∙ ap told_demand (sym sent.is);
+    passes = passes;
   }
 
-  relay_by : (c : ℕ) → parent lists x ≡ c → (g : Bool) → bid.gone ≡ g →
+  relay_by : (c : ℕ) → parent lists x ≡ c → LimitsPassBy p c x → (g : Bool) → bid.gone ≡ g →
       RelayMayRead lists p numbering sys c (relay_frame.Child (cond g (Gone (numbering.place x + 1) bid.number) (Bid (numbering.place x + 1) bid.number
       bid.demand)))
-  relay_by c up true e = carried c up None (sym (cond-true bid.gone None (Some bid.demand) e))
-  relay_by c up false e = carried c up (Some bid.demand) (sym (cond-false bid.gone None (Some bid.demand) e))
+  relay_by c up passes true e = carried c up (λ ne. passes) None (sym (cond-true bid.gone None (Some bid.demand) e))
+  relay_by c up passes false e = carried c up (λ ne. passes) (Some bid.demand) (sym (cond-false bid.gone None (Some bid.demand) e))
 
   root_by : parent lists x ≡ 0 → (g : Bool) → bid.gone ≡ g →
       RootMayRead lists p numbering sys (root_frame.Market (cond g (Gone (numbering.place x + 1) bid.number) (Bid (numbering.place x + 1) bid.number
       bid.demand)))
-  root_by up true e = carried 0 up None (sym (cond-true bid.gone None (Some bid.demand) e))
-  root_by up false e = carried 0 up (Some bid.demand) (sym (cond-false bid.gone None (Some bid.demand) e))
+  root_by up true e = carried 0 up (λ ne. absurd (ne refl)) None (sym (cond-true bid.gone None (Some bid.demand) e))
+  root_by up false e = carried 0 up (λ ne. absurd (ne refl)) (Some bid.demand) (sym (cond-false bid.gone None (Some bid.demand) e))
 
   -- a relay that reads these bytes reads that bid
-  pub relay_reads_bid : (c : ℕ) → parent lists x ≡ c → (place : NodePlace) (frame : RelayFrame) (more behind : List ℕ) → IsRelayFormed place frame →
+  pub relay_reads_bid : (c : ℕ) → parent lists x ≡ c → LimitsPassBy p c x → (place : NodePlace) (frame : RelayFrame) (more behind : List ℕ) → IsRelayFormed place frame →
       IsRelayFormed place (relay_frame.Child (bid_frame (numbering.place x + 1) bid)) →
       relay_frame_bytes frame ++ more ≡ up_bytes (numbering.place x + 1) bid ++ behind → RelayMayRead lists p numbering sys c frame × (more ≡ behind)
-  relay_reads_bid c up place frame more behind formed fits same =
+  relay_reads_bid c up passes place frame more behind formed fits same =
       let other : RelayFrame = relay_frame.Child (bid_frame (numbering.place x + 1) bid) in
       let one = relay_framing_sound.one_frame place frame other more behind formed fits
       (same ∙ ap (λ (l : List ℕ). l ++ behind) (up_is (numbering.place x + 1) bid)) in
-      (subst (λ (f : RelayFrame). RelayMayRead lists p numbering sys c f) (sym one.0) (relay_by c up bid.gone refl), one.1)
+      (subst (λ (f : RelayFrame). RelayMayRead lists p numbering sys c f) (sym one.0) (relay_by c up passes bid.gone refl), one.1)
+
+  -- and one that reads those of limits reads the limits that are given under it
+  pub relay_reads_limits : (c : ℕ) → parent lists x ≡ c → bid.gone ≡ true → (limits : Limits) → GivesLimits p c x bid.number limits → (place : NodePlace)
+      (frame : RelayFrame) (more behind : List ℕ) → IsRelayFormed place frame → IsRelayFormed place (limits_frame (numbering.place x + 1) bid limits) →
+      relay_frame_bytes frame ++ more ≡ relay_frame_bytes (limits_frame (numbering.place x + 1) bid limits) ++ behind →
+      RelayMayRead lists p numbering sys c frame × (more ≡ behind)
+  relay_reads_limits c up gone limits gives place frame more behind formed fits same =
+      let other : RelayFrame = limits_frame (numbering.place x + 1) bid limits in
+      let one = relay_framing_sound.one_frame place frame other more behind formed fits same in
+      let carries : CarriesLimits lists p numbering sys c (numbering.place x + 1) bid.number limits = record {
+        x = x;
+        node = node;
+        up = up;
+        sender_is = refl;
+        place = sent.place;
+        inside = sent.inside;
+        number_is = ap (λ (b : BidMessage). b.number) (sym sent.is);
+        gone = ap (λ (b : BidMessage). b.gone) sent.is ∙ gone;
+        gives = gives;
+      } in
+      (subst (λ (f : RelayFrame). RelayMayRead lists p numbering sys c f) (sym one.0) carries, one.1)
 
   pub root_reads_bid : parent lists x ≡ 0 → (stage : Stage) (frame : RootFrame) (more behind : List ℕ) → IsRootFormed stage frame →
       IsRootFormed stage (root_frame.Market (bid_frame (numbering.place x + 1) bid)) →
@@ -119,7 +141,7 @@ module _ (lists : Lists) (p : Pricing) (numbering : Numbering) (sys : System) (x
 -- ---- the start of a life
 
 relay_hello : (old : RelayServiceValue) (basis : Basis) (after : RelayServiceValue) (reply : List ℕ) → old.relay ≡ None →
-    AnswersRelay old (relay_frame.Child (Hello basis)) after reply → RelayIsBack old basis.steps after nothing_stored
+    AnswersRelay old (relay_frame.Child (Hello basis)) after reply → RelayIsBack old basis.steps after (nothing_stored old.limits)
 relay_hello old basis after reply closed did =
     let opens = subst (λ (o : Option OpenRelay). AnswersNow old.child old.limits o (relay_frame.Child (Hello basis)) after.relay reply) closed did.answers in
     record { relay = opens.0.relay; relay_is = opens.0.opened; back = opens.0.back; child = did.child; limits = did.limits }
@@ -131,7 +153,7 @@ relay_is_back old basis after _ closed (resumed mid reply more stored first then
     let was = relay_hello old basis mid reply closed first in
     let opens = subst (λ (o : Option OpenRelay). AnswersNow mid.child mid.limits o (relay_frame.Resume stored) after.relay more) was.relay_is then.answers in
     let Back : ℕ → Limits → Type 0 = λ steps limits.
-    Rattle.pm_relay.specs.Relays.ComesBack steps limits stored.last stored.answered stored.index stored.numbers opens.0.relay in
+    Rattle.pm_relay.specs.Relays.ComesBack steps limits stored.last stored.answered stored.index stored.numbers stored.limits opens.0.relay in
     record {
       relay = opens.0.relay;
       relay_is = opens.0.opened;

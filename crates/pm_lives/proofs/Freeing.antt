@@ -60,6 +60,7 @@ relay_let_same tree member count numbering seen c (relay_frame.Child frame) f = 
 relay_let_same tree member count numbering seen c (relay_frame.Parent frame) f = refl
 relay_let_same tree member count numbering seen c relay_frame.Send f = refl
 relay_let_same tree member count numbering seen c (relay_frame.Expire sender) f = refl
+relay_let_same tree member count numbering seen c (relay_frame.NewLimits sender number limits) f = refl
 relay_let_same tree member count numbering seen c (relay_frame.Resume stored) f = refl
 
 pub root_let_same : (tree : Lists) (member : ℕ → ℕ → Bool) (count : ℕ) (numbering : Numbering) (seen : System) (frame : RootFrame) (f : ℕ → ℕ) →

@@ -3,6 +3,7 @@ use Rattle.std.proofs.Common.{◌≡◌, ◌⊎◌, ◌∙◌, sym, ap, subst, �
 use Rattle.std.proofs.lemmas.Int.{ints}
 use Rattle.pm_bid.proofs.Sums.{zeros-at}
 use Rattle.std.proofs.lemmas.Bool.{cond-true, lt-ltb}
+use Rattle.pm_base.specs.Cuts.{Cut}
 use Rattle.pm_base.specs.Limits.{AreLimits, IsWithin, demand_limit}
 use Rattle.pm_base.specs.declared.limits.Limits.{Limits}
 use Rattle.pm_bid.specs.Bids.{zeros}
@@ -27,7 +28,7 @@ use Rattle.pm_services.specs.DeviceAnswers.{open_agent_after}
 use Rattle.pm_system.specs.System.{System, with_agent, with_relay, with_root}
 use Rattle.pm_system.specs.Given.{IsDemand, IsTreeMarket}
 use Rattle.pm_lives.specs.Outputs.{Output}
-use Rattle.pm_lives.specs.RelayLife.{CarriesBid, CarriesExpire, RelayMayRead, relay_number}
+use Rattle.pm_lives.specs.RelayLife.{CarriesBid, CarriesLimits, CarriesExpire, RelayMayRead, relay_number}
 use Rattle.pm_lives.specs.RootLife.{RootMayRead, root_number}
 use Rattle.pm_lives.specs.DeviceLife.{DeviceMayRead, IsGivenOffer, IsGivenLeaving}
 use Rattle.pm_lives.specs.DeviceWrites.{device_outs}
@@ -63,8 +64,8 @@ module _ (tree : Lists) (p : Pricing) (numbering : Numbering) (market : IsTreeMa
       let node : IsNode tree d = leaf_node tree market.law d leaf in
       record { has = omega (arith, le, changes_are tree all.member count d node); absent = members_are tree all.member count d n node one le ∙ is }
 
-  given_expire : (y sender known : ℕ) → CarriesLetGo tree numbering y sender → Rattle.pm_relay.specs.Numbers.parents_number known ≤ count →
-      CarriesExpire lists numbering y sender (Rattle.pm_relay.specs.Numbers.parents_number known)
+  given_expire : (y sender known : ℕ) → CarriesLetGo tree p numbering y sender → Rattle.pm_relay.specs.Numbers.parents_number known ≤ count →
+      CarriesExpire lists pricing numbering y sender (Rattle.pm_relay.specs.Numbers.parents_number known)
   unfolding parent is_leaf
   given_expire y sender known carries le =
       let half = is_odd known in
@@ -77,6 +78,7 @@ module _ (tree : Lists) (p : Pricing) (numbering : Numbering) (market : IsTreeMa
         node = leaf_node tree market.law carries.x carries.leaf;
         sender_is = carries.sender_is;
         may = record { leaf = carries.leaf; absent = leaves.absent; has_next = leaves.has };
+        passes = carries.passes;
       }
 
   same_bid : (sys : System) (y sender number : ℕ) (demand : Rattle.std.proofs.Common.Option (List ℤ)) → CarriesBid tree p numbering sys y sender number demand →
@@ -91,6 +93,22 @@ module _ (tree : Lists) (p : Pricing) (numbering : Numbering) (market : IsTreeMa
     inside = c.inside;
     number_is = c.number_is;
     demand_is = c.demand_is;
+    passes = c.passes;
+  }
+
+  same_limits : (sys : System) (c sender number : ℕ) (limits : Limits) → CarriesLimits tree p numbering sys c sender number limits →
+      CarriesLimits lists pricing numbering sys c sender number limits
+  unfolding parent
+  same_limits sys c sender number limits carries = record {
+    x = carries.x;
+    node = carries.node;
+    up = carries.up;
+    sender_is = carries.sender_is;
+    place = carries.place;
+    inside = carries.inside;
+    number_is = carries.number_is;
+    gone = carries.gone;
+    gives = carries.gives;
   }
 
   relay_may : (sys : System) (c : ℕ) (frame : RelayFrame) → RelayIsFree tree p numbering sys c frame →
@@ -104,6 +122,7 @@ module _ (tree : Lists) (p : Pricing) (numbering : Numbering) (market : IsTreeMa
   relay_may sys c relay_frame.Send free le = tt
   relay_may sys c (relay_frame.Expire sender) free le =
       given_expire c sender (Rattle.pm_relay.specs.Numbers.known_number (sys.relays c).recorded (sys.relays c).gathered.cache.heads (sender - 1)) free le
+  relay_may sys c (relay_frame.NewLimits sender number limits) free le = same_limits sys c sender number limits free
   relay_may sys c (relay_frame.Resume stored) free le = absurd free
 
   root_may : (sys : System) (frame : RootFrame) → RootIsFree tree p numbering sys frame →
@@ -271,8 +290,8 @@ no_power steps = record {
 
 -- for lives of any controls there are lists
 pub has_lists : (tree : Lists) (p : Pricing) (numbering : Numbering) → IsTreeMarket tree p numbering →
-    ((x : ℕ) (l : Limits) → p.limits x ≡ Some l → AreLimits l) → (world new : World) (steps : List LifeStep) →
-    IsNewWorld world → LiveFree tree p numbering world steps new → HasLists tree p numbering world steps new
+    ((x : ℕ) (cut : Cut) (l : Limits) → p.limits x cut ≡ Some l → AreLimits l) → (world new : World) (steps : List LifeStep) →
+    IsNewWorld p world → LiveFree tree p numbering world steps new → HasLists tree p numbering world steps new
 unfolding Rattle.pm_lives.proofs.Freeing.AreDemands is_leaf
 has_lists tree p numbering market around world new steps none live =
     let nothing : IsDemand p.steps (zeros p.steps) = no_power p.steps in
@@ -290,7 +309,7 @@ has_lists tree p numbering market around world new steps none live =
       parents = refl;
       leaves = refl;
       same_steps = refl;
-      same_limits = λ c. refl;
+      same_limits = λ c cut. refl;
       market = is_market tree all.member count all.offer p numbering market around
           (built_demands tree p numbering market steps world new live nothing) nothing;
       started = λ start at. record {

@@ -1,9 +1,10 @@
 -- The lives of the nodes of a market are a run of a system.
-use Rattle.std.proofs.Common.{◌≡◌, ◌⊎◌, ◌∙◌, sym, ap, subst, ℕ, ◌+◌, ◌-◌, ◌<◌, ◌≤◌, ◌^◌, Bool, true, false, List, [], ◌∷◌, ◌++◌, length, take, Option, Some, None, refl, inl, inr, arith, append-nil, append_assoc}
+use Rattle.std.proofs.Common.{◌≡◌, ◌⊎◌, ◌∙◌, sym, ap, subst, ℕ, ◌+◌, ◌-◌, ◌<◌, ◌≤◌, ◌^◌, Bool, true, false, replicate, List, [], ◌∷◌, ◌++◌, length, take, Option, Some, None, refl, inl, inr, arith, append-nil, append_assoc}
 use Rattle.std.proofs.lemmas.Bool.{cases_Bool, cases_eq, both_ways}
+use Rattle.std.proofs.lemmas.List.{get_or-replicate}
 use Rattle.std.specs.List.{Contains}
 use Rattle.pm_market.specs.Lists.{Lists, IsNode, IsLeaf, IsConcentrator}
-use Rattle.pm_market.specs.State.{update}
+use Rattle.pm_market.specs.State.{update, no_changes}
 use Rattle.pm_market.proofs.Cuts.{updated_same, updated_other}
 use Rattle.pm_market.proofs.Tree.{leaf_node}
 use Rattle.pm_session.specs.declared.price.PriceUpdate.{PriceUpdate}
@@ -13,14 +14,16 @@ use Rattle.pm_net.specs.Agents.{Setpoint, DeviceAgent, new_agent, may_offer}
 use Rattle.pm_net_plan.specs.Places.{Numbering}
 use Rattle.pm_control.specs.Control.{newest_demand, agent_stored}
 use Rattle.pm_wire.specs.declared.frame.Frame.TheVariants.{Hello, Bid, Gone, Clear}
-use Rattle.pm_relay.specs.Numbers.{known_number, parents_number}
+use Rattle.pm_base.specs.Limits.{most_nodes}
+use Rattle.pm_base.specs.declared.limits.Limits.{Limits}
+use Rattle.pm_relay.specs.Numbers.{child_number, known_number, parents_number}
 use Rattle.pm_relay.specs.Relays.{RelayValue, newest_bid_number}
 use Rattle.pm_relay.specs.Roots.{RootValue}
 use Rattle.pm_frames.specs.Stored.{StoredRelay, StoredRoot}
 use Rattle.pm_frames.specs.declared.stored.StoredAgent.{StoredAgent}
 use Rattle.pm_frames.specs.declared.parent.ParentFrame.TheVariants.{Price, Old}
 use Rattle.pm_frames.specs.declared.relay.RelayFrame.{RelayFrame}
-use Rattle.pm_frames.specs.declared.relay.RelayFrame.TheVariants.{Child, Parent, Send, Expire, Resume}
+use Rattle.pm_frames.specs.declared.relay.RelayFrame.TheVariants.{Child, Parent, Send, Expire, NewLimits, Resume}
 use Rattle.pm_frames.specs.declared.root.RootFrame.{RootFrame}
 use Rattle.pm_frames.specs.declared.root.RootFrame.TheVariants as root_frame
 use Rattle.pm_frames.specs.declared.device.DeviceFrame.{DeviceFrame}
@@ -33,7 +36,7 @@ use Rattle.pm_system.specs.Market.{RunsTheMarket, KeepsTheLaw}
 use Rattle.pm_system.proofs.Moving.{relay_no_leaf, relay_no_root}
 use Rattle.pm_lives.specs.Outputs.{Output, WereSent, PriceWasSent}
 use Rattle.pm_lives.specs.Moves.{OnlyMoves}
-use Rattle.pm_lives.specs.RelayLife.{UpdateWasSent, RelayStands, IsKept, CarriesBid, CarriesExpire, RelayMayRead}
+use Rattle.pm_lives.specs.RelayLife.{UpdateWasSent, RelayStands, IsKept, nothing_stored, numbers_in_places, CarriesBid, CarriesLimits, CarriesExpire, RelayMayRead}
 use Rattle.pm_lives.specs.RootLife.{IsRootKept, RootMayRead}
 use Rattle.pm_lives.specs.DeviceLife.{AgentStands, IsAgentKept, IsGivenOffer, IsGivenLeaving, DeviceMayRead}
 use Rattle.pm_lives.specs.DeviceWrites.{device_outs}
@@ -51,7 +54,7 @@ use Rattle.pm_lives.proofs.Staying.{still}
 use Rattle.pm_lives.specs.Lives.{World, AllIn, LivesAreCalls, handed_out, stored_last, RelayBegins, RelayReads, RootBegins, RootReads, DeviceBegins, DeviceReads, LifeStep, Lives1, Live, IsNewWorld, LivesKeepTheLaw, restart_outs}
 use Rattle.pm_lives.specs.Lives.{RelayUp, Relay, RootUp, Root, DeviceUp, Device}
 use Rattle.pm_lives.proofs.After.{runs_on, up_on, calm_up}
-use Rattle.pm_lives.proofs.RelayMoves.{ExpiringIsTwoCalls, relay_answers, of_price_stays, update_stays}
+use Rattle.pm_lives.proofs.RelayMoves.{GoesOn, ExpiringIsTwoCalls, relay_answers, of_price_stays, update_stays}
 use Rattle.pm_lives.proofs.RootMoves.{RootExpiringIsTwoCalls, root_answers}
 use Rattle.pm_lives.proofs.DeviceMoves.{device_answers, index_stays}
 use Rattle.pm_lives.proofs.Handing.{all_in_then, handed_in, handed_values, stored_may}
@@ -59,8 +62,8 @@ use Rattle.pm_lives.proofs.Beginning.{relay_begins, root_begins, device_begins, 
 
 -- ---- the world stands for a system
 
-pub record RelayOk (sys : System) (c : ℕ) (up : Bool) (relay : RelayValue) (waiting : Option PriceUpdate) (stored : StoredRelay) : Type 0 where
-  pub kept : IsKept sys c stored
+pub record RelayOk (p : Pricing) (numbering : Numbering) (sys : System) (c : ℕ) (up : Bool) (relay : RelayValue) (waiting : Option PriceUpdate) (stored : StoredRelay) : Type 0 where
+  pub kept : IsKept p numbering sys c stored
   pub stands : up ≡ true → RelayStands sys c (record { relay = relay; waiting = waiting })
 
 pub record RootOk (sys : System) (up : Bool) (root : RootValue) (stored : StoredRoot) : Type 0 where
@@ -73,8 +76,8 @@ pub record AgentOk (sys : System) (d : ℕ) (up : Bool) (agent : DeviceAgent) (s
   -- no process of it ran yet
   pub fresh : up ≡ false → (sys.agents d ≡ new_agent) × (stored ≡ no_agent_stored)
 
-abbrev pub RelayOkIn : System → World → ℕ → Type 0
-RelayOkIn sys world c = RelayOk sys c (world.up c) (world.seen.relays c) (world.waiting c) (world.relay_kept c)
+abbrev pub RelayOkIn : Pricing → Numbering → System → World → ℕ → Type 0
+RelayOkIn p numbering sys world c = RelayOk p numbering sys c (world.up c) (world.seen.relays c) (world.waiting c) (world.relay_kept c)
 
 abbrev pub RootOkIn : System → World → Type 0
 RootOkIn sys world = RootOk sys (world.up 0) world.seen.root world.root_kept
@@ -83,8 +86,8 @@ abbrev pub AgentOkIn : System → World → ℕ → Type 0
 AgentOkIn sys world d = AgentOk sys d (world.up d) (world.seen.agents d) (world.agent_kept d)
 
 -- each process that runs is a node of the system, what is stored of each node may be, and what was handed out was sent
-pub record WorldStands (lists : Lists) (p : Pricing) (world : World) (sys : System) : Type 0 where
-  pub relays : (c : ℕ) → IsConcentrator lists c → RelayOkIn sys world c
+pub record WorldStands (lists : Lists) (p : Pricing) (numbering : Numbering) (world : World) (sys : System) : Type 0 where
+  pub relays : (c : ℕ) → IsConcentrator lists c → RelayOkIn p numbering sys world c
   pub root : RootOkIn sys world
   pub agents : (d : ℕ) → IsLeaf lists d → AgentOkIn sys world d
   pub sent : AllIn lists p world.seen sys
@@ -94,11 +97,11 @@ pub record WorldStands (lists : Lists) (p : Pricing) (world : World) (sys : Syst
 
 -- ---- the same values
 
-relay_ok_as : (sys : System) (c : ℕ) (up up' : Bool) (r r' : RelayValue) (w w' : Option PriceUpdate) (k k' : StoredRelay) → up' ≡ up → r' ≡ r → w' ≡ w →
-    k' ≡ k → RelayOk sys c up r w k → RelayOk sys c up' r' w' k'
-relay_ok_as sys c up up' r r' w w' k k' e1 e2 e3 e4 ok =
-    subst (λ (x : Bool). RelayOk sys c x r' w' k') (sym e1) (subst (λ (x : RelayValue). RelayOk sys c up x w' k') (sym e2)
-    (subst (λ (x : Option PriceUpdate). RelayOk sys c up r x k') (sym e3) (subst (λ (x : StoredRelay). RelayOk sys c up r w x) (sym e4) ok)))
+relay_ok_as : (p : Pricing) (numbering : Numbering) (sys : System) (c : ℕ) (up up' : Bool) (r r' : RelayValue) (w w' : Option PriceUpdate) (k k' : StoredRelay) → up' ≡ up → r' ≡ r → w' ≡ w →
+    k' ≡ k → RelayOk p numbering sys c up r w k → RelayOk p numbering sys c up' r' w' k'
+relay_ok_as p numbering sys c up up' r r' w w' k k' e1 e2 e3 e4 ok =
+    subst (λ (x : Bool). RelayOk p numbering sys c x r' w' k') (sym e1) (subst (λ (x : RelayValue). RelayOk p numbering sys c up x w' k') (sym e2)
+    (subst (λ (x : Option PriceUpdate). RelayOk p numbering sys c up r x k') (sym e3) (subst (λ (x : StoredRelay). RelayOk p numbering sys c up r w x) (sym e4) ok)))
 
 root_ok_as : (sys : System) (up up' : Bool) (r r' : RootValue) (k k' : StoredRoot) → up' ≡ up → r' ≡ r → k' ≡ k → RootOk sys up r k → RootOk sys up' r' k'
 root_ok_as sys up up' r r' k k' e1 e2 e4 ok =
@@ -113,14 +116,15 @@ agent_ok_as sys d up up' r r' k k' e1 e2 e4 ok =
 
 -- ---- elsewhere
 
-relay_elsewhere : (y c : ℕ) (sys new : System) → OnlyMoves y sys new → (c ≡ y → ⊥) → (up : Bool) (r : RelayValue) (w : Option PriceUpdate) (k : StoredRelay) →
-    RelayOk sys c up r w k → RelayOk new c up r w k
-relay_elsewhere y c sys new moves ne up r w k ok =
+relay_elsewhere : (p : Pricing) (numbering : Numbering) (y c : ℕ) (sys new : System) → OnlyMoves y sys new → (c ≡ y → ⊥) → (up : Bool) (r : RelayValue) (w : Option PriceUpdate) (k : StoredRelay) →
+    RelayOk p numbering sys c up r w k → RelayOk p numbering new c up r w k
+relay_elsewhere p numbering y c sys new moves ne up r w k ok =
     let same : new.relays c ≡ sys.relays c = moves.relays c ne in
     record {
       kept = record {
         last = ok.kept.last ∙ ap newest_bid_number (sym same);
         numbers = ok.kept.numbers ∙ ap (λ (q : RelayValue). q.recorded) (sym same);
+        limits = ok.kept.limits;
         price = of_price_stays y sys new moves c k.answered k.index ok.kept.price;
         older = omega (arith, ok.kept.older, ap (λ (q : RelayValue). q.index) same);
       };
@@ -178,16 +182,16 @@ pub record AgreesBut (y : ℕ) (world new : World) : Type 0 where
   agent_kept : (z : ℕ) → (z ≡ y → ⊥) → new.agent_kept z ≡ world.agent_kept z
   root_kept : (0 ≡ y → ⊥) → new.root_kept ≡ world.root_kept
 
-stands_but : (lists : Lists) (p : Pricing) (y : ℕ) (world new : World) (sys after : System) → AgreesBut y world new → OnlyMoves y sys after →
-    WorldStands lists p world sys → AllIn lists p new.seen after → (IsConcentrator lists y → RelayOkIn after new y) → (0 ≡ y → RootOkIn after new) →
+stands_but : (lists : Lists) (p : Pricing) (numbering : Numbering) (y : ℕ) (world new : World) (sys after : System) → AgreesBut y world new → OnlyMoves y sys after →
+    WorldStands lists p numbering world sys → AllIn lists p new.seen after → (IsConcentrator lists y → RelayOkIn p numbering after new y) → (0 ≡ y → RootOkIn after new) →
     (IsLeaf lists y → AgentOkIn after new y) → ((d : ℕ) → IsLeaf lists d → new.seen.setpoints d ≡ after.setpoints d) →
-    ((d : ℕ) → IsLeaf lists d → BidsKnown after new.let_go d) → WorldStands lists p new after
-stands_but lists p y world new sys after agrees moves stands sent relay root agent told known = record {
+    ((d : ℕ) → IsLeaf lists d → BidsKnown after new.let_go d) → WorldStands lists p numbering new after
+stands_but lists p numbering y world new sys after agrees moves stands sent relay root agent told known = record {
   relays = λ c conc. elim (cases_eq c y) [
-    | inl e ↦ subst (λ (z : ℕ). RelayOkIn after new z) (sym e) (relay (subst (λ (z : ℕ). IsConcentrator lists z) e conc))
-    | inr ne ↦ relay_ok_as after c (world.up c) (new.up c) (world.seen.relays c) (new.seen.relays c) (world.waiting c) (new.waiting c)
+    | inl e ↦ subst (λ (z : ℕ). RelayOkIn p numbering after new z) (sym e) (relay (subst (λ (z : ℕ). IsConcentrator lists z) e conc))
+    | inr ne ↦ relay_ok_as p numbering after c (world.up c) (new.up c) (world.seen.relays c) (new.seen.relays c) (world.waiting c) (new.waiting c)
         (world.relay_kept c) (new.relay_kept c) (agrees.up c ne) (agrees.relays c ne) (agrees.waiting c ne) (agrees.relay_kept c ne)
-        (relay_elsewhere y c sys after moves ne (world.up c) (world.seen.relays c) (world.waiting c) (world.relay_kept c) (stands.relays c conc))
+        (relay_elsewhere p numbering y c sys after moves ne (world.up c) (world.seen.relays c) (world.waiting c) (world.relay_kept c) (stands.relays c conc))
   ];
   root = elim (cases_eq 0 y) [
     | inl e ↦ root e
@@ -221,6 +225,23 @@ module _ (lists : Lists) (p : Pricing) (numbering : Numbering) (seen sys : Syste
         inside = at.inside;
         number_is = may.number_is ∙ ap (λ (b : BidMessage). b.number) (sym at.is);
         demand_is = may.demand_is ∙ ap Rattle.pm_relay_net.specs.RelayIs.told_demand (sym at.is);
+        passes = may.passes;
+      }
+
+  limits_carried : (c sender number : ℕ) (limits : Limits) → CarriesLimits lists p numbering seen c sender number limits →
+      CarriesLimits lists p numbering sys c sender number limits
+  limits_carried c sender number limits may =
+      let at = all.bids may.x may.place may.node may.inside in
+      record {
+        x = may.x;
+        node = may.node;
+        up = may.up;
+        sender_is = may.sender_is;
+        place = at.place;
+        inside = at.inside;
+        number_is = may.number_is ∙ ap (λ (b : BidMessage). b.number) (sym at.is);
+        gone = ap (λ (b : BidMessage). b.gone) at.is ∙ may.gone;
+        gives = may.gives;
       }
 
   price_carried : (x : ℕ) (price : PriceMessage) → IsNode lists x → PriceWasSent seen x price → PriceWasSent sys x price
@@ -238,8 +259,9 @@ module _ (lists : Lists) (p : Pricing) (numbering : Numbering) (seen sys : Syste
   relay_may c conc same (Parent (Old own kept)) may = tt
   relay_may c conc same Send may = tt
   relay_may c conc same (Expire sender) may =
-      subst (λ (r : RelayValue). CarriesExpire lists numbering c sender
+      subst (λ (r : RelayValue). CarriesExpire lists p numbering c sender
       (parents_number (known_number r.recorded r.gathered.cache.heads (sender - 1)))) same may
+  relay_may c conc same (NewLimits sender number limits) may = limits_carried c sender number limits may
   relay_may c conc same (Resume stored) may = may
 
   root_may : seen.root ≡ sys.root → (frame : RootFrame) → RootMayRead lists p numbering seen frame → RootMayRead lists p numbering sys frame
@@ -248,7 +270,7 @@ module _ (lists : Lists) (p : Pricing) (numbering : Numbering) (seen sys : Syste
   root_may same (root_frame.Market (Gone sender number)) may = bid_carried 0 sender number None may
   root_may same (root_frame.Market Clear) may = tt
   root_may same (root_frame.Expire sender) may =
-      subst (λ (r : RootValue). CarriesExpire lists numbering 0 sender
+      subst (λ (r : RootValue). CarriesExpire lists p numbering 0 sender
       (parents_number (known_number r.recorded r.auction.cache.heads (sender - 1)))) same may
   root_may same (root_frame.Resume stored) may = may
 
@@ -285,12 +307,12 @@ record Done (lists : Lists) (p : Pricing) (numbering : Numbering) (sys : System)
   calls : List NodeCall
   new : System
   runs : SystemRuns lists p numbering sys calls new
-  stands : WorldStands lists p world new
+  stands : WorldStands lists p numbering world new
   -- a device that did not run before, or does not begin now, is not restarted
   ups : (x : ℕ) → IsLeaf lists x → Ups x → StaysUp x calls
 
-module _ (lists : Lists) (p : Pricing) (numbering : Numbering) (market : IsTreeMarket lists p numbering) (two : ExpiringIsTwoCalls)
-    (root_two : RootExpiringIsTwoCalls) (world : World) (sys : System) (stands : WorldStands lists p world sys) where
+module _ (lists : Lists) (p : Pricing) (numbering : Numbering) (market : IsTreeMarket lists p numbering) (goes : GoesOn) (two : ExpiringIsTwoCalls)
+    (root_two : RootExpiringIsTwoCalls) (world : World) (sys : System) (stands : WorldStands lists p numbering world sys) where
   -- if x begins, no process of it ran before
   abbrev UpsOf : LifeStep → ℕ → Type 0
   UpsOf step x = lives.IsUpOf x step → world.up x ≡ false
@@ -299,10 +321,11 @@ module _ (lists : Lists) (p : Pricing) (numbering : Numbering) (market : IsTreeM
   Does step new = Done lists p numbering sys (UpsOf step) new
 
   -- a relay begins
-  relay_up : (c : ℕ) (new : World) → RelayBegins p lists world c new → Does (RelayUp c) new
-  relay_up c new did =
+  relay_up : (before : List NodeCall) → RunsTheMarket lists p numbering before sys → (c : ℕ) (new : World) → RelayBegins p lists world c new →
+      Does (RelayUp c) new
+  relay_up before has c new did =
       let ok = stands.relays c did.conc in
-      let began = relay_begins lists p numbering sys c did.conc did.limits did.limited (world.relay_kept c) ok.kept did.relay did.back in
+      let began = relay_begins lists p numbering market before sys has c did.conc did.limits did.limited (world.relay_kept c) ok.kept did.relay did.back in
       let after : World = record world {
         seen = with_relay world.seen c did.relay;
         up = update world.up c true;
@@ -323,9 +346,9 @@ module _ (lists : Lists) (p : Pricing) (numbering : Numbering) (market : IsTreeM
         calls = began.calls;
         new = began.new;
         runs = began.runs;
-        stands = stands_but lists p c world after sys began.new agrees began.only stands
+        stands = stands_but lists p numbering c world after sys began.new agrees began.only stands
             (repack_relay lists p world.seen began.new c did.relay (all_in_then lists p c world.seen sys began.new began.only stands.sent))
-            (λ conc. relay_ok_as began.new c true (update world.up c true c) did.relay (update world.seen.relays c did.relay c) None
+            (λ conc. relay_ok_as p numbering began.new c true (update world.up c true c) did.relay (update world.seen.relays c did.relay c) None
             (update world.waiting c None c) (world.relay_kept c) (world.relay_kept c) (updated_same world.up c true)
             (updated_same world.seen.relays c did.relay) (updated_same world.waiting c None) refl
             (record { kept = began.kept; stands = λ e. began.stands }))
@@ -342,7 +365,7 @@ module _ (lists : Lists) (p : Pricing) (numbering : Numbering) (market : IsTreeM
   relay_reads before has c frame n new did =
       let ok = stands.relays c did.conc in
       let here = ok.stands did.runs in
-      let f = relay_answers two lists p numbering before sys c market has did.conc (record { relay = world.seen.relays c; waiting = world.waiting c })
+      let f = relay_answers goes two lists p numbering before sys c market has did.conc (record { relay = world.seen.relays c; waiting = world.waiting c })
       did.after frame did.outs here (relay_may lists p numbering world.seen sys stands.sent c did.conc here.relay_is frame did.may) did.writes in
       let first : List (Output StoredRelay) = take n did.outs in
       let base : System = with_relay world.seen c did.after.relay in
@@ -369,15 +392,15 @@ module _ (lists : Lists) (p : Pricing) (numbering : Numbering) (market : IsTreeM
         calls = f.calls;
         new = f.new;
         runs = f.runs;
-        stands = stands_but lists p c world after sys f.new agrees f.only stands
+        stands = stands_but lists p numbering c world after sys f.new agrees f.only stands
             (handed_in lists p numbering f.new c n did.outs base f.sent
             (repack_relay lists p world.seen f.new c did.after.relay (all_in_then lists p c world.seen sys f.new f.only stands.sent)))
-            (λ conc. relay_ok_as f.new c (world.up c) (world.up c) did.after.relay (after.seen.relays c) did.after.waiting
+            (λ conc. relay_ok_as p numbering f.new c (world.up c) (world.up c) did.after.relay (after.seen.relays c) did.after.waiting
             (update world.waiting c did.after.waiting c) kept (update world.relay_kept c kept c) refl
             (ap (λ f. f c) values.0 ∙ updated_same world.seen.relays c did.after.relay) (updated_same world.waiting c did.after.waiting)
             (updated_same world.relay_kept c kept)
             (record {
-              kept = stored_may (λ k. IsKept sys c k) (λ k. IsKept f.new c k) (world.relay_kept c) n did.outs ok.kept f.kept f.first did.handled;
+              kept = stored_may (λ k. IsKept p numbering sys c k) (λ k. IsKept p numbering f.new c k) (world.relay_kept c) n did.outs ok.kept f.kept f.first did.handled;
               stands = λ e. f.stands;
             }))
             (λ e. absurd (relay_no_root lists c did.conc (sym e)))
@@ -420,7 +443,7 @@ module _ (lists : Lists) (p : Pricing) (numbering : Numbering) (market : IsTreeM
         calls = began.calls;
         new = began.new;
         runs = began.runs;
-        stands = stands_but lists p 0 world after sys began.new agrees began.only stands
+        stands = stands_but lists p numbering 0 world after sys began.new agrees began.only stands
             (repack_root lists p world.seen began.new did.root (all_in_then lists p 0 world.seen sys began.new began.only stands.sent))
             (λ conc. absurd (no_conc conc))
             (λ e. record { kept = began.kept; stands = λ up. began.stands })
@@ -461,7 +484,7 @@ module _ (lists : Lists) (p : Pricing) (numbering : Numbering) (market : IsTreeM
         calls = f.calls;
         new = f.new;
         runs = f.runs;
-        stands = stands_but lists p 0 world after sys f.new agrees f.only stands
+        stands = stands_but lists p numbering 0 world after sys f.new agrees f.only stands
             (handed_in lists p numbering f.new 0 n did.outs base f.sent
             (repack_root lists p world.seen f.new did.after (all_in_then lists p 0 world.seen sys f.new f.only stands.sent)))
             (λ conc. absurd (no_conc conc))
@@ -507,7 +530,7 @@ module _ (lists : Lists) (p : Pricing) (numbering : Numbering) (market : IsTreeM
         calls = began.calls;
         new = began.new;
         runs = began.runs;
-        stands = stands_but lists p d world after sys began.new agrees began.only stands
+        stands = stands_but lists p numbering d world after sys began.new agrees began.only stands
             (handed_in lists p numbering began.new d n outs base began.sent
             (repack_agent lists p world.seen began.new d agent (all_in_then lists p d world.seen sys began.new began.only stands.sent)))
             (λ conc. absurd (not_conc d did.leaf conc))
@@ -553,7 +576,7 @@ module _ (lists : Lists) (p : Pricing) (numbering : Numbering) (market : IsTreeM
         new = sys;
         runs = refl;
         ups = λ x leaf first. tt;
-        stands = stands_but lists p d world after sys sys agrees (still d sys) stands
+        stands = stands_but lists p numbering d world after sys sys agrees (still d sys) stands
             (handed_in lists p numbering sys d n outs base
             (subst (λ (l : List (Output StoredAgent)). WereSent lists p numbering sys d l) (sym outs_are) tt)
             (repack_agent lists p world.seen sys d agent stands.sent))
@@ -617,7 +640,7 @@ module _ (lists : Lists) (p : Pricing) (numbering : Numbering) (market : IsTreeM
         calls = f.calls;
         new = f.new;
         runs = f.runs;
-        stands = stands_but lists p d world after sys f.new agrees f.only stands
+        stands = stands_but lists p numbering d world after sys f.new agrees f.only stands
             (handed_in lists p numbering f.new d n outs base f.sent
             (repack_agent lists p world.seen f.new d agent (all_in_then lists p d world.seen sys f.new f.only stands.sent)))
             (λ conc. absurd (not_conc d did.leaf conc))
@@ -642,7 +665,7 @@ module _ (lists : Lists) (p : Pricing) (numbering : Numbering) (market : IsTreeM
 
   step_done : (before : List NodeCall) → RunsTheMarket lists p numbering before sys → (step : LifeStep) (new : World) →
       Lives1 lists p numbering world step new → Does step new
-  step_done before has (RelayUp c) new did = relay_up c new did
+  step_done before has (RelayUp c) new did = relay_up before has c new did
   step_done before has (Relay c frame n) new did = relay_reads before has c frame n new did
   step_done before has RootUp new did = root_up new did
   step_done before has (Root frame n) new did = root_reads before has frame n new did
@@ -651,14 +674,21 @@ module _ (lists : Lists) (p : Pricing) (numbering : Numbering) (market : IsTreeM
 
 -- ---- from the start on
 
-new_stands : (lists : Lists) (p : Pricing) (world : World) (sys : System) → IsNewWorld world → IsStarted lists p sys → WorldStands lists p world sys
-new_stands lists p world sys none started = record {
+no_number : (k : ℕ) → k < most_nodes → child_number (replicate most_nodes 0) k ≡ 0
+no_number k inside = get_or-replicate most_nodes k 0 0 inside
+
+new_stands : (lists : Lists) (p : Pricing) (numbering : Numbering) → IsTreeMarket lists p numbering → (world : World) (sys : System) →
+    IsNewWorld p world → IsStarted lists p sys → WorldStands lists p numbering world sys
+new_stands lists p numbering market world sys none started = record {
   relays = λ c conc.
-      let at = (started.relays c conc).2 in
+      let up = started.relays c conc in
+      let at = up.2 in
       record {
-        kept = subst (λ (k : StoredRelay). IsKept sys c k) (sym (none.relay_kept c)) (record {
+        kept = subst (λ (k : StoredRelay). IsKept p numbering sys c k) (sym (none.relay_kept c up.0 up.1)) (record {
           last = omega (arith, at.base, at.gathered.window.last);
           numbers = sym at.recorded;
+          limits = market.by_nodes.limits_alike c (numbers_in_places numbering (replicate most_nodes 0)) no_changes
+              (λ d node leaf above. no_number (numbering.place d) (market.places.inside d node)) ∙ up.1;
           price = inl (refl, refl);
           older = omega arith;
         });
@@ -701,7 +731,7 @@ abbrev pub SystemsKeepTheLaw : Type 0
 SystemsKeepTheLaw = (lists : Lists) (p : Pricing) (numbering : Numbering) (calls : List NodeCall) (sys : System) → IsTreeMarket lists p numbering →
     RunsTheMarket lists p numbering calls sys → KeepsTheLaw lists p sys
 
-module _ (lists : Lists) (p : Pricing) (numbering : Numbering) (market : IsTreeMarket lists p numbering) (two : ExpiringIsTwoCalls)
+module _ (lists : Lists) (p : Pricing) (numbering : Numbering) (market : IsTreeMarket lists p numbering) (goes : GoesOn) (two : ExpiringIsTwoCalls)
     (root_two : RootExpiringIsTwoCalls) (run : SystemsRun) (start : System) (started : IsStarted lists p start) where
   -- what is so of the processes of a device from here on: none ran, and one begins at most, or none begins
   abbrev OnceFrom : ℕ → World → List LifeStep → Type 0
@@ -712,7 +742,7 @@ module _ (lists : Lists) (p : Pricing) (numbering : Numbering) (market : IsTreeM
     sys : System
     runs : SystemRuns lists p numbering start (before ++ calls) sys
     sent : AllIn lists p new.seen sys
-    stands : WorldStands lists p new sys
+    stands : WorldStands lists p numbering new sys
     ups : (d : ℕ) → IsLeaf lists d → OnceFrom d world steps → StaysUp d calls
 
   up_same : (world new : World) (step : LifeStep) → Lives1 lists p numbering world step new → (d : ℕ) → IsLeaf lists d → (lives.IsUpOf d step → ⊥) →
@@ -740,18 +770,18 @@ module _ (lists : Lists) (p : Pricing) (numbering : Numbering) (market : IsTreeM
   ]
 
   lives_from : (steps : List LifeStep) (world : World) (before : List NodeCall) (sys : System) → SystemRuns lists p numbering start before sys →
-      WorldStands lists p world sys → (new : World) → Live lists p numbering world steps new → RunsFrom before world steps new
+      WorldStands lists p numbering world sys → (new : World) → Live lists p numbering world steps new → RunsFrom before world steps new
   lives_from [] world before sys runs stands new live = record {
     calls = [];
     sys = sys;
     runs = subst (λ (l : List NodeCall). SystemRuns lists p numbering start l sys) (sym (append-nil before)) runs;
     sent = subst (λ (w : World). AllIn lists p w.seen sys) live stands.sent;
-    stands = subst (λ (w : World). WorldStands lists p w sys) live stands;
+    stands = subst (λ (w : World). WorldStands lists p numbering w sys) live stands;
     ups = λ d leaf once. tt;
   }
   lives_from (step ∷ steps) world before sys runs stands new live =
       let has : RunsTheMarket lists p numbering before sys = run lists p numbering start sys before market started runs in
-      let done = step_done lists p numbering market two root_two world sys stands before has step live.0 live.1 in
+      let done = step_done lists p numbering market goes two root_two world sys stands before has step live.0 live.1 in
       let rest = lives_from steps live.0 (before ++ done.calls) done.new (runs_on lists p numbering before done.calls start sys done.new runs done.runs)
       done.stands new live.2 in
       record {
@@ -765,10 +795,10 @@ module _ (lists : Lists) (p : Pricing) (numbering : Numbering) (market : IsTreeM
       }
 
   -- lives are calls
-  pub lives_are_calls : (world new : World) (steps : List LifeStep) → IsNewWorld world → Live lists p numbering world steps new →
+  pub lives_are_calls : (world new : World) (steps : List LifeStep) → IsNewWorld p world → Live lists p numbering world steps new →
       LivesAreCalls lists p numbering start steps new
   lives_are_calls world new steps none live =
-      let all = lives_from steps world [] start refl (new_stands lists p world start none started) new live in
+      let all = lives_from steps world [] start refl (new_stands lists p numbering market world start none started) new live in
       record {
         calls = all.calls;
         sys = all.sys;
@@ -778,7 +808,7 @@ module _ (lists : Lists) (p : Pricing) (numbering : Numbering) (market : IsTreeM
       }
 
   -- and so they keep the law
-  pub lives_keep_the_law : SystemsKeepTheLaw → (world new : World) (steps : List LifeStep) → IsNewWorld world →
+  pub lives_keep_the_law : SystemsKeepTheLaw → (world new : World) (steps : List LifeStep) → IsNewWorld p world →
       Live lists p numbering world steps new → LivesKeepTheLaw lists p new
   lives_keep_the_law keeps world new steps none live =
       let are = lives_are_calls world new steps none live in
@@ -800,10 +830,10 @@ module _ (lists : Lists) (p : Pricing) (numbering : Numbering) (market : IsTreeM
     pub calls : List NodeCall
     pub sys : System
     pub runs : SystemRuns lists p numbering start calls sys
-    pub stands : WorldStands lists p new sys
+    pub stands : WorldStands lists p numbering new sys
     pub up : (d : ℕ) → IsLeaf lists d → lives.BeginsOnce d steps → StaysUp d calls
 
-  pub lives_stand : (world new : World) (steps : List LifeStep) → IsNewWorld world → Live lists p numbering world steps new → LivesStand steps new
+  pub lives_stand : (world new : World) (steps : List LifeStep) → IsNewWorld p world → Live lists p numbering world steps new → LivesStand steps new
   lives_stand world new steps none live =
-      let all = lives_from steps world [] start refl (new_stands lists p world start none started) new live in
+      let all = lives_from steps world [] start refl (new_stands lists p numbering market world start none started) new live in
       record { calls = all.calls; sys = all.sys; runs = all.runs; stands = all.stands; up = λ d leaf once. all.ups d leaf (inr (none.up d, once)) }

@@ -18,10 +18,14 @@ use Rattle.pm_net_plan.specs.Places.{Numbering}
 use Rattle.pm_wire.specs.Answers.{answer_bytes}
 use Rattle.pm_wire.specs.declared.answer.Reply.{Reply}
 use Rattle.pm_relay.specs.Relays as relays
-use Rattle.pm_relay.specs.Relays.{RelayValue, newest_bid_number, record_at, with_child_bid, LooksForRecord, BidSent}
+use Rattle.pm_relay.specs.Relays.{RelayValue, newest_bid_number, record_at, with_child_bid, with_new_limits, limits_of_number, LooksForRecord, BidSent}
 use Rattle.pm_relay.specs.declared.outcome.PriceOutcome.{PriceOutcome}
 use Rattle.pm_relay.specs.declared.outcome.PriceOutcome.TheVariants.{PassedOn, Alone, Waits, Dropped}
-use Rattle.pm_relay_net.specs.RelayIs.{told_demand, update_of, messages_of, prices_down}
+use Rattle.pm_base.specs.declared.limits.Limits.{Limits}
+use Rattle.pm_net.specs.Messages.{numbers_of}
+use Rattle.pm_net.specs.Devices.{start_devices, devices_after}
+use Rattle.pm_relay_net.proofs.Matching.{recorded_at}
+use Rattle.pm_relay_net.specs.RelayIs.{LimitsPassBy, GivesLimits, told_demand, update_of, messages_of, prices_down}
 use Rattle.pm_frames.specs.Stored.{StoredRelay}
 use Rattle.pm_services.specs.Receipts.{sender_place}
 use Rattle.pm_services.specs.RelayAnswers as answers
@@ -36,13 +40,13 @@ use Rattle.pm_relay.specs.Numbers.{known_number, parents_number}
 use Rattle.pm_wire.specs.declared.frame.Frame.TheVariants.{Hello, Bid, Gone, Clear}
 use Rattle.pm_frames.specs.declared.parent.ParentFrame.TheVariants.{Price, Old}
 use Rattle.pm_frames.specs.declared.relay.RelayFrame.{RelayFrame}
-use Rattle.pm_frames.specs.declared.relay.RelayFrame.TheVariants.{Child, Parent, Send, Expire, Resume}
+use Rattle.pm_frames.specs.declared.relay.RelayFrame.TheVariants.{Child, Parent, Send, Expire, NewLimits, Resume}
 use Rattle.pm_system.specs.Calls.{NodeCall, SystemRuns}
 use Rattle.pm_system.proofs.Moving.{relay_no_root, new_in}
 use Rattle.pm_lives.specs.Outputs.{Output, Up, Keeps, Says, PriceWasSent, WereSent, EachKept, BeginsWithResume}
 use Rattle.pm_lives.specs.Moves.{OnlyMoves, AreCalm}
-use Rattle.pm_lives.specs.RelayWrites.{receipt_outs, downs, own_bid, again_outs, drop_outs, price_outs, WritesPrice, WritesWaiting, WritesBid, WritesExpire, WritesSend, WritesRelay}
-use Rattle.pm_lives.specs.RelayLife.{IsOfPrice, UpdateWasSent, RelayStands, IsKept, CarriesBid, CarriesExpire, RelayMayRead, RelayFollows, RelayLets}
+use Rattle.pm_lives.specs.RelayWrites.{receipt_outs, downs, own_bid, again_outs, drop_outs, price_outs, WritesPrice, WritesWaiting, WritesBid, WritesLimits, WritesExpire, WritesSend, WritesRelay}
+use Rattle.pm_lives.specs.RelayLife.{IsOfPrice, UpdateWasSent, RelayStands, IsKept, numbers_in_places, CarriesBid, CarriesLimits, CarriesExpire, RelayMayRead, RelayFollows, RelayLets}
 use Rattle.pm_lives.proofs.Staying.{still, then_moves, relay_moved, bid_pushed, prices_pushed, price_stays, were_sent, both_sent, kept_to, both_kept}
 use Rattle.pm_lives.proofs.Downs.{downs_sent, downs_keep_none}
 use Rattle.pm_lives.proofs.After.{runs_on, calm_on}
@@ -54,6 +58,24 @@ abbrev pub ExpiringIsTwoCalls : Type 0
 ExpiringIsTwoCalls = (lists : Lists) (p : Pricing) (numbering : Numbering) (calls : List NodeCall) (sys new : System) (d : ℕ) →
     IsTreeMarket lists p numbering → RunsTheMarket lists p numbering calls sys → (did : RelayExpires lists p numbering sys d new) →
     AreTwoCalls lists p numbering sys d did.number new
+
+-- the law of systems that a run goes on
+abbrev pub GoesOn : Type 0
+GoesOn = (lists : Lists) (p : Pricing) (numbering : Numbering) (before more : List NodeCall) (sys new : System) → IsTreeMarket lists p numbering →
+    RunsTheMarket lists p numbering before sys → SystemRuns lists p numbering sys more new → RunsTheMarket lists p numbering (before ++ more) new
+
+-- ---- the limits of a relay's newest bid
+
+-- those that the numbers in it give
+pub under_numbers : (lists : Lists) (p : Pricing) (numbering : Numbering) (market : IsTreeMarket lists p numbering) (calls : List NodeCall) (sys : System) →
+    RunsTheMarket lists p numbering calls sys → (c : ℕ) → IsConcentrator lists c →
+    p.limits c (numbers_in_places numbering (sys.relays c).recorded) ≡ limits_of_number (sys.relays c) (newest_bid_number (sys.relays c))
+under_numbers lists p numbering market calls sys has c conc =
+    let net = (devices_after lists p (start_devices p) has.events).net in
+    let m = (has.is.relays c conc).matches in
+    market.by_nodes.limits_alike c (numbers_in_places numbering (sys.relays c).recorded) (numbers_of (net.records c (net.last_number c)))
+    (λ d node leaf up. recorded_at lists p numbering market.places net c (sys.relays c) m d node up)
+    ∙ sym m.newest_under ∙ ap (λ (n : ℕ). limits_of_number (sys.relays c) n) (sym m.newest)
 
 -- ---- prices stay those of c
 
@@ -97,28 +119,33 @@ same_then a b d first then = record {
 same_self : (a : RelayValue) → SameNumbers a a
 same_self a = record { last = refl; recorded = refl; rises = omega arith }
 
-kept_stays : (c : ℕ) (sys new : System) → OnlyMoves c sys new → SameNumbers (sys.relays c) (new.relays c) → (stored : StoredRelay) →
-    IsKept sys c stored → IsKept new c stored
-kept_stays c sys new moves same stored kept = record {
+kept_stays : (p : Pricing) (numbering : Numbering) (c : ℕ) (sys new : System) → OnlyMoves c sys new → SameNumbers (sys.relays c) (new.relays c) →
+    (stored : StoredRelay) → IsKept p numbering sys c stored → IsKept p numbering new c stored
+kept_stays p numbering c sys new moves same stored kept = record {
   last = kept.last ∙ sym same.last;
   numbers = kept.numbers ∙ sym same.recorded;
+  limits = kept.limits;
   price = of_price_stays c sys new moves c stored.answered stored.index kept.price;
   older = omega (arith, kept.older, same.rises);
 }
 
-abbrev AreKept : System → ℕ → List (Output StoredRelay) → Type 0
-AreKept sys c outs = EachKept (λ (stored : StoredRelay). IsKept sys c stored) outs
+abbrev AreKept : Pricing → Numbering → System → ℕ → List (Output StoredRelay) → Type 0
+AreKept p numbering sys c outs = EachKept (λ (stored : StoredRelay). IsKept p numbering sys c stored) outs
 
-are_kept : (c : ℕ) (sys new : System) → OnlyMoves c sys new → SameNumbers (sys.relays c) (new.relays c) → (outs : List (Output StoredRelay)) →
-    AreKept sys c outs → AreKept new c outs
-are_kept c sys new moves same outs kept =
-    kept_to (λ (stored : StoredRelay). IsKept sys c stored) (λ (stored : StoredRelay). IsKept new c stored) (kept_stays c sys new moves same) outs kept
+are_kept : (p : Pricing) (numbering : Numbering) (c : ℕ) (sys new : System) → OnlyMoves c sys new → SameNumbers (sys.relays c) (new.relays c) →
+    (outs : List (Output StoredRelay)) → AreKept p numbering sys c outs → AreKept p numbering new c outs
+are_kept p numbering c sys new moves same outs kept =
+    kept_to (λ (stored : StoredRelay). IsKept p numbering sys c stored) (λ (stored : StoredRelay). IsKept p numbering new c stored)
+    (kept_stays p numbering c sys new moves same) outs kept
 
 -- what it stores of itself may be stored
-own_kept : (sys : System) (c : ℕ) (r : RelayValue) → sys.relays c ≡ r → IsOfPrice sys c r.answered r.index → IsKept sys c (stored_relay r)
-own_kept sys c r is held = record {
+own_kept : (p : Pricing) (numbering : Numbering) (sys : System) (c : ℕ) (r : RelayValue) → sys.relays c ≡ r →
+    p.limits c (numbers_in_places numbering r.recorded) ≡ limits_of_number r (newest_bid_number r) → IsOfPrice sys c r.answered r.index →
+    IsKept p numbering sys c (stored_relay r)
+own_kept p numbering sys c r is under held = record {
   last = ap newest_bid_number (sym is);
   numbers = ap (λ (q : RelayValue). q.recorded) (sym is);
+  limits = under;
   price = held;
   older = omega (arith, ap (λ (q : RelayValue). q.index) is);
 }
@@ -143,6 +170,22 @@ looks_same old new (inr stays) = (
   ap (λ (r : RelayValue). r.answered) stays.1,
   ap (λ (r : RelayValue). r.index) stays.1,
 )
+
+-- one that learns limits
+limits_known : (old : RelayValue) (child number : ℕ) (limits : Limits) →
+    SameNumbers old (with_new_limits old child number limits) × ((with_new_limits old child number limits).answered ≡ old.answered)
+    × ((with_new_limits old child number limits).index ≡ old.index)
+limits_known old child number limits =
+    either (λ (r : RelayValue). SameNumbers old r × (r.answered ≡ old.answered) × (r.index ≡ old.index)) (ltb (kept_number old.gathered.cache child) number)
+    (record old { gathered = record (with_child_bid old child number None).gathered { limits = Some limits } }) old
+    (λ e. (record { last = refl; recorded = refl; rises = omega arith }, refl, refl)) (λ e. (same_self old, refl, refl))
+
+limits_same : (old new : RelayValue) (child number : ℕ) (limits : Limits) → LooksForRecord (with_new_limits old child number limits) new →
+    SameNumbers old new × (new.answered ≡ old.answered) × (new.index ≡ old.index)
+limits_same old new child number limits looks =
+    let known = limits_known old child number limits in
+    let looked = looks_same (with_new_limits old child number limits) new looks in
+    (same_then old (with_new_limits old child number limits) new known.0 looked.0, looked.1 ∙ known.1, looked.2 ∙ known.2)
 
 -- one that takes a price
 takes_same : (old new : RelayValue) (price : PriceUpdate) (outcome : PriceOutcome) → relays.TakesPrice old new price outcome → SameNumbers old new
@@ -187,7 +230,27 @@ sent_last old new number sent = omega (arith, sent.number, sent.base, sent.made.
 abbrev Outs : Type 0
 Outs = List (Output StoredRelay)
 
-module _ (Lets : ℕ → ℕ → Type 0) (lists : Lists) (p : Pricing) (numbering : Numbering) (c : ℕ) (conc : IsConcentrator lists c) where
+module _ (Lets : ℕ → ℕ → Type 0) (lists : Lists) (p : Pricing) (numbering : Numbering) (c : ℕ) (conc : IsConcentrator lists c)
+    (market : IsTreeMarket lists p numbering) (goes : GoesOn) where
+  -- the system runs the market, and goes on to
+  abbrev Has : System → Type 0
+  Has sys = (before : List NodeCall) × RunsTheMarket lists p numbering before sys
+
+  has_then : (sys new : System) (calls : List NodeCall) → SystemRuns lists p numbering sys calls new → Has sys → Has new
+  has_then sys new calls runs has = (has.0 ++ calls, goes lists p numbering has.0 calls sys new market has.1 runs)
+
+  -- a system whose relay holds a price that was sent to it
+  record Ready (sys : System) : Type 0 where
+    price : IsOfPrice sys c (sys.relays c).answered (sys.relays c).index
+    has : Has sys
+
+  -- the limits of its newest bid are those that the numbers in it give
+  own_under : (sys : System) (r : RelayValue) → sys.relays c ≡ r → Has sys →
+      p.limits c (numbers_in_places numbering r.recorded) ≡ limits_of_number r (newest_bid_number r)
+  own_under sys r is has =
+      subst (λ (q : RelayValue). p.limits c (numbers_in_places numbering q.recorded) ≡ limits_of_number q (newest_bid_number q)) is
+      (under_numbers lists p numbering market has.0 sys has.1 c conc)
+
   -- some calls of c, after which its relay is this one, and what was written
   record Moves (sys : System) (relay : RelayValue) (reply : Outs) : Type 0 where
     calls : List NodeCall
@@ -197,32 +260,35 @@ module _ (Lets : ℕ → ℕ → Type 0) (lists : Lists) (p : Pricing) (numberin
     only : OnlyMoves c sys new
     is : new.relays c ≡ relay
     held : IsOfPrice new c relay.answered relay.index
+    has : Has new
     sent : WereSent lists p numbering new c reply
-    kept : AreKept new c reply
+    kept : AreKept p numbering new c reply
 
-  stays : (sys : System) → IsOfPrice sys c (sys.relays c).answered (sys.relays c).index → Moves sys (sys.relays c) []
-  stays sys held = record {
+  stays : (sys : System) → Ready sys → Moves sys (sys.relays c) []
+  stays sys ready = record {
     calls = [];
     new = sys;
     runs = refl;
     up = λ x. tt;
     only = still c sys;
     is = refl;
-    held = held;
+    held = ready.price;
+    has = ready.has;
     sent = tt;
     kept = tt;
   }
 
   -- it says something that no law speaks of
-  says : (sys : System) (bytes : List ℕ) → IsOfPrice sys c (sys.relays c).answered (sys.relays c).index → Moves sys (sys.relays c) (Says bytes ∷ [])
-  says sys bytes held = record {
+  says : (sys : System) (bytes : List ℕ) → Ready sys → Moves sys (sys.relays c) (Says bytes ∷ [])
+  says sys bytes ready = record {
     calls = [];
     new = sys;
     runs = refl;
     up = λ x. tt;
     only = still c sys;
     is = refl;
-    held = held;
+    held = ready.price;
+    has = ready.has;
     sent = (tt, tt);
     kept = (tt, tt);
   }
@@ -238,17 +304,18 @@ module _ (Lets : ℕ → ℕ → Type 0) (lists : Lists) (p : Pricing) (numberin
     only = then_moves c sys first.new then.new first.only then.only;
     is = then.is;
     held = then.held;
+    has = then.has;
     sent = both_sent lists p numbering then.new c reply more
         (were_sent lists p numbering c first.new then.new then.only c reply first.sent) then.sent;
-    kept = both_kept (λ (k : StoredRelay). IsKept then.new c k) reply more
-        (are_kept c first.new then.new then.only (subst₂ SameNumbers (sym first.is) (sym then.is) same) reply first.kept) then.kept;
+    kept = both_kept (λ (k : StoredRelay). IsKept p numbering then.new c k) reply more
+        (are_kept p numbering c first.new then.new then.only (subst₂ SameNumbers (sym first.is) (sym then.is) same) reply first.kept) then.kept;
   }
 
   -- it learns a bid
   learns : (sys : System) (sender number : ℕ) (demand : Option (List ℤ)) → CarriesBid lists p numbering sys c sender number demand →
       (learnt : RelayValue) → LooksForRecord (with_child_bid (sys.relays c) (sender_place sender) number demand) learnt →
-      IsOfPrice sys c (sys.relays c).answered (sys.relays c).index → Moves sys learnt []
-  learns sys sender number demand carries learnt looks held =
+      Ready sys → Moves sys learnt []
+  learns sys sender number demand carries learnt looks ready =
       let bid : BidMessage = bid_in_channel p sys carries.x carries.place in
       let new : System = with_relay sys c learnt in
       let place_is : sender_place sender ≡ numbering.place carries.x = omega (arith, carries.sender_is) in
@@ -260,80 +327,138 @@ module _ (Lets : ℕ → ℕ → Type 0) (lists : Lists) (p : Pricing) (numberin
       subst (λ (d : Option (List ℤ)). LooksForRecord (with_child_bid (sys.relays c) (numbering.place carries.x) bid.number d) learnt)
       carries.demand_is at_number in
       let looked = looks_same (with_child_bid (sys.relays c) (sender_place sender) number demand) learnt looks in
+      let passes : LimitsPassBy p (parent lists carries.x) carries.x =
+      subst (λ (y : ℕ). LimitsPassBy p y carries.x) (sym carries.up) (carries.passes (relay_no_root lists c conc)) in
+      let runs : SystemRuns lists p numbering sys (call.TakesBid carries.x carries.place ∷ []) new = (
+        new,
+        inl (record {
+          node = carries.node;
+          below = λ e. relay_no_root lists c conc (sym carries.up ∙ e);
+          inside = carries.inside;
+          relay = learnt;
+          learnt = inl (record {
+            passes = passes;
+            learnt = subst (λ (y : ℕ). LooksForRecord (with_child_bid (sys.relays y) (numbering.place carries.x) bid.number (told_demand bid)) learnt)
+                (sym carries.up) at_demand;
+          });
+          new_is = ap (λ (y : ℕ). with_relay sys y learnt) (sym carries.up);
+        }),
+        refl,
+      ) in
       record {
         calls = call.TakesBid carries.x carries.place ∷ [];
         new = new;
-        runs = (
-          new,
-          inl (record {
-            node = carries.node;
-            below = λ e. relay_no_root lists c conc (sym carries.up ∙ e);
-            inside = carries.inside;
-            relay = learnt;
-            learnt = subst (λ (y : ℕ). LooksForRecord (with_child_bid (sys.relays y) (numbering.place carries.x) bid.number (told_demand bid)) learnt)
-                (sym carries.up) at_demand;
-            new_is = ap (λ (y : ℕ). with_relay sys y learnt) (sym carries.up);
-          }),
-          refl,
-        );
+        runs = runs;
+        has = has_then sys new (call.TakesBid carries.x carries.place ∷ []) runs ready.has;
         up = λ x. (tt, tt);
         only = relay_moved sys c learnt;
         is = updated_same sys.relays c learnt;
         held = of_price_stays c sys new (relay_moved sys c learnt) c learnt.answered learnt.index
-            (subst₂ (IsOfPrice sys c) (sym looked.1) (sym looked.2) held);
+            (subst₂ (IsOfPrice sys c) (sym looked.1) (sym looked.2) ready.price);
+        sent = tt;
+        kept = tt;
+      }
+
+  -- it learns limits
+  learns_limits : (sys : System) (sender number : ℕ) (limits : Limits) → CarriesLimits lists p numbering sys c sender number limits →
+      (learnt : RelayValue) → LooksForRecord (with_new_limits (sys.relays c) (sender_place sender) number limits) learnt →
+      Ready sys → Moves sys learnt []
+  learns_limits sys sender number limits carries learnt looks ready =
+      let bid : BidMessage = bid_in_channel p sys carries.x carries.place in
+      let new : System = with_relay sys c learnt in
+      let place_is : sender_place sender ≡ numbering.place carries.x = omega (arith, carries.sender_is) in
+      let at_place : LooksForRecord (with_new_limits (sys.relays c) (numbering.place carries.x) number limits) learnt =
+      subst (λ (k : ℕ). LooksForRecord (with_new_limits (sys.relays c) k number limits) learnt) place_is looks in
+      let at_number : LooksForRecord (with_new_limits (sys.relays c) (numbering.place carries.x) bid.number limits) learnt =
+      subst (λ (k : ℕ). LooksForRecord (with_new_limits (sys.relays c) (numbering.place carries.x) k limits) learnt) carries.number_is at_place in
+      let gives : GivesLimits p c carries.x bid.number limits =
+      subst (λ (k : ℕ). GivesLimits p c carries.x k limits) carries.number_is carries.gives in
+      let looked = limits_same (sys.relays c) learnt (sender_place sender) number limits looks in
+      let runs : SystemRuns lists p numbering sys (call.TakesBid carries.x carries.place ∷ []) new = (
+        new,
+        inl (record {
+          node = carries.node;
+          below = λ e. relay_no_root lists c conc (sym carries.up ∙ e);
+          inside = carries.inside;
+          relay = learnt;
+          learnt = inr (record {
+            limits = limits;
+            gone = carries.gone;
+            gives = subst (λ (y : ℕ). GivesLimits p y carries.x bid.number limits) (sym carries.up) gives;
+            learnt = subst (λ (y : ℕ). LooksForRecord (with_new_limits (sys.relays y) (numbering.place carries.x) bid.number limits) learnt)
+                (sym carries.up) at_number;
+          });
+          new_is = ap (λ (y : ℕ). with_relay sys y learnt) (sym carries.up);
+        }),
+        refl,
+      ) in
+      record {
+        calls = call.TakesBid carries.x carries.place ∷ [];
+        new = new;
+        runs = runs;
+        has = has_then sys new (call.TakesBid carries.x carries.place ∷ []) runs ready.has;
+        up = λ x. (tt, tt);
+        only = relay_moved sys c learnt;
+        is = updated_same sys.relays c learnt;
+        held = of_price_stays c sys new (relay_moved sys c learnt) c learnt.answered learnt.index
+            (subst₂ (IsOfPrice sys c) (sym looked.1) (sym looked.2) ready.price);
         sent = tt;
         kept = tt;
       }
 
   -- it sends its newest bid again
-  again : (sys : System) → IsOfPrice sys c (sys.relays c).answered (sys.relays c).index → 1 ≤ (sys.relays c).gathered.window.last →
+  again : (sys : System) → Ready sys → 1 ≤ (sys.relays c).gathered.window.last →
       Moves sys (sys.relays c) (Up (own_bid (sys.relays c)) ∷ [])
-  again sys held has =
+  again sys ready some =
       let bid : BidMessage = bid_message (newest_bid_number (sys.relays c)) false (own_demand (sys.relays c).gathered) in
       let new : System = with_bid_sent sys c bid in
       record {
         calls = call.Resends c ∷ [];
         new = new;
-        runs = (new, inl (record { conc = conc; has = has; new_is = refl }), refl);
+        runs = (new, inl (record { conc = conc; has = some; new_is = refl }), refl);
+        has = has_then sys new (call.Resends c ∷ []) (new, inl (record { conc = conc; has = some; new_is = refl }), refl) ready.has;
         up = λ x. (tt, tt);
         only = bid_pushed sys c c bid;
         is = refl;
-        held = of_price_stays c sys new (bid_pushed sys c c bid) c (sys.relays c).answered (sys.relays c).index held;
+        held = of_price_stays c sys new (bid_pushed sys c c bid) c (sys.relays c).answered (sys.relays c).index ready.price;
         sent = (new_in p sys.bids_sent c bid, tt);
         kept = (tt, tt);
       }
 
   -- it sends its next bid
   sends : (sys : System) (relay : RelayValue) (number : ℕ) → BidSent (sys.relays c) relay number →
-      IsOfPrice sys c (sys.relays c).answered (sys.relays c).index → Moves sys relay (Keeps (stored_relay relay) ∷ Up (own_bid relay) ∷ [])
-  sends sys relay number sent held =
+      Ready sys → Moves sys relay (Keeps (stored_relay relay) ∷ Up (own_bid relay) ∷ [])
+  sends sys relay number sent ready =
       let bid : BidMessage = own_bid relay in
       let new : System = with_bid_sent (with_relay sys c relay) c bid in
       let moved : OnlyMoves c sys new = then_moves c sys (with_relay sys c relay) new (relay_moved sys c relay) (bid_pushed (with_relay sys c relay) c c bid) in
       let is : new.relays c ≡ relay = updated_same sys.relays c relay in
       let holds : IsOfPrice new c relay.answered relay.index = of_price_stays c sys new moved c relay.answered relay.index
-      (subst₂ (IsOfPrice sys c) (sym sent.answered) (sym sent.index) held) in
+      (subst₂ (IsOfPrice sys c) (sym sent.answered) (sym sent.index) ready.price) in
+      let runs : SystemRuns lists p numbering sys (call.Sends c ∷ []) new = (
+        new,
+        record {
+          conc = conc;
+          relay = relay;
+          number = number;
+          sent = sent;
+          new_is = ap (λ (n : ℕ). with_bid_sent (with_relay sys c relay) c (bid_message n false (own_demand relay.gathered)))
+              (sent_last (sys.relays c) relay number sent);
+        },
+        refl,
+      ) in
+      let has : Has new = has_then sys new (call.Sends c ∷ []) runs ready.has in
       record {
         calls = call.Sends c ∷ [];
         new = new;
-        runs = (
-          new,
-          record {
-            conc = conc;
-            relay = relay;
-            number = number;
-            sent = sent;
-            new_is = ap (λ (n : ℕ). with_bid_sent (with_relay sys c relay) c (bid_message n false (own_demand relay.gathered)))
-                (sent_last (sys.relays c) relay number sent);
-          },
-          refl,
-        );
+        runs = runs;
+        has = has;
         up = λ x. (tt, tt);
         only = moved;
         is = is;
         held = holds;
         sent = (tt, (new_in p sys.bids_sent c bid, tt));
-        kept = (own_kept new c relay is holds, (tt, tt));
+        kept = (own_kept p numbering new c relay is (own_under new relay is has) holds, (tt, tt));
       }
 
   begins_more : (outs more : Outs) → BeginsWithResume outs → BeginsWithResume (outs ++ more)
@@ -345,7 +470,7 @@ module _ (Lets : ℕ → ℕ → Type 0) (lists : Lists) (p : Pricing) (numberin
   drops_sent new None price = tt
   drops_sent new (Some first) price = (tt, tt)
 
-  drops_kept : (new : System) (waiting : Option PriceUpdate) (price : PriceUpdate) → AreKept new c (drop_outs waiting price)
+  drops_kept : (new : System) (waiting : Option PriceUpdate) (price : PriceUpdate) → AreKept p numbering new c (drop_outs waiting price)
   drops_kept new None price = tt
   drops_kept new (Some first) price = (tt, tt)
 
@@ -358,7 +483,7 @@ module _ (Lets : ℕ → ℕ → Type 0) (lists : Lists) (p : Pricing) (numberin
 
     told : (x : ℕ) → IsNode lists x → parent lists x ≡ c → (sent : PriceMessage) →
         messages_of (price_to (record_at relay price.number).heads
-        (settled_step_of_record relay.gathered.limits price.step (record_at relay price.number).sum) price.index (numbering.place x)) ≡ sent ∷ [] →
+        (settled_step_of_record (limits_of_number relay price.number) price.step (record_at relay price.number).sum) price.index (numbering.place x)) ≡ sent ∷ [] →
         PriceWasSent (after_price PassedOn) x sent
     told x node up sent is =
         let grown : (after_price PassedOn).prices_sent x ≡ sys.prices_sent x ++ sent ∷ [] =
@@ -375,7 +500,7 @@ module _ (Lets : ℕ → ℕ → Type 0) (lists : Lists) (p : Pricing) (numberin
     price_sent : (outcome : PriceOutcome) → WereSent lists p numbering (after_price outcome) c (price_outs waiting relay price outcome)
     price_sent PassedOn =
         let sent : Rattle.pm_session.specs.Windows.Sent = record_at relay price.number in
-        let step : ℕ = settled_step_of_record relay.gathered.limits price.step sent.sum in
+        let step : ℕ = settled_step_of_record (limits_of_number relay price.number) price.step sent.sum in
         both_sent lists p numbering (after_price PassedOn) c (downs price.index step 0 sent.heads) (Keeps (stored_relay relay) ∷ [])
         (downs_sent StoredRelay lists p numbering (after_price PassedOn) c price.index step sent.heads told 0 sent.heads
         (λ k inside. ap (λ (j : ℕ). get_or sent.heads j nothing_sent) (omega arith)))
@@ -388,45 +513,48 @@ module _ (Lets : ℕ → ℕ → Type 0) (lists : Lists) (p : Pricing) (numberin
     moved_price outcome = then_moves c sys (with_relay sys c relay) (after_price outcome) (relay_moved sys c relay)
         (prices_pushed lists numbering (with_relay sys c relay) c (prices_down relay (update_of message) outcome))
 
-    price_kept : (outcome : PriceOutcome) → IsKept (after_price outcome) c (stored_relay relay) →
-        AreKept (after_price outcome) c (price_outs waiting relay price outcome)
+    price_kept : (outcome : PriceOutcome) → IsKept p numbering (after_price outcome) c (stored_relay relay) →
+        AreKept p numbering (after_price outcome) c (price_outs waiting relay price outcome)
     price_kept PassedOn own =
         let sent : Rattle.pm_session.specs.Windows.Sent = record_at relay price.number in
-        let step : ℕ = settled_step_of_record relay.gathered.limits price.step sent.sum in
-        both_kept (λ (k : StoredRelay). IsKept (after_price PassedOn) c k) (downs price.index step 0 sent.heads) (Keeps (stored_relay relay) ∷ [])
-        (downs_keep_none (λ (k : StoredRelay). IsKept (after_price PassedOn) c k) price.index step 0 sent.heads) (own, tt)
+        let step : ℕ = settled_step_of_record (limits_of_number relay price.number) price.step sent.sum in
+        both_kept (λ (k : StoredRelay). IsKept p numbering (after_price PassedOn) c k) (downs price.index step 0 sent.heads) (Keeps (stored_relay relay) ∷ [])
+        (downs_keep_none (λ (k : StoredRelay). IsKept p numbering (after_price PassedOn) c k) price.index step 0 sent.heads) (own, tt)
     price_kept Alone own = (own, tt)
     price_kept Waits own = drops_kept (after_price Waits) waiting price
     price_kept Dropped own = (tt, tt)
 
     takes : (outcome : PriceOutcome) → relays.TakesPrice (sys.relays c) relay price outcome →
-        IsOfPrice sys c (sys.relays c).answered (sys.relays c).index → Moves sys relay (price_outs waiting relay price outcome)
-    takes outcome did held =
+        Ready sys → Moves sys relay (price_outs waiting relay price outcome)
+    takes outcome did ready =
         let new : System = after_price outcome in
         let is : new.relays c ≡ relay = updated_same sys.relays c relay in
         let holds : IsOfPrice new c relay.answered relay.index = of_price_stays c sys new (moved_price outcome) c relay.answered relay.index
-        (takes_held sys c (sys.relays c) relay price outcome did held (price_is_of sys c price at)) in
+        (takes_held sys c (sys.relays c) relay price outcome did ready.price (price_is_of sys c price at)) in
+        let runs : SystemRuns lists p numbering sys (call.TakesPrice c at.0 ∷ []) new = (
+          new,
+          inl (record {
+            conc = conc;
+            inside = at.1;
+            relay = relay;
+            outcome = outcome;
+            taken = subst (λ (q : PriceUpdate). relays.TakesPrice (sys.relays c) relay q outcome) (sym at.2) did;
+            new_is = refl;
+          }),
+          refl,
+        ) in
+        let has : Has new = has_then sys new (call.TakesPrice c at.0 ∷ []) runs ready.has in
         record {
           calls = call.TakesPrice c at.0 ∷ [];
           new = new;
-          runs = (
-            new,
-            inl (record {
-              conc = conc;
-              inside = at.1;
-              relay = relay;
-              outcome = outcome;
-              taken = subst (λ (q : PriceUpdate). relays.TakesPrice (sys.relays c) relay q outcome) (sym at.2) did;
-              new_is = refl;
-            }),
-            refl,
-          );
+          runs = runs;
+          has = has;
           up = λ x. (tt, tt);
           only = moved_price outcome;
           is = is;
           held = holds;
           sent = price_sent outcome;
-          kept = price_kept outcome (own_kept new c relay is holds);
+          kept = price_kept outcome (own_kept p numbering new c relay is (own_under new relay is has) holds);
         }
 
   still_waits : (y : ℕ) (sys new : System) → OnlyMoves y sys new → (waiting : Option PriceUpdate) → IfSome waiting (UpdateWasSent sys c) →
@@ -450,11 +578,11 @@ module _ (Lets : ℕ → ℕ → Type 0) (lists : Lists) (p : Pricing) (numberin
     same : SameNumbers (sys.relays c) new.relay
 
   answers_price : (sys : System) (waiting : Option PriceUpdate) (price : PriceUpdate) (new : OpenRelay) (reply : Outs) →
-      IfSome waiting (UpdateWasSent sys c) → UpdateWasSent sys c price → IsOfPrice sys c (sys.relays c).answered (sys.relays c).index →
+      IfSome waiting (UpdateWasSent sys c) → UpdateWasSent sys c price → Ready sys →
       WritesPrice (record { relay = sys.relays c; waiting = waiting }) price new reply → Tried sys new reply
-  answers_price sys waiting price new reply waits at held did =
+  answers_price sys waiting price new reply waits at ready did =
       let took : Moves sys new.relay (price_outs waiting new.relay price did.outcome) =
-      takes sys waiting price at new.relay did.outcome did.takes held in
+      takes sys waiting price at new.relay did.outcome did.takes ready in
       let moves : Moves sys new.relay reply = subst (λ (l : Outs). Moves sys new.relay l) (sym did.replied) took in
       record {
         moves = moves;
@@ -464,23 +592,20 @@ module _ (Lets : ℕ → ℕ → Type 0) (lists : Lists) (p : Pricing) (numberin
       }
 
   tries : (sys : System) (waiting : Option PriceUpdate) (new : OpenRelay) (reply : Outs) → IfSome waiting (UpdateWasSent sys c) →
-      IsOfPrice sys c (sys.relays c).answered (sys.relays c).index → WritesWaiting waiting (sys.relays c) new reply → Tried sys new reply
-  tries sys None new reply waits held did =
+      Ready sys → WritesWaiting waiting (sys.relays c) new reply → Tried sys new reply
+  tries sys None new reply waits ready did =
       subst₂ (λ (n : OpenRelay) (l : Outs). Tried sys n l) (sym did.0) (sym did.1)
-      (record { moves = stays sys held; waiting = tt; same = same_self (sys.relays c) })
-  tries sys (Some price) new reply waits held did = answers_price sys None price new reply tt waits held did
+      (record { moves = stays sys ready; waiting = tt; same = same_self (sys.relays c) })
+  tries sys (Some price) new reply waits ready did = answers_price sys None price new reply tt waits ready did
 
   -- ---- whole answers
 
   -- what was done so far, at the relay as it is then
-  abbrev HeldBy : System → Type 0
-  HeldBy sys = IsOfPrice sys c (sys.relays c).answered (sys.relays c).index
+  ready_by : (sys : System) (r : RelayValue) (reply : Outs) (m : Moves sys r reply) → Ready m.new
+  ready_by sys r reply m = record { price = subst (λ (q : RelayValue). IsOfPrice m.new c q.answered q.index) (sym m.is) m.held; has = m.has }
 
-  held_by : (sys : System) (r : RelayValue) (reply : Outs) (m : Moves sys r reply) → HeldBy m.new
-  held_by sys r reply m = subst (λ (q : RelayValue). IsOfPrice m.new c q.answered q.index) (sym m.is) m.held
-
-  says_if : (sys : System) (test : Bool) (bytes : List ℕ) → HeldBy sys → Moves sys (sys.relays c) (cond test (Says bytes ∷ []) [])
-  says_if sys test bytes held = either (λ (l : Outs). Moves sys (sys.relays c) l) test (Says bytes ∷ []) [] (λ e. says sys bytes held) (λ e. stays sys held)
+  says_if : (sys : System) (test : Bool) (bytes : List ℕ) → Ready sys → Moves sys (sys.relays c) (cond test (Says bytes ∷ []) [])
+  says_if sys test bytes ready = either (λ (l : Outs). Moves sys (sys.relays c) l) test (Says bytes ∷ []) [] (λ e. says sys bytes ready) (λ e. stays sys ready)
 
   some_last : (n : ℕ) → not (eqb n 0) ≡ true → 1 ≤ n
   some_last n e = elim (cases_Bool (eqb n 0)) [
@@ -488,12 +613,12 @@ module _ (Lets : ℕ → ℕ → Type 0) (lists : Lists) (p : Pricing) (numberin
     | inr some ↦ omega (arith, λ (z : n ≡ 0). both_ways (eqb n 0) some (eq-eqb n 0 z))
   ]
 
-  again_if : (sys : System) (test : Bool) → HeldBy sys →
+  again_if : (sys : System) (test : Bool) → Ready sys →
       Moves sys (sys.relays c) (cond (test && not (eqb (sys.relays c).gathered.window.last 0)) (Up (own_bid (sys.relays c)) ∷ []) [])
-  again_if sys test held =
+  again_if sys test ready =
       either (λ (l : Outs). Moves sys (sys.relays c) l) (test && not (eqb (sys.relays c).gathered.window.last 0)) (Up (own_bid (sys.relays c)) ∷ []) []
-      (λ e. again sys held (some_last (sys.relays c).gathered.window.last (and_parts test (not (eqb (sys.relays c).gathered.window.last 0)) e).1))
-      (λ e. stays sys held)
+      (λ e. again sys ready (some_last (sys.relays c).gathered.window.last (and_parts test (not (eqb (sys.relays c).gathered.window.last 0)) e).1))
+      (λ e. stays sys ready)
 
   -- first these moves, and then those of the relay as it is after them
   goes_on : (sys : System) (r : RelayValue) (reply : Outs) (m : Moves sys r reply) (more : RelayValue → Outs) →
@@ -509,18 +634,18 @@ module _ (Lets : ℕ → ℕ → Type 0) (lists : Lists) (p : Pricing) (numberin
 
   -- what was stored before may stay
   kept_over : (sys : System) (r : RelayValue) (reply : Outs) (m : Moves sys r reply) → SameNumbers (sys.relays c) r → (stored : StoredRelay) →
-      IsKept sys c stored → IsKept m.new c stored
+      IsKept p numbering sys c stored → IsKept p numbering m.new c stored
   kept_over sys r reply m same stored kept =
-      kept_stays c sys m.new m.only (subst (λ (q : RelayValue). SameNumbers (sys.relays c) q) (sym m.is) same) stored kept
+      kept_stays p numbering c sys m.new m.only (subst (λ (q : RelayValue). SameNumbers (sys.relays c) q) (sym m.is) same) stored kept
 
   -- what follows of moves and of the price that waits after them
   ends : (sys : System) (r : RelayValue) (first : Outs) (m : Moves sys r first) (waiting : Option PriceUpdate) (after : OpenRelay) (more : Outs) →
       IfSome waiting (UpdateWasSent sys c) → WritesWaiting waiting r after more → (reply : Outs) → reply ≡ first ++ more →
-      ((stored : StoredRelay) → IsKept sys c stored → IsKept m.new c stored) ⊎ BeginsWithResume first →
+      ((stored : StoredRelay) → IsKept p numbering sys c stored → IsKept p numbering m.new c stored) ⊎ BeginsWithResume first →
       RelayFollows lists p numbering Lets sys c after reply
   unfolding then_both
   ends sys r first m waiting after more waits did reply is begins =
-      let tried : Tried m.new after more = tries m.new waiting after more (still_waits c sys m.new m.only waiting waits) (held_by sys r first m)
+      let tried : Tried m.new after more = tries m.new waiting after more (still_waits c sys m.new m.only waiting waits) (ready_by sys r first m)
       (subst (λ (q : RelayValue). WritesWaiting waiting q after more) (sym m.is) did) in
       let same : SameNumbers r after.relay = subst (λ (q : RelayValue). SameNumbers q after.relay) m.is tried.same in
       let all : Moves sys after.relay (first ++ more) = then_both sys r after.relay first more m tried.moves same in
@@ -542,7 +667,7 @@ module _ (Lets : ℕ → ℕ → Type 0) (lists : Lists) (p : Pricing) (numberin
   -- ---- each frame
 
   module _ (sys : System) (waiting : Option PriceUpdate) (after : OpenRelay) (reply : Outs) (waits : IfSome waiting (UpdateWasSent sys c))
-      (held : HeldBy sys) where
+      (ready : Ready sys) where
     abbrev old : OpenRelay
     old = record { relay = sys.relays c; waiting = waiting }
 
@@ -550,26 +675,42 @@ module _ (Lets : ℕ → ℕ → Type 0) (lists : Lists) (p : Pricing) (numberin
         WritesBid old sender number demand after reply → RelayFollows lists p numbering Lets sys c after reply
     bid_follows sender number demand carries did =
         let kept : ℕ = kept_number (sys.relays c).gathered.cache (sender_place sender) in
-        let learnt : Moves sys did.learnt [] = learns sys sender number demand carries did.learnt did.looks held in
+        let learnt : Moves sys did.learnt [] = learns sys sender number demand carries did.learnt did.looks ready in
         let said : Moves sys did.learnt (receipt_outs kept sender number) = goes_on sys did.learnt [] learnt (λ r. receipt_outs kept sender number)
         (says_if learnt.new (leb number kept) (answer_bytes (Rattle.pm_wire.specs.declared.answer.Reply.TheVariants.Old sender kept))
-        (held_by sys did.learnt [] learnt)) in
+        (ready_by sys did.learnt [] learnt)) in
         let first : Outs = receipt_outs kept sender number ++ again_outs (sys.relays c) did.learnt in
         let told : Moves sys did.learnt first = goes_on sys did.learnt (receipt_outs kept sender number) said (λ r. again_outs (sys.relays c) r)
-        (again_if said.new (eqb (sys.relays c).gathered.window.last 0) (held_by sys did.learnt (receipt_outs kept sender number) said)) in
+        (again_if said.new (eqb (sys.relays c).gathered.window.last 0) (ready_by sys did.learnt (receipt_outs kept sender number) said)) in
         ends sys did.learnt first told waiting after did.waiting_reply waits did.tries reply
         (did.replied ∙ sym (append_assoc (receipt_outs kept sender number) (again_outs (sys.relays c) did.learnt) did.waiting_reply))
         (inl (kept_over sys did.learnt first told (looks_learnt (sys.relays c) did.learnt (sender_place sender) number demand did.looks)))
+
+    limits_follow : (sender number : ℕ) (limits : Limits) → CarriesLimits lists p numbering sys c sender number limits →
+        WritesLimits old sender number limits after reply → RelayFollows lists p numbering Lets sys c after reply
+    limits_follow sender number limits carries did =
+        let kept : ℕ = kept_number (sys.relays c).gathered.cache (sender_place sender) in
+        let learnt : Moves sys did.learnt [] = learns_limits sys sender number limits carries did.learnt did.looks ready in
+        let said : Moves sys did.learnt (receipt_outs kept sender number) = goes_on sys did.learnt [] learnt (λ r. receipt_outs kept sender number)
+        (says_if learnt.new (leb number kept) (answer_bytes (Rattle.pm_wire.specs.declared.answer.Reply.TheVariants.Old sender kept))
+        (ready_by sys did.learnt [] learnt)) in
+        let first : Outs = receipt_outs kept sender number ++ again_outs (sys.relays c) did.learnt in
+        let told : Moves sys did.learnt first = goes_on sys did.learnt (receipt_outs kept sender number) said (λ r. again_outs (sys.relays c) r)
+        (again_if said.new (eqb (sys.relays c).gathered.window.last 0) (ready_by sys did.learnt (receipt_outs kept sender number) said)) in
+        ends sys did.learnt first told waiting after did.waiting_reply waits did.tries reply
+        (did.replied ∙ sym (append_assoc (receipt_outs kept sender number) (again_outs (sys.relays c) did.learnt) did.waiting_reply))
+        (inl (kept_over sys did.learnt first told
+        (limits_same (sys.relays c) did.learnt (sender_place sender) number limits did.looks).0))
 
     send_follows : WritesSend old after reply → RelayFollows lists p numbering Lets sys c after reply
     send_follows did = elim did.answers [
       | inl sent ↦
           let first : Outs = Keeps (stored_relay did.asked) ∷ Up (own_bid did.asked) ∷ [] in
-          ends sys did.asked first (sends sys did.asked sent.0 sent.1 held) waiting after did.waiting_reply waits did.tries reply
+          ends sys did.asked first (sends sys did.asked sent.0 sent.1 ready) waiting after did.waiting_reply waits did.tries reply
           (did.replied ∙ ap (λ (l : Outs). l ++ did.waiting_reply) sent.2) (inr (stored_relay did.asked, Up (own_bid did.asked) ∷ [], refl))
       | inr refused ↦
           let first : Outs = Says (answers.not_sent_reply refused.0) ∷ [] in
-          let m : Moves sys did.asked first = subst (λ (r : RelayValue). Moves sys r first) (sym refused.2) (says sys (answers.not_sent_reply refused.0) held) in
+          let m : Moves sys did.asked first = subst (λ (r : RelayValue). Moves sys r first) (sym refused.2) (says sys (answers.not_sent_reply refused.0) ready) in
           ends sys did.asked first m waiting after did.waiting_reply waits did.tries reply
           (did.replied ∙ ap (λ (l : Outs). l ++ did.waiting_reply) refused.3)
           (inl (kept_over sys did.asked first m
@@ -579,7 +720,7 @@ module _ (Lets : ℕ → ℕ → Type 0) (lists : Lists) (p : Pricing) (numberin
     price_follows : (price : PriceUpdate) → UpdateWasSent sys c price → WritesPrice old price after reply →
         RelayFollows lists p numbering Lets sys c after reply
     price_follows price at did =
-        let t : Tried sys after reply = answers_price sys waiting price after reply waits at held did in
+        let t : Tried sys after reply = answers_price sys waiting price after reply waits at ready did in
         record {
           calls = t.moves.calls;
           new = t.moves.new;
@@ -599,19 +740,18 @@ module _ (Lets : ℕ → ℕ → Type 0) (lists : Lists) (p : Pricing) (numberin
       runs = refl;
       only = still c sys;
       up = λ x. tt;
-      stands = subst (λ (r : OpenRelay). RelayStands sys c r) (sym same) (record { relay_is = refl; waiting = waits; held = held });
+      stands = subst (λ (r : OpenRelay). RelayStands sys c r) (sym same) (record { relay_is = refl; waiting = waits; held = ready.price });
       sent = tt;
       kept = tt;
       first = inl (λ stored kept. kept);
     })
 
     -- a child is let go: two calls of the system, as a law of systems says
-    module _ (two_calls : ExpiringIsTwoCalls) (market : IsTreeMarket lists p numbering) (before : List NodeCall)
-        (has : RunsTheMarket lists p numbering before sys) where
+    module _ (two_calls : ExpiringIsTwoCalls) where
       abbrev number_at : ℕ → ℕ → ℕ
       number_at y k = parents_number (known_number (sys.relays y).recorded (sys.relays y).gathered.cache.heads k)
 
-      lets_go : (sender : ℕ) → (carries : CarriesExpire lists numbering c sender (number_at c (sender_place sender))) →
+      lets_go : (sender : ℕ) → (carries : CarriesExpire lists p numbering c sender (number_at c (sender_place sender))) →
           Lets carries.x (number_at c (sender_place sender)) → (learnt : RelayValue) →
           LooksForRecord (with_child_bid (sys.relays c) (sender_place sender) (number_at c (sender_place sender)) None) learnt → Moves sys learnt []
       lets_go sender carries lets learnt looks =
@@ -623,11 +763,12 @@ module _ (Lets : ℕ → ℕ → Type 0) (lists : Lists) (p : Pricing) (numberin
           let place_is : sender_place sender ≡ numbering.place d = omega (arith, carries.sender_is) in
           let at_place : LooksForRecord (with_child_bid (sys.relays c) (numbering.place d) number None) learnt =
           subst (λ (k : ℕ). LooksForRecord (with_child_bid (sys.relays c) k number None) learnt) place_is looks in
-          let two = two_calls lists p numbering before sys new d market has (record {
+          let two = two_calls lists p numbering ready.has.0 sys new d market ready.has.1 (record {
             below = λ e. relay_no_root lists c conc (sym carries.up ∙ e);
             number = number;
             number_is = ap (λ (k : ℕ). number_at c k) place_is ∙ ap (λ (y : ℕ). number_at y (numbering.place d)) (sym carries.up);
             may = carries.may;
+            passes = subst (λ (y : ℕ). LimitsPassBy p y d) (sym carries.up) (carries.passes (relay_no_root lists c conc));
             relay = learnt;
             gone = subst (λ (y : ℕ). LooksForRecord (with_child_bid (sys.relays y) (numbering.place d) number None) learnt) (sym carries.up) at_place;
             new_is = ap (λ (y : ℕ). with_relay mid y learnt) (sym carries.up);
@@ -638,22 +779,23 @@ module _ (Lets : ℕ → ℕ → Type 0) (lists : Lists) (p : Pricing) (numberin
             calls = call.Expires d number ∷ call.TakesBid d two.place ∷ [];
             new = new;
             runs = two.runs;
+            has = has_then sys new (call.Expires d number ∷ call.TakesBid d two.place ∷ []) two.runs ready.has;
             up = λ x. (lets, (tt, tt));
             only = moved;
             is = updated_same sys.relays c learnt;
-            held = of_price_stays c sys new moved c learnt.answered learnt.index (subst₂ (IsOfPrice sys c) (sym looked.1) (sym looked.2) held);
+            held = of_price_stays c sys new moved c learnt.answered learnt.index (subst₂ (IsOfPrice sys c) (sym looked.1) (sym looked.2) ready.price);
             sent = tt;
             kept = tt;
           }
 
-      expire_follows : (sender : ℕ) → (carries : CarriesExpire lists numbering c sender (number_at c (sender_place sender))) →
+      expire_follows : (sender : ℕ) → (carries : CarriesExpire lists p numbering c sender (number_at c (sender_place sender))) →
           Lets carries.x (number_at c (sender_place sender)) → WritesExpire old sender after
           reply → RelayFollows lists p numbering Lets sys c after reply
       expire_follows sender carries lets did =
           let learnt : Moves sys did.learnt [] = lets_go sender carries lets did.learnt did.looks in
           let first : Outs = again_outs (sys.relays c) did.learnt in
           let told : Moves sys did.learnt first = goes_on sys did.learnt [] learnt (λ r. again_outs (sys.relays c) r)
-          (again_if learnt.new (eqb (sys.relays c).gathered.window.last 0) (held_by sys did.learnt [] learnt)) in
+          (again_if learnt.new (eqb (sys.relays c).gathered.window.last 0) (ready_by sys did.learnt [] learnt)) in
           ends sys did.learnt first told waiting after did.waiting_reply waits did.tries reply did.replied
           (inl (kept_over sys did.learnt first told
           (looks_learnt (sys.relays c) did.learnt (sender_place sender) (number_at c (sender_place sender)) None did.looks)))
@@ -670,15 +812,16 @@ module _ (Lets : ℕ → ℕ → Type 0) (lists : Lists) (p : Pricing) (numberin
       frame_follows (Parent (Old own kept)) allows may did = silent_follows did.0 did.1
       frame_follows Send allows may did = send_follows did
       frame_follows (Expire sender) allows may did = expire_follows sender may (allows may.x (number_at c (sender_place sender)) (may.up, may.sender_is, refl)) did
+      frame_follows (NewLimits sender number limits) allows may did = limits_follow sender number limits may did
       frame_follows (Resume stored) allows may did = absurd may
 
 -- What a relay's service answers to a frame is some calls of its node.
-pub relay_answers : ExpiringIsTwoCalls → (lists : Lists) (p : Pricing) (numbering : Numbering) (before : List NodeCall) (sys : System) (c : ℕ) →
+pub relay_answers : GoesOn → ExpiringIsTwoCalls → (lists : Lists) (p : Pricing) (numbering : Numbering) (before : List NodeCall) (sys : System) (c : ℕ) →
     IsTreeMarket lists p numbering → RunsTheMarket lists p numbering before sys → IsConcentrator lists c →
     (old after : OpenRelay) (frame : RelayFrame) (outs : List (Output StoredRelay)) →
     RelayStands sys c old → RelayMayRead lists p numbering sys c frame → WritesRelay old frame after outs →
     RelayFollows lists p numbering (RelayLets lists numbering sys c frame) sys c after outs
-relay_answers two lists p numbering before sys c market has conc old after frame outs stands may did =
-    frame_follows (RelayLets lists numbering sys c frame) lists p numbering c conc sys old.waiting after outs stands.waiting
-    (subst (λ (r : RelayValue). IsOfPrice sys c r.answered r.index) stands.relay_is stands.held) two market before has frame (λ d n lets. lets) may
+relay_answers goes two lists p numbering before sys c market has conc old after frame outs stands may did =
+    frame_follows (RelayLets lists numbering sys c frame) lists p numbering c conc market goes sys old.waiting after outs stands.waiting
+    (record { price = subst (λ (r : RelayValue). IsOfPrice sys c r.answered r.index) stands.relay_is stands.held; has = (before, has) }) two frame (λ d n lets. lets) may
     (subst (λ (r : RelayValue). WritesRelay (record { relay = r; waiting = old.waiting }) frame after outs) stands.relay_is did)

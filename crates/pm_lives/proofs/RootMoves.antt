@@ -303,7 +303,7 @@ module _ (Lets : ℕ → ℕ → Type 0) (lists : Lists) (p : Pricing) (numberin
       abbrev number_at : ℕ → ℕ
       number_at k = parents_number (known_number sys.root.recorded sys.root.auction.cache.heads k)
 
-      lets_go : (sender : ℕ) → (carries : CarriesExpire lists numbering 0 sender (number_at (sender_place sender))) →
+      lets_go : (sender : ℕ) → (carries : CarriesExpire lists p numbering 0 sender (number_at (sender_place sender))) →
           Lets carries.x (number_at (sender_place sender)) →
           LooksForClearing (with_root_bid sys.root (sender_place sender) (number_at (sender_place sender)) None) after → Does after sys []
       lets_go sender carries lets looks =
@@ -334,7 +334,7 @@ module _ (Lets : ℕ → ℕ → Type 0) (lists : Lists) (p : Pricing) (numberin
             first = inl (root_kept sys new (looks_same sys.root after (sender_place sender) number None looks));
           }
 
-      expire_follows : (sender : ℕ) → (carries : CarriesExpire lists numbering 0 sender (number_at (sender_place sender))) →
+      expire_follows : (sender : ℕ) → (carries : CarriesExpire lists p numbering 0 sender (number_at (sender_place sender))) →
           Lets carries.x (number_at (sender_place sender)) → WritesRootExpire sys.root sender after
           reply → RootFollows lists p numbering Lets sys after reply
       expire_follows sender carries lets did =

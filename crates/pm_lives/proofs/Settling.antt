@@ -38,7 +38,7 @@ head_number_of false one two = refl
 
 module _ (lists : Lists) (p : Pricing) (numbering : Numbering) (market : IsTreeMarket lists p numbering) (calls : List NodeCall) (sys : System)
     (has : RunsTheMarket lists p numbering calls sys) (sent : AreSent lists p sys) (law : KeepsTheLaw lists p sys) (world : World)
-    (stands : WorldStands lists p world sys) (quiet : IsSettledWorld lists numbering world) where
+    (stands : WorldStands lists p numbering world sys) (quiet : IsSettledWorld lists numbering world) where
   abbrev seen : System
   seen = world.seen
 

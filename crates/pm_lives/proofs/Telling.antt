@@ -127,6 +127,7 @@ relay_rises lists numbering seen c (relay_frame.Child frame) let_go d = omega ar
 relay_rises lists numbering seen c (relay_frame.Parent frame) let_go d = omega arith
 relay_rises lists numbering seen c relay_frame.Send let_go d = omega arith
 relay_rises lists numbering seen c (relay_frame.Expire sender) let_go d = rises_by lists numbering c sender (relay_number seen c sender) let_go d
+relay_rises lists numbering seen c (relay_frame.NewLimits sender number limits) let_go d = omega arith
 relay_rises lists numbering seen c (relay_frame.Resume stored) let_go d = omega arith
 
 pub relay_lets : (lists : Lists) (numbering : Numbering) (seen sys : System) (c : ℕ) → seen.relays c ≡ sys.relays c → (frame : RelayFrame) (let_go : ℕ → ℕ) (d n : ℕ) →
@@ -141,6 +142,7 @@ relay_lets lists numbering seen sys c same (relay_frame.Expire sender) let_go d 
       lets.2 ∙ ap
           (λ (r : Rattle.pm_relay.specs.Relays.RelayValue). Rattle.pm_relay.specs.Numbers.parents_number (Rattle.pm_relay.specs.Numbers.known_number r.recorded r.gathered.cache.heads (sender - 1))) (sym same),
     )
+relay_lets lists numbering seen sys c same (relay_frame.NewLimits sender number limits) let_go d n lets = absurd lets
 relay_lets lists numbering seen sys c same (relay_frame.Resume stored) let_go d n lets = absurd lets
 
 pub root_rises : (lists : Lists) (numbering : Numbering) (seen : System) (frame : RootFrame) (let_go : ℕ → ℕ) (d : ℕ) →

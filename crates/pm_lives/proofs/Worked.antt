@@ -1,7 +1,8 @@
 -- A worked life.
-use Rattle.std.proofs.Common.{ℕ, ℤ, true, List, take, refl, inl, arith}
+use Rattle.std.proofs.Common.{◌≡◌, ap, ℕ, ℤ, true, List, take, Some, refl, inl, arith}
+use Rattle.pm_base.specs.declared.limits.Limits.{Limits}
 use Rattle.pm_market.specs.Lists.{Lists, IsLeaf}
-use Rattle.pm_market.specs.State.{update}
+use Rattle.pm_market.specs.State.{update, no_changes}
 use Rattle.pm_net.specs.Pricing.{Pricing}
 use Rattle.pm_net_plan.specs.Places.{Numbering}
 use Rattle.pm_control.specs.Control.{agent_stored}
@@ -11,6 +12,7 @@ use Rattle.pm_frames.specs.declared.device.DeviceFrame.{DeviceFrame}
 use Rattle.pm_frames.specs.declared.device.DeviceFrame.TheVariants.{Offer}
 use Rattle.pm_services.specs.DeviceAnswers.{open_agent_after}
 use Rattle.pm_system.specs.System.{with_agent}
+use Rattle.pm_lives.specs.RelayLife.{nothing_stored}
 use Rattle.pm_lives.specs.DeviceLife.{IsGivenOffer}
 use Rattle.pm_lives.specs.DeviceWrites.{device_outs}
 use Rattle.pm_lives.specs.Lives.{World, handed_out, stored_last, restart_outs}
@@ -30,17 +32,18 @@ read_after lists p numbering world d frame n = record world {
   agent_kept = update world.agent_kept d (stored_last (world.agent_kept d) (take n (device_outs p (world.seen.agents d) frame)));
 }
 
-pub goes_on : (lists : Lists) (p : Pricing) (numbering : Numbering) (root : RootValue) (relays : ℕ → RelayValue) (demand : List ℤ) → IsLeaf lists 1 →
-    IsGivenOffer lists p 1 2 demand → GoesOn lists p numbering (new_world root relays) demand
+pub goes_on : (lists : Lists) (p : Pricing) (numbering : Numbering) (root : RootValue) (relays : ℕ → RelayValue) (limits : ℕ → Limits) (demand : List ℤ) →
+    ((c : ℕ) (l : Limits) → p.limits c no_changes ≡ Some l → limits c ≡ l) → IsLeaf lists 1 → IsGivenOffer lists p 1 2 demand →
+    GoesOn lists p numbering (new_world root relays limits) demand
 unfolding update
-goes_on lists p numbering root relays demand leaf given =
-    let one : World = up_after lists p numbering (new_world root relays) 1 0 in
+goes_on lists p numbering root relays limits demand are leaf given =
+    let one : World = up_after lists p numbering (new_world root relays limits) 1 0 in
     let two : World = read_after lists p numbering one 1 (Offer demand) 1 in
     let three : World = up_after lists p numbering two 1 1 in
     record {
       none = record {
         up = λ y. refl;
-        relay_kept = λ c. refl;
+        relay_kept = λ c l e. ap nothing_stored (are c l e);
         root_kept = refl;
         agent_kept = λ d. refl;
         bids_sent = λ x. refl;

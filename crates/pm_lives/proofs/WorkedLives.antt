@@ -1,6 +1,7 @@
 -- The worked world: each step, one by one.
 use Rattle.std.proofs.Common.{◌≡◌, ◌∙◌, sym, ap, ℕ, zero, suc, ◌+◌, ◌<◌, ◌≤◌, Bool, true, false, ℤ, pos, negsuc, List, [], ◌∷◌, length, take, replicate, Option, Some, None, refl, inl, inr, arith}
 use Rattle.pm_base.specs.Limits.{most_nodes}
+use Rattle.pm_base.specs.declared.limits.Limits.{Limits}
 use Rattle.pm_bid.specs.Clearing.{clearing_step}
 use Rattle.pm_bid.specs.Taken.{said_between}
 use Rattle.pm_bid.specs.declared.head.BidHead.{BidHead}
@@ -38,6 +39,7 @@ use Rattle.pm_lives.specs.RelayWrites.{own_bid, again_outs, price_outs}
 use Rattle.pm_lives.specs.RootWrites.{clearing_outs}
 use Rattle.pm_lives.specs.DeviceWrites.{device_outs}
 use Rattle.pm_lives.specs.Lives.{World, LifeStep, Lives1, Live, RelayUp, Relay, RootUp, Root, DeviceUp, Device, handed_out, stored_last, restart_outs, RelayReads, RootReads, DeviceReads, RelayBegins}
+use Rattle.pm_lives.specs.RelayLife.{nothing_stored}
 use Rattle.pm_lives.specs.Worked.{new_world}
 use Rattle.pm_lives.specs.Settled.{index_above, IsSettledWorld}
 use Rattle.pm_lives.specs.WorkedLives.{bid_to_relay, small_steps, LivesSettle}
@@ -85,7 +87,7 @@ abbrev cleared_outs : RootValue → List (Output StoredRoot)
 cleared_outs r = Keeps (stored_root r) ∷ clearing_outs r
 
 abbrev w0 : World
-w0 = new_world new_root (λ c. relay_back 0 0 0 (replicate most_nodes 0))
+w0 = new_world new_root (λ c. relay_back 0 0 0 (replicate most_nodes 0)) (λ c. small_limits)
 
 abbrev w1 : World
 w1 = record w0 { seen = with_root w0.seen new_root; up = update w0.up 0 true }
@@ -170,6 +172,7 @@ does_2 = record {
     answered = refl;
     index = refl;
     recorded = refl;
+    made_under = refl;
   };
   new_is = refl;
 }
@@ -195,7 +198,7 @@ unfolding parent is_leaf is_member changes update place_in children_to said_betw
 does_7 = record {
   conc = (omega arith, omega arith, refl);
   runs = refl;
-  may = record { x = 2; node = (omega arith, omega arith); up = refl; sender_is = refl; place = 0; inside = omega arith; number_is = refl; demand_is = refl };
+  may = record { x = 2; node = (omega arith, omega arith); up = refl; sender_is = refl; place = 0; inside = omega arith; number_is = refl; demand_is = refl; passes = λ ne a b same. refl };
   after = record { relay = heard w6 0 2 2; waiting = None };
   outs = [];
   writes = record { learnt = heard w6 0 2 2; looks = inr ((λ h. omega (arith, h.came_back)), refl); waiting_reply = []; tries = (refl, refl); replied = refl };
@@ -208,7 +211,7 @@ unfolding parent is_leaf is_member changes update place_in children_to said_betw
 does_8 = record {
   conc = (omega arith, omega arith, refl);
   runs = refl;
-  may = record { x = 3; node = (omega arith, omega arith); up = refl; sender_is = refl; place = 0; inside = omega arith; number_is = refl; demand_is = refl };
+  may = record { x = 3; node = (omega arith, omega arith); up = refl; sender_is = refl; place = 0; inside = omega arith; number_is = refl; demand_is = refl; passes = λ ne a b same. refl };
   after = record { relay = heard w7 1 2 3; waiting = None };
   outs = [];
   writes = record { learnt = heard w7 1 2 3; looks = inr ((λ h. omega (arith, h.came_back)), refl); waiting_reply = []; tries = (refl, refl); replied = refl };
@@ -248,6 +251,8 @@ does_9 = record {
         base = refl;
         answered = refl;
         index = refl;
+        made_under = refl;
+        kept_under = λ n from to. refl;
       },
       refl,
     );
@@ -261,7 +266,7 @@ does_9 = record {
 
 does_10 : Lives1 small_tree small_pricing small_places w9 (Root (root_frame.Market (market_frame.Bid 1 1 (pos 5 ∷ pos 5 ∷ negsuc 2 ∷ []))) 0) w10
 unfolding parent is_leaf is_member changes update place_in children_to said_between reaches suffices
-does_10 = record { runs = refl; may = record { x = 1; node = (omega arith, omega arith); up = refl; sender_is = refl; place = 0; inside = omega arith; number_is = refl; demand_is = refl }; after = heard_root w9 1 (pos 5 ∷ pos 5 ∷ negsuc 2 ∷ []); outs = []; writes = record { looks = inr ((λ h. omega (arith, h.came_back)), refl); replied = refl }; handled = inr refl; new_is = refl }
+does_10 = record { runs = refl; may = record { x = 1; node = (omega arith, omega arith); up = refl; sender_is = refl; place = 0; inside = omega arith; number_is = refl; demand_is = refl; passes = λ ne. absurd (ne refl) }; after = heard_root w9 1 (pos 5 ∷ pos 5 ∷ negsuc 2 ∷ []); outs = []; writes = record { looks = inr ((λ h. omega (arith, h.came_back)), refl); replied = refl }; handled = inr refl; new_is = refl }
 
 does_11 : Lives1 small_tree small_pricing small_places w10 (Root (root_frame.Market market_frame.Clear) 1) w11
 unfolding parent is_leaf is_member changes update place_in children_to said_between reaches suffices
@@ -296,7 +301,7 @@ unfolding parent is_leaf is_member changes update place_in children_to said_betw
 does_13 = record {
   conc = (omega arith, omega arith, refl);
   runs = refl;
-  may = record { x = 2; node = (omega arith, omega arith); up = refl; sender_is = refl; place = 1; inside = omega arith; number_is = refl; demand_is = refl };
+  may = record { x = 2; node = (omega arith, omega arith); up = refl; sender_is = refl; place = 1; inside = omega arith; number_is = refl; demand_is = refl; passes = λ ne a b same. refl };
   after = record { relay = heard w12 0 4 2; waiting = None };
   outs = [];
   writes = record { learnt = heard w12 0 4 2; looks = inr ((λ h. omega (arith, h.came_back)), refl); waiting_reply = []; tries = (refl, refl); replied = refl };
@@ -336,6 +341,8 @@ does_14 = record {
         base = refl;
         answered = refl;
         index = refl;
+        made_under = refl;
+        kept_under = λ n from to. refl;
       },
       refl,
     );
@@ -360,6 +367,7 @@ does_15 = record {
     answered = refl;
     index = refl;
     recorded = refl;
+    made_under = refl;
   };
   new_is = refl;
 }
@@ -369,7 +377,7 @@ unfolding parent is_leaf is_member changes update place_in children_to said_betw
 does_16 = record {
   conc = (omega arith, omega arith, refl);
   runs = refl;
-  may = record { x = 3; node = (omega arith, omega arith); up = refl; sender_is = refl; place = 0; inside = omega arith; number_is = refl; demand_is = refl };
+  may = record { x = 3; node = (omega arith, omega arith); up = refl; sender_is = refl; place = 0; inside = omega arith; number_is = refl; demand_is = refl; passes = λ ne a b same. refl };
   after = record { relay = heard w15 1 2 3; waiting = None };
   outs = [];
   writes = record { learnt = heard w15 1 2 3; looks = inr ((λ h. omega (arith, h.caught_up 0 (omega arith))), refl); waiting_reply = []; tries = (refl, refl); replied = refl };
@@ -382,7 +390,7 @@ unfolding parent is_leaf is_member changes update place_in children_to said_betw
 does_17 = record {
   conc = (omega arith, omega arith, refl);
   runs = refl;
-  may = record { x = 2; node = (omega arith, omega arith); up = refl; sender_is = refl; place = 1; inside = omega arith; number_is = refl; demand_is = refl };
+  may = record { x = 2; node = (omega arith, omega arith); up = refl; sender_is = refl; place = 1; inside = omega arith; number_is = refl; demand_is = refl; passes = λ ne a b same. refl };
   after = record { relay = rebuilt_relay (heard w16 0 4 2); waiting = None };
   outs = Up (own_bid (rebuilt_relay (heard w16 0 4 2))) ∷ [];
   writes = record {
@@ -395,7 +403,7 @@ does_17 = record {
         nothing_newer = enough (heard w16 0 4 2).recorded (heard w16 0 4 2).gathered.cache.heads refl;
         changed = λ e. absurd (omega (arith, ap (λ (l : List BidHead). head_number l 0) e));
       },
-      record { base = refl; last = refl; window = refl; heads = refl; sum = refl; announced = refl; cache = refl; limits = refl; answered = refl; index = refl; recorded = refl },
+      record { base = refl; last = refl; window = refl; heads = refl; sum = refl; announced = refl; cache = refl; limits = refl; answered = refl; index = refl; recorded = refl; made_under = refl },
     );
     waiting_reply = [];
     tries = (refl, refl);
@@ -407,7 +415,7 @@ does_17 = record {
 
 does_18 : Lives1 small_tree small_pricing small_places w17 (Root (root_frame.Market (market_frame.Bid 1 2 (negsuc 0 ∷ negsuc 0 ∷ negsuc 0 ∷ []))) 0) w18
 unfolding parent is_leaf is_member changes update place_in children_to said_between reaches suffices
-does_18 = record { runs = refl; may = record { x = 1; node = (omega arith, omega arith); up = refl; sender_is = refl; place = 1; inside = omega arith; number_is = refl; demand_is = refl }; after = heard_root w17 2 (negsuc 0 ∷ negsuc 0 ∷ negsuc 0 ∷ []); outs = []; writes = record { looks = inr ((λ h. omega (arith, h.came_back)), refl); replied = refl }; handled = inr refl; new_is = refl }
+does_18 = record { runs = refl; may = record { x = 1; node = (omega arith, omega arith); up = refl; sender_is = refl; place = 1; inside = omega arith; number_is = refl; demand_is = refl; passes = λ ne. absurd (ne refl) }; after = heard_root w17 2 (negsuc 0 ∷ negsuc 0 ∷ negsuc 0 ∷ []); outs = []; writes = record { looks = inr ((λ h. omega (arith, h.came_back)), refl); replied = refl }; handled = inr refl; new_is = refl }
 
 does_19 : Lives1 small_tree small_pricing small_places w18 (Root (root_frame.Market market_frame.Clear) 2) w19
 unfolding parent is_leaf is_member changes update place_in children_to said_between reaches suffices
@@ -464,6 +472,7 @@ does_20 = record {
         answered = refl;
         index = refl;
         recorded = refl;
+        made_under = refl;
       },
     );
     waits = refl;
@@ -480,6 +489,9 @@ does_21 = record { leaf = refl; runs = refl; may = (0, omega arith, refl); handl
 does_22 : Lives1 small_tree small_pricing small_places w21 (Device 3 (device_frame.Parent (Price 2 2 2 1)) 2) w22
 unfolding parent is_leaf is_member changes update place_in children_to said_between reaches suffices
 does_22 = record { leaf = refl; runs = refl; may = (0, omega arith, refl); handled = inl (omega arith); new_is = refl }
+
+some_same : (l k : Limits) → Some l ≡ Some k → l ≡ k
+some_same l k e = cc
 
 only_one : (P : ℕ → Type 0) → P 0 → (k : ℕ) → k < 1 → P k
 only_one P one zero inside = one
@@ -510,7 +522,7 @@ pub settles : LivesSettle
 unfolding parent is_leaf is_member changes update place_in children_to said_between reaches suffices
 settles = record {
   world = w0;
-  none = record { up = λ y. refl; relay_kept = λ c. refl; root_kept = refl; agent_kept = λ d. refl; bids_sent = λ x. refl; prices_sent = λ x. refl; setpoints = λ d. refl; let_go = λ d. refl };
+  none = record { up = λ y. refl; relay_kept = λ c limits e. ap nothing_stored (some_same small_limits limits e); root_kept = refl; agent_kept = λ d. refl; bids_sent = λ x. refl; prices_sent = λ x. refl; setpoints = λ d. refl; let_go = λ d. refl };
   new = w22;
   live = (w1, does_1, (w2, does_2, (w3, does_3, (w4, does_4, (w5, does_5, (w6, does_6, (w7, does_7, (w8, does_8, (w9, does_9, (w10, does_10, (w11, does_11, (w12, does_12, (w13, does_13, (w14, does_14, (w15, does_15, (w16, does_16, (w17, does_17, (w18, does_18, (w19, does_19, (w20, does_20, (w21, does_21, (w22, does_22, refl))))))))))))))))))))));
   settled = settled;

@@ -19,6 +19,7 @@ IsNoResume (relay_frame.Child frame) = ⊤
 IsNoResume (relay_frame.Parent frame) = ⊤
 IsNoResume relay_frame.Send = ⊤
 IsNoResume (relay_frame.Expire sender) = ⊤
+IsNoResume (relay_frame.NewLimits sender number limits) = ⊤
 IsNoResume (relay_frame.Resume stored) = ⊥
 
 abbrev pub IsNoRootResume : RootFrame → Type 0

@@ -6,6 +6,8 @@ use Rattle.pm_wire.specs.declared.frame.Frame.TheVariants.{Hello, Bid, Gone}
 use Rattle.pm_relay.specs.Relays.{RelayValue, ComesBack}
 use Rattle.pm_frames.specs.declared.parent.ParentFrame.{ParentFrame}
 use Rattle.pm_frames.specs.declared.parent.ParentFrame.TheVariants.{Price}
+use Rattle.pm_base.specs.declared.limits.Limits.{Limits}
+use Rattle.pm_frames.specs.declared.relay.RelayFrame.{RelayFrame}
 use Rattle.pm_frames.specs.declared.relay.RelayFrame.TheVariants as relay_frame
 use Rattle.pm_basis.specs.declared.basis.Basis.{Basis}
 use Rattle.pm_services.specs.RelayAnswers.{RelayServiceValue, AnswersRelay}
@@ -27,6 +29,10 @@ use Rattle.pm_lives.specs.RelayLife.{nothing_stored}
 abbrev pub bid_frame : ℕ → BidMessage → Frame
 bid_frame child bid = if bid.gone then Gone child bid.number else Bid child bid.number bid.demand
 
+-- the frame of limits, which the child with this number gives under the number of its message
+abbrev pub limits_frame : ℕ → BidMessage → Limits → RelayFrame
+limits_frame child bid limits = relay_frame.NewLimits child bid.number limits
+
 -- the frame of a price for the child with this number
 abbrev pub price_frame : ℕ → PriceMessage → ParentFrame
 price_frame child price = Price child price.number price.index price.step
@@ -35,7 +41,8 @@ price_frame child price = Price child price.number price.index price.step
 
 -- The service of a relay was given Hello, and then a Resume with what is stored, or nothing where nothing is.
 pub data RelayIsGiven (old : RelayServiceValue) (basis : Basis) (after : RelayServiceValue) : StoredRelay → Type 0 where
-  hello : (reply : List ℕ) → AnswersRelay old (relay_frame.Child (Hello basis)) after reply → RelayIsGiven old basis after nothing_stored
+  hello : (reply : List ℕ) → AnswersRelay old (relay_frame.Child (Hello basis)) after reply →
+      RelayIsGiven old basis after (nothing_stored old.limits)
   resumed : (mid : RelayServiceValue) (reply more : List ℕ) (stored : StoredRelay) → AnswersRelay old (relay_frame.Child (Hello basis)) mid reply →
       AnswersRelay mid (relay_frame.Resume stored) after more → RelayIsGiven old basis after stored
 
@@ -43,7 +50,7 @@ pub data RelayIsGiven (old : RelayServiceValue) (basis : Basis) (after : RelaySe
 pub record RelayIsBack (old : RelayServiceValue) (steps : ℕ) (after : RelayServiceValue) (stored : StoredRelay) : Type 0 where
   pub relay : RelayValue
   pub relay_is : after.relay ≡ Some (record { relay = relay; waiting = None })
-  pub back : ComesBack steps old.limits stored.last stored.answered stored.index stored.numbers relay
+  pub back : ComesBack steps old.limits stored.last stored.answered stored.index stored.numbers stored.limits relay
   pub child : after.child ≡ old.child
   pub limits : after.limits ≡ old.limits
 

@@ -1,5 +1,6 @@
 -- Lives of which no lists are given: each control offers, leaves and lets go as it likes.
 use Rattle.std.specs.Prelude.{◌≡◌, ℕ, ◌+◌, ◌==◌, ℤ, true, List, [], ◌∷◌, take, Some, ⊤}
+use Rattle.pm_base.specs.Cuts.{Cut}
 use Rattle.pm_market.specs.Lists.{Lists, parent, IsLeaf, IsConcentrator}
 use Rattle.pm_market.specs.State.{update}
 use Rattle.pm_net.specs.Pricing.{Pricing}
@@ -7,6 +8,7 @@ use Rattle.pm_net.specs.Messages.{price_message}
 use Rattle.pm_net_plan.specs.Places.{Numbering}
 use Rattle.pm_control.specs.Control.{newest_demand}
 use Rattle.pm_relay.specs.Roots.{RootValue}
+use Rattle.pm_relay_net.specs.RelayIs.{LimitsPassBy}
 use Rattle.pm_frames.specs.Stored.{StoredRelay, StoredRoot}
 use Rattle.pm_frames.specs.declared.parent.ParentFrame.TheVariants.{Price, Old}
 use Rattle.pm_frames.specs.declared.relay.RelayFrame.{RelayFrame}
@@ -28,23 +30,25 @@ use Rattle.pm_lives.specs.DeviceWrites.{device_outs}
 use Rattle.pm_lives.specs.Lives.{World, LifeStep, RelayUp, Relay, RootUp, Root, DeviceUp, Device, RelayBegins, RootBegins, DeviceBegins}
 use Rattle.pm_lives.specs.Lives.{HandledSome, handed_out, stored_last, let_go_by_relay, let_go_by_root, Live}
 
--- the child that is let go is a device
-pub record CarriesLetGo (lists : Lists) (numbering : Numbering) (y sender : ℕ) : Type 0 where
+-- the child that is let go is a device; to a relay it is none that gives the relay its limits
+pub record CarriesLetGo (lists : Lists) (p : Pricing) (numbering : Numbering) (y sender : ℕ) : Type 0 where
   pub x : ℕ
   pub leaf : IsLeaf lists x
   pub up : parent lists x ≡ y
   pub sender_is : sender ≡ numbering.place x + 1
+  pub passes : (y ≡ 0 → ⊥) → LimitsPassBy p y x
 
 abbrev pub RelayIsFree : Lists → Pricing → Numbering → System → ℕ → RelayFrame → Type 0
 RelayIsFree lists p numbering sys c (relay_frame.Child frame) = RelayMayRead lists p numbering sys c (relay_frame.Child frame)
 RelayIsFree lists p numbering sys c (relay_frame.Parent frame) = RelayMayRead lists p numbering sys c (relay_frame.Parent frame)
 RelayIsFree lists p numbering sys c relay_frame.Send = ⊤
-RelayIsFree lists p numbering sys c (relay_frame.Expire sender) = CarriesLetGo lists numbering c sender
+RelayIsFree lists p numbering sys c (relay_frame.Expire sender) = CarriesLetGo lists p numbering c sender
+RelayIsFree lists p numbering sys c (relay_frame.NewLimits sender number limits) = RelayMayRead lists p numbering sys c (relay_frame.NewLimits sender number limits)
 RelayIsFree lists p numbering sys c (relay_frame.Resume stored) = ⊥
 
 abbrev pub RootIsFree : Lists → Pricing → Numbering → System → RootFrame → Type 0
 RootIsFree lists p numbering sys (root_frame.Market frame) = RootMayRead lists p numbering sys (root_frame.Market frame)
-RootIsFree lists p numbering sys (root_frame.Expire sender) = CarriesLetGo lists numbering 0 sender
+RootIsFree lists p numbering sys (root_frame.Expire sender) = CarriesLetGo lists p numbering 0 sender
 RootIsFree lists p numbering sys (root_frame.Resume stored) = ⊥
 
 -- an offer is a demand; so is the one that a device offers anew
@@ -117,7 +121,7 @@ pub record HasLists (tree : Lists) (p : Pricing) (numbering : Numbering) (world 
   pub parents : lists.parents ≡ tree.parents
   pub leaves : lists.leaves ≡ tree.leaves
   pub same_steps : pricing.steps ≡ p.steps
-  pub same_limits : (c : ℕ) → pricing.limits c ≡ p.limits c
+  pub same_limits : (c : ℕ) (cut : Cut) → pricing.limits c cut ≡ p.limits c cut
   pub market : IsTreeMarket lists pricing numbering
   pub started : (start : System) → IsStarted tree p start → IsStarted lists pricing start
   pub live : Live lists pricing numbering world steps new

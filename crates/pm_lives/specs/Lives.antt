@@ -4,7 +4,7 @@ use Rattle.std.specs.List.{Contains}
 use Rattle.pm_base.specs.Limits.{most_nodes}
 use Rattle.pm_base.specs.declared.limits.Limits.{Limits}
 use Rattle.pm_market.specs.Lists.{Lists, parent, IsNode, IsLeaf, IsConcentrator}
-use Rattle.pm_market.specs.State.{update}
+use Rattle.pm_market.specs.State.{update, no_changes}
 use Rattle.pm_market.specs.Moves.{after, LegalJournal}
 use Rattle.pm_market.specs.declared.moves.Move.{Move}
 use Rattle.pm_session.specs.declared.price.PriceUpdate.{PriceUpdate}
@@ -91,14 +91,15 @@ let_go_by_root lists numbering seen frame let_go' = let_go'
 
 -- ---- one step of a life
 
--- A process of relay c begins, with Hello and what is stored. One that ran before has ended, at any byte.
+-- A process of relay c begins, with Hello, the limits of its first start and what is stored. One that ran before has ended, at any
+-- byte.
 pub record RelayBegins (p : Pricing) (lists : Lists) (world : World) (c : ℕ) (new : World) : Type 0 where
   pub conc : IsConcentrator lists c
   pub limits : Limits
-  pub limited : p.limits c ≡ Some limits
+  pub limited : p.limits c no_changes ≡ Some limits
   pub relay : RelayValue
   pub back : ComesBack p.steps limits (world.relay_kept c).last (world.relay_kept c).answered (world.relay_kept c).index
-      (world.relay_kept c).numbers relay
+      (world.relay_kept c).numbers (world.relay_kept c).limits relay
   pub new_is : new ≡ record world {
     seen = with_relay world.seen c relay;
     up = update world.up c true;
@@ -194,9 +195,9 @@ abbrev pub no_agent_stored : StoredAgent
 no_agent_stored = record { number = 0; index = 0; newest = None }
 
 -- no process runs, nothing is stored, and nothing was handed out
-pub record IsNewWorld (world : World) : Type 0 where
+pub record IsNewWorld (p : Pricing) (world : World) : Type 0 where
   pub up : (y : ℕ) → world.up y ≡ false
-  pub relay_kept : (c : ℕ) → world.relay_kept c ≡ nothing_stored
+  pub relay_kept : (c : ℕ) (limits : Limits) → p.limits c no_changes ≡ Some limits → world.relay_kept c ≡ nothing_stored limits
   pub root_kept : world.root_kept ≡ no_root_stored
   pub agent_kept : (d : ℕ) → world.agent_kept d ≡ no_agent_stored
   pub bids_sent : (x : ℕ) → world.seen.bids_sent x ≡ []

@@ -1,6 +1,8 @@
 -- The service of a relay over a stream, and the relay of a system for which it stands.
-use Rattle.std.specs.Prelude.{◌≡◌, ◌⊎◌, ℕ, ◌+◌, ◌-◌, ◌<◌, ◌≤◌, ℤ, List, length, replicate, Option, Some, None, IfSome, ⊤}
+use Rattle.std.specs.Prelude.{◌≡◌, ◌⊎◌, ℕ, ◌+◌, ◌-◌, ◌<◌, ◌≤◌, ℤ, List, length, replicate, Option, Some, None, IfSome, ⊤, true}
+use Rattle.pm_base.specs.Cuts.{Cut}
 use Rattle.pm_base.specs.Limits.{most_nodes}
+use Rattle.pm_base.specs.declared.limits.Limits.{Limits}
 use Rattle.pm_market.specs.Lists.{Lists, parent, IsNode}
 use Rattle.pm_session.specs.declared.price.PriceUpdate.{PriceUpdate}
 use Rattle.pm_net.specs.Pricing.{Pricing}
@@ -8,12 +10,12 @@ use Rattle.pm_net.specs.Messages.{price_message}
 use Rattle.pm_net_plan.specs.Places.{Numbering}
 use Rattle.pm_wire.specs.declared.frame.Frame.TheVariants.{Hello, Bid, Gone, Clear}
 use Rattle.pm_relay.specs.Relays.{newest_bid_number}
-use Rattle.pm_relay.specs.Numbers.{known_number, parents_number}
-use Rattle.pm_relay_net.specs.RelayIs.{told_demand, update_of}
+use Rattle.pm_relay.specs.Numbers.{child_number, known_number, parents_number}
+use Rattle.pm_relay_net.specs.RelayIs.{LimitsPassBy, GivesLimits, told_demand, update_of}
 use Rattle.pm_frames.specs.Stored.{StoredRelay}
 use Rattle.pm_frames.specs.declared.parent.ParentFrame.TheVariants.{Price, Old}
 use Rattle.pm_frames.specs.declared.relay.RelayFrame.{RelayFrame}
-use Rattle.pm_frames.specs.declared.relay.RelayFrame.TheVariants.{Child, Parent, Send, Expire, Resume}
+use Rattle.pm_frames.specs.declared.relay.RelayFrame.TheVariants.{Child, Parent, Send, Expire, NewLimits, Resume}
 use Rattle.pm_services.specs.RelayAnswers.{OpenRelay}
 use Rattle.pm_system.specs.System.{System, bid_in_channel, price_in_channel}
 use Rattle.pm_system.specs.Expiry.{MayExpire}
@@ -40,20 +42,27 @@ pub record RelayStands (sys : System) (c : ℕ) (relay : OpenRelay) : Type 0 whe
 
 -- ---- what it may come back with
 
--- what was stored is of the newest bid of node c, and of a price that it took, or of one before
-pub record IsKept (sys : System) (c : ℕ) (stored : StoredRelay) : Type 0 where
+-- the numbers of a node's children, each in its child's place, as a cut
+abbrev pub numbers_in_places : Numbering → List ℕ → Cut
+numbers_in_places numbering numbers x = child_number numbers (numbering.place x)
+
+-- What was stored is of the newest bid of node c, with the limits that this bid was made under, which are those that the numbers
+-- in it give; and of a price that it took, or of one before.
+pub record IsKept (p : Pricing) (numbering : Numbering) (sys : System) (c : ℕ) (stored : StoredRelay) : Type 0 where
   pub last : stored.last ≡ newest_bid_number (sys.relays c)
   pub numbers : stored.numbers ≡ (sys.relays c).recorded
+  pub limits : p.limits c (numbers_in_places numbering stored.numbers) ≡ Some stored.limits
   pub price : IsOfPrice sys c stored.answered stored.index
   pub older : stored.index ≤ (sys.relays c).index
 
--- what is stored before anything is
-abbrev pub nothing_stored : StoredRelay
-nothing_stored = record { last = 0; answered = 0; index = 0; numbers = replicate most_nodes 0 }
+-- what is stored before anything is, of a relay that comes up with these limits
+abbrev pub nothing_stored : Limits → StoredRelay
+nothing_stored limits' = record { last = 0; answered = 0; index = 0; limits = limits'; numbers = replicate most_nodes 0 }
 
 -- ---- what it may be given
 
--- a Bid or Gone from a sender is a message of the child with that number
+-- A Bid or Gone from a sender is a message of the child with that number. To a relay it is of none that gives the relay its
+-- limits.
 pub record CarriesBid (lists : Lists) (p : Pricing) (numbering : Numbering) (sys : System) (y sender number : ℕ) (demand : Option (List ℤ)) : Type 0 where
   pub x : ℕ
   pub node : IsNode lists x
@@ -63,17 +72,33 @@ pub record CarriesBid (lists : Lists) (p : Pricing) (numbering : Numbering) (sys
   pub inside : place < length (sys.bids_sent x)
   pub number_is : number ≡ (bid_in_channel p sys x place).number
   pub demand_is : demand ≡ told_demand (bid_in_channel p sys x place)
+  pub passes : (y ≡ 0 → ⊥) → LimitsPassBy p y x
 
--- the child that is let go is a device, which under that number is no member
-pub record CarriesExpire (lists : Lists) (numbering : Numbering) (y sender number : ℕ) : Type 0 where
+-- Limits from a sender are those that the child with that number gives under the number of a message of its own. It asks for
+-- nothing: by that message it is no member.
+pub record CarriesLimits (lists : Lists) (p : Pricing) (numbering : Numbering) (sys : System) (c sender number : ℕ) (limits : Limits) : Type 0 where
+  pub x : ℕ
+  pub node : IsNode lists x
+  pub up : parent lists x ≡ c
+  pub sender_is : sender ≡ numbering.place x + 1
+  pub place : ℕ
+  pub inside : place < length (sys.bids_sent x)
+  pub number_is : number ≡ (bid_in_channel p sys x place).number
+  pub gone : (bid_in_channel p sys x place).gone ≡ true
+  pub gives : GivesLimits p c x number limits
+
+-- The child that is let go is a device, which under that number is no member; to a relay it is none that gives the relay its
+-- limits.
+pub record CarriesExpire (lists : Lists) (p : Pricing) (numbering : Numbering) (y sender number : ℕ) : Type 0 where
   pub x : ℕ
   pub up : parent lists x ≡ y
   pub node : IsNode lists x
   pub sender_is : sender ≡ numbering.place x + 1
   pub may : MayExpire lists x number
+  pub passes : (y ≡ 0 → ⊥) → LimitsPassBy p y x
 
--- Each message in a frame to relay c was sent: a Bid or Gone by the child that it names, a price to c. Of Send and Old nothing is
--- asked. Hello and Resume stand at the start of a life alone.
+-- Each message in a frame to relay c was sent: a Bid or Gone by the child that it names, limits by the child that gives them, a
+-- price to c. Of Send and Old nothing is asked. Hello and Resume stand at the start of a life alone.
 abbrev pub RelayMayRead : Lists → Pricing → Numbering → System → ℕ → RelayFrame → Type 0
 RelayMayRead lists p numbering sys c (Child (Hello basis)) = ⊤
 RelayMayRead lists p numbering sys c (Child (Bid sender number demand)) = CarriesBid lists p numbering sys c sender number (Some demand)
@@ -82,8 +107,9 @@ RelayMayRead lists p numbering sys c (Child Clear) = ⊤
 RelayMayRead lists p numbering sys c (Parent (Price own number index step)) = PriceWasSent sys c (price_message number index step)
 RelayMayRead lists p numbering sys c (Parent (Old own kept)) = ⊤
 RelayMayRead lists p numbering sys c Send = ⊤
-RelayMayRead lists p numbering sys c (Expire sender) = CarriesExpire lists numbering c sender
+RelayMayRead lists p numbering sys c (Expire sender) = CarriesExpire lists p numbering c sender
     (parents_number (known_number (sys.relays c).recorded (sys.relays c).gathered.cache.heads (sender - 1)))
+RelayMayRead lists p numbering sys c (NewLimits sender number limits) = CarriesLimits lists p numbering sys c sender number limits
 RelayMayRead lists p numbering sys c (Resume stored) = ⊥
 
 -- by an Expire the child with that number is let go, under the parent's next number for it; by no other frame is any
@@ -103,4 +129,4 @@ RelayLets lists numbering sys c frame d n = ⊥
 -- what a relay makes of a frame: some calls of c, after which its service stands for it again
 abbrev pub RelayFollows : Lists → Pricing → Numbering → (ℕ → ℕ → Type 0) → System → (c : ℕ) → OpenRelay → List (Output StoredRelay) → Type 0
 RelayFollows lists p numbering Lets sys c after outs =
-    Follows lists p numbering Lets (λ t stored. IsKept t c stored) (λ t. RelayStands t c after) sys c outs
+    Follows lists p numbering Lets (λ t stored. IsKept p numbering t c stored) (λ t. RelayStands t c after) sys c outs

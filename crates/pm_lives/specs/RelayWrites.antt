@@ -1,5 +1,6 @@
 -- What a relay's service answers, frame by frame.
 use Rattle.std.specs.Prelude.{◌≡◌, ◌⊎◌, ℕ, ◌+◌, ◌==◌, ◌&&◌, not, nat_le, if◌then◌else◌, ℤ, List, [], ◌∷◌, ◌++◌, Option, Some, None, false}
+use Rattle.pm_base.specs.declared.limits.Limits.{Limits}
 use Rattle.pm_bid.specs.declared.head.BidHead.{BidHead}
 use Rattle.pm_cache.specs.Cache.{kept_number}
 use Rattle.pm_session.specs.declared.price.PriceUpdate.{PriceUpdate}
@@ -9,7 +10,7 @@ use Rattle.pm_net.specs.Messages.{BidMessage, bid_message, price_message}
 use Rattle.pm_wire.specs.Answers.{answer_bytes}
 use Rattle.pm_wire.specs.declared.answer.Reply as reply
 use Rattle.pm_wire.specs.declared.frame.Frame.TheVariants.{Hello, Bid, Gone, Clear}
-use Rattle.pm_relay.specs.Relays.{RelayValue, newest_bid_number, record_at, with_child_bid, LooksForRecord, BidSent, NotSent, TakesPrice}
+use Rattle.pm_relay.specs.Relays.{RelayValue, newest_bid_number, record_at, with_child_bid, with_new_limits, limits_of_number, LooksForRecord, BidSent, NotSent, TakesPrice}
 use Rattle.pm_relay.specs.Numbers.{known_number, parents_number}
 use Rattle.pm_relay.specs.declared.fault.SendFault.{SendFault}
 use Rattle.pm_relay.specs.declared.outcome.PriceOutcome.{PriceOutcome}
@@ -18,7 +19,7 @@ use Rattle.pm_frames.specs.Stored.{StoredRelay}
 use Rattle.pm_frames.specs.Answers.{dropped_bytes}
 use Rattle.pm_frames.specs.declared.parent.ParentFrame.TheVariants.{Price, Old}
 use Rattle.pm_frames.specs.declared.relay.RelayFrame.{RelayFrame}
-use Rattle.pm_frames.specs.declared.relay.RelayFrame.TheVariants.{Child, Parent, Send, Expire, Resume}
+use Rattle.pm_frames.specs.declared.relay.RelayFrame.TheVariants.{Child, Parent, Send, Expire, NewLimits, Resume}
 use Rattle.pm_services.specs.Receipts.{sender_place}
 use Rattle.pm_services.specs.RelayAnswers.{OpenRelay, stored_relay, dropped_with, waiting_after, not_sent_reply}
 use Rattle.pm_lives.specs.Outputs.{Output, Up, Down, Keeps, Says}
@@ -51,7 +52,7 @@ drop_outs (Some first) price = Says (dropped_with (Some first) price) ∷ []
 
 abbrev pub price_outs : Option PriceUpdate → RelayValue → PriceUpdate → PriceOutcome → List (Output StoredRelay)
 price_outs waiting r price PassedOn =
-    downs price.index (settled_step_of_record r.gathered.limits price.step (record_at r price.number).sum) 0 (record_at r price.number).heads
+    downs price.index (settled_step_of_record (limits_of_number r price.number) price.step (record_at r price.number).sum) 0 (record_at r price.number).heads
     ++ Keeps (stored_relay r) ∷ []
 price_outs waiting r price Alone = Keeps (stored_relay r) ∷ []
 price_outs waiting r price Waits = drop_outs waiting price
@@ -70,6 +71,15 @@ WritesWaiting (Some price) relay' new outs = WritesPrice (record { relay = relay
 pub record WritesBid (old : OpenRelay) (sender number : ℕ) (demand : Option (List ℤ)) (new : OpenRelay) (outs : List (Output StoredRelay)) : Type 0 where
   pub learnt : RelayValue
   pub looks : LooksForRecord (with_child_bid old.relay (sender_place sender) number demand) learnt
+  pub waiting_reply : List (Output StoredRelay)
+  pub tries : WritesWaiting old.waiting learnt new waiting_reply
+  pub replied : outs ≡
+      receipt_outs (kept_number old.relay.gathered.cache (sender_place sender)) sender number ++ (again_outs old.relay learnt ++ waiting_reply)
+
+-- new limits are learnt under their number, as a child's bid is
+pub record WritesLimits (old : OpenRelay) (sender number : ℕ) (limits : Limits) (new : OpenRelay) (outs : List (Output StoredRelay)) : Type 0 where
+  pub learnt : RelayValue
+  pub looks : LooksForRecord (with_new_limits old.relay (sender_place sender) number limits) learnt
   pub waiting_reply : List (Output StoredRelay)
   pub tries : WritesWaiting old.waiting learnt new waiting_reply
   pub replied : outs ≡
@@ -110,4 +120,5 @@ WritesRelay old (Parent (Price own number index step)) new outs =
 WritesRelay old (Parent (Old own kept)) new outs = IsQuiet old new outs
 WritesRelay old Send new outs = WritesSend old new outs
 WritesRelay old (Expire sender) new outs = WritesExpire old sender new outs
+WritesRelay old (NewLimits sender number limits) new outs = WritesLimits old sender number limits new outs
 WritesRelay old (Resume stored) new outs = ⊥

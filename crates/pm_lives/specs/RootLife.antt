@@ -26,7 +26,7 @@ RootMayRead lists p numbering sys (Market (Bid sender number demand)) = CarriesB
 RootMayRead lists p numbering sys (Market (Gone sender number)) = CarriesBid lists p numbering sys 0 sender number None
 RootMayRead lists p numbering sys (Market Clear) = ⊤
 RootMayRead lists p numbering sys (Expire sender) =
-    CarriesExpire lists numbering 0 sender (parents_number (known_number sys.root.recorded sys.root.auction.cache.heads (sender - 1)))
+    CarriesExpire lists p numbering 0 sender (parents_number (known_number sys.root.recorded sys.root.auction.cache.heads (sender - 1)))
 RootMayRead lists p numbering sys (Resume stored) = ⊥
 
 abbrev pub root_number : System → ℕ → ℕ

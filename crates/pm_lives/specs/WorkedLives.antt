@@ -27,7 +27,7 @@ small_steps = RootUp ∷ RelayUp 1 ∷ DeviceUp 2 0 ∷ DeviceUp 3 0 ∷ Device 
 
 pub record LivesSettle : Type 0 where
   pub world : World
-  pub none : IsNewWorld world
+  pub none : IsNewWorld small_pricing world
   pub new : World
   pub live : Live small_tree small_pricing small_places world small_steps new
   pub settled : IsSettledWorld small_tree small_places new

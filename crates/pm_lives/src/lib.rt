@@ -26,8 +26,11 @@ ghost use Rattle.pm_lives.specs.DeviceLife.{AgentStands, DeviceMayRead, told_of,
 ghost use Rattle.pm_lives.specs.DeviceWrites.{device_outs};
 ghost use Rattle.pm_system.specs.Given.{IsStarted};
 ghost use Rattle.pm_lives.specs.Lives.{World, LifeStep, Live, IsNewWorld, LivesAreCalls, LivesKeepTheLaw};
-ghost use Rattle.std.specs.Prelude.{◌≤◌, Option};
+ghost use Rattle.std.specs.Prelude.{◌≤◌, Option, true};
+ghost use Rattle.pm_market.specs.State.{no_changes};
+ghost use Rattle.pm_relay_net.specs.RelayIs.{LimitsPassBy, GivesLimits};
 ghost use Rattle.std.specs.List.{AllByRecursion};
+ghost use Rattle.pm_base.specs.Cuts.{Cut};
 ghost use Rattle.pm_base.specs.declared.limits.Limits.{Limits};
 ghost use Rattle.pm_net.specs.Agents.{Offer};
 ghost use Rattle.pm_frames.specs.Stored.{relay_resume_bytes, root_resume_bytes, agent_resume_bytes};
@@ -46,7 +49,7 @@ ghost use Rattle.pm_frames.specs.declared.place.NodePlace.{NodePlace};
 ghost use Rattle.pm_frames.specs.declared.place.Stage.{Stage};
 ghost use Rattle.pm_services.specs.RelayAnswers.{RelayServiceValue};
 ghost use Rattle.pm_lives.specs.Outputs.{PriceWasSent, BidWasSent, up_bytes, down_bytes};
-ghost use Rattle.pm_lives.specs.Carrying.{bid_frame, price_frame, RelayIsGiven, RelayIsBack, RootIsGiven, RootIsBack, DeviceIsBack};
+ghost use Rattle.pm_lives.specs.Carrying.{bid_frame, limits_frame, price_frame, RelayIsGiven, RelayIsBack, RootIsGiven, RootIsBack, DeviceIsBack};
 ghost use Rattle.pm_frames.specs.Stored.{IsNewestAccepted};
 ghost use Rattle.pm_frames.specs.declared.stored.StoredAgent.{StoredAgent};
 ghost use Rattle.pm_services.specs.DeviceAnswers.{DeviceServiceValue, AnswersDevice};
@@ -83,7 +86,8 @@ pub fn relay_frames_are_calls()
         WritesRelay old frame after outs →
         RelayFollows lists p numbering (RelayLets lists numbering sys c frame) sys c after outs }
 {
-    // The call tells a fact: to let a child go is two calls of the system.
+    // The calls tell facts: what runs the market goes on to, and to let a child go is two calls of the system.
+    systems_run_the_market();
     expiring_is_two_calls();
 }
 
@@ -116,11 +120,11 @@ pub fn device_frames_are_calls()
 pub fn lives_keep_the_law()
     ensures run { (lists : Lists) (p : Pricing) (numbering : Numbering) (start : System)
         (world new : World) (steps : List LifeStep) → IsTreeMarket lists p numbering →
-        IsStarted lists p start → IsNewWorld world → Live lists p numbering world steps new →
+        IsStarted lists p start → IsNewWorld p world → Live lists p numbering world steps new →
         LivesAreCalls lists p numbering start steps new }
     ensures law { (lists : Lists) (p : Pricing) (numbering : Numbering) (start : System)
         (world new : World) (steps : List LifeStep) → IsTreeMarket lists p numbering →
-        IsStarted lists p start → IsNewWorld world → Live lists p numbering world steps new →
+        IsStarted lists p start → IsNewWorld p world → Live lists p numbering world steps new →
         LivesKeepTheLaw lists p new }
 {
     // The calls tell facts: what runs of a system are, and that to let a child go is two calls of it.
@@ -137,7 +141,7 @@ pub fn lives_keep_the_law()
 pub fn settled_lives_are_current()
     ensures current { (lists : Lists) (p : Pricing) (numbering : Numbering) (start : System)
         (world new : World) (steps : List LifeStep) → IsTreeMarket lists p numbering →
-        IsStarted lists p start → IsNewWorld world → Live lists p numbering world steps new →
+        IsStarted lists p start → IsNewWorld p world → Live lists p numbering world steps new →
         IsSettledWorld lists numbering new → IsCurrentWorld lists p numbering steps new }
     ensures flows { (lists : Lists) (p : Pricing) (numbering : Numbering) (world : World) →
         IsTreeMarket lists p numbering →
@@ -145,7 +149,7 @@ pub fn settled_lives_are_current()
         (TakeWhatWasTold lists p (numbers_counted lists numbering world.seen) world.seen) }
     ensures rising { (lists : Lists) (p : Pricing) (numbering : Numbering) (start : System)
         (world new : World) (steps : List LifeStep) (d : ℕ) → IsTreeMarket lists p numbering →
-        IsStarted lists p start → IsNewWorld world → Live lists p numbering world steps new →
+        IsStarted lists p start → IsNewWorld p world → Live lists p numbering world steps new →
         IsLeaf lists d → BeginsOnce d steps →
         AllPairs (λ (a b : Setpoint). a.index < b.index) (new.seen.setpoints d) }
 {
@@ -168,8 +172,8 @@ pub fn small_lives_settle()
 /// with the same steps and limits, of which these are lives. So what the laws over lives ask of the lists can be met always.
 pub fn lists_are_there()
     ensures { (tree : Lists) (p : Pricing) (numbering : Numbering) → IsTreeMarket tree p numbering →
-        ((x : ℕ) (l : Limits) → p.limits x ≡ Some l → AreLimits l) →
-        (world new : World) (steps : List LifeStep) → IsNewWorld world →
+        ((x : ℕ) (cut : Cut) (l : Limits) → p.limits x cut ≡ Some l → AreLimits l) →
+        (world new : World) (steps : List LifeStep) → IsNewWorld p world →
         LiveFree tree p numbering world steps new → HasLists tree p numbering world steps new }
 {}
 
@@ -192,10 +196,19 @@ pub fn answers_are_frames()
 pub fn frames_are_carried()
     ensures relay_bids { (lists : Lists) (p : Pricing) (numbering : Numbering) (sys : System)
         (x : ℕ) → IsNode lists x → (bid : BidMessage) → BidWasSent p sys x bid → (c : ℕ) →
-        parent lists x ≡ c → (place : NodePlace) (frame : RelayFrame) (more behind : List ℕ) →
+        parent lists x ≡ c → LimitsPassBy p c x → (place : NodePlace) (frame : RelayFrame) (more behind : List ℕ) →
         IsRelayFormed place frame →
         IsRelayFormed place (RelayFrame.Child (bid_frame (numbering.place x + 1) bid)) →
         relay_frame_bytes frame ++ more ≡ up_bytes (numbering.place x + 1) bid ++ behind →
+        RelayMayRead lists p numbering sys c frame × (more ≡ behind) }
+    ensures relay_limits { (lists : Lists) (p : Pricing) (numbering : Numbering) (sys : System)
+        (x : ℕ) → IsNode lists x → (bid : BidMessage) → BidWasSent p sys x bid → (c : ℕ) →
+        parent lists x ≡ c → bid.gone ≡ true → (limits : Limits) →
+        GivesLimits p c x bid.number limits → (place : NodePlace) (frame : RelayFrame)
+        (more behind : List ℕ) → IsRelayFormed place frame →
+        IsRelayFormed place (limits_frame (numbering.place x + 1) bid limits) →
+        relay_frame_bytes frame ++ more
+        ≡ relay_frame_bytes (limits_frame (numbering.place x + 1) bid limits) ++ behind →
         RelayMayRead lists p numbering sys c frame × (more ≡ behind) }
     ensures root_bids { (lists : Lists) (p : Pricing) (numbering : Numbering) (sys : System)
         (x : ℕ) → IsNode lists x → (bid : BidMessage) → BidWasSent p sys x bid →
@@ -238,9 +251,10 @@ pub fn lives_begin()
 /// that Resume and sends the bid.
 pub fn a_cut_life_goes_on()
     ensures { (lists : Lists) (p : Pricing) (numbering : Numbering) (root : RootValue)
-        (relays : ℕ → RelayValue) (demand : List ℤ) → IsLeaf lists 1 →
-        IsGivenOffer lists p 1 2 demand →
-        GoesOn lists p numbering (new_world root relays) demand }
+        (relays : ℕ → RelayValue) (limits : ℕ → Limits) (demand : List ℤ) →
+        ((c : ℕ) (l : Limits) → p.limits c no_changes ≡ Some l → limits c ≡ l) →
+        IsLeaf lists 1 → IsGivenOffer lists p 1 2 demand →
+        GoesOn lists p numbering (new_world root relays limits) demand }
 {}
 
 /// A law: a stream that is cut at any byte is some first frames, whole, and nothing else or a part of the next one.

@@ -4,10 +4,10 @@ use Rattle.pm_lives.proofs.lives_keep_the_law.Goals as goal
 
 pub returns-clause-run : goal.returns-clause-run
 returns-clause-run c lists p numbering start world new steps market started none live =
-    lives_are_calls lists p numbering market c.expiring_is_two_calls.ensures.relay c.expiring_is_two_calls.ensures.root
-    c.systems_run_the_market.ensures.run start started world new steps none live
+    lives_are_calls lists p numbering market c.systems_run_the_market.ensures.goes_on c.expiring_is_two_calls.ensures.relay
+    c.expiring_is_two_calls.ensures.root c.systems_run_the_market.ensures.run start started world new steps none live
 
 pub returns-clause-law : goal.returns-clause-law
 returns-clause-law c lists p numbering start world new steps market started none live =
-    lives_keep_the_law lists p numbering market c.expiring_is_two_calls.ensures.relay c.expiring_is_two_calls.ensures.root
-    c.systems_run_the_market.ensures.run start started c.systems_run_the_market.ensures.named world new steps none live
+    lives_keep_the_law lists p numbering market c.systems_run_the_market.ensures.goes_on c.expiring_is_two_calls.ensures.relay
+    c.expiring_is_two_calls.ensures.root c.systems_run_the_market.ensures.run start started c.systems_run_the_market.ensures.named world new steps none live
