@@ -88,6 +88,9 @@ OTHER_MEANINGS = [
     ("pm_wire/specs/Answers.antt", "the first bytes of answers"),
     ("pm_wire/specs/Services.antt", "the first byte of a fault"),
     ("pm_wire/src/answer.rt", "the first bytes of answers"),
+    ("pm_net/specs/SmallDevices.antt", "runs written out"),
+    ("pm_system/proofs/WorkedEnd.antt", "a run written out"),
+    ("pm_system/proofs/WorkedGiven.antt", "a run written out"),
     ("market/src/main.rt", "an exit status"),
     ("live/src/main.rt", "an exit status"),
 ]

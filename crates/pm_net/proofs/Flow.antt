@@ -1,5 +1,6 @@
 -- What the devices below a node take together is what the node announced.
-use Rattle.std.proofs.Common.{◌≡◌, ◌∙◌, sym, ap, subst, ℕ, zero, suc, ◌+◌, ◌<◌, ◌≤◌, true, ℤ, pos, ◌+ℤ◌, ◌≤ℤ◌, cond, eqb, List, length, Option, Some, None}
+use Rattle.std.proofs.Common.{◌≡◌, ◌∙◌, sym, ap, subst, ℕ, zero, suc, ◌+◌, ◌<◌, ◌≤◌, true, ℤ, pos, ◌+ℤ◌}
+use Rattle.std.proofs.Common.{◌≤ℤ◌, cond, eqb, List, length, Option, Some, None}
 use Rattle.std.proofs.Common.{inl, inr, refl, arith}
 use Rattle.std.proofs.lemmas.Bool.{cases_eq, cases_Bool, cond-true, cond-false, eqb-true}
 use Rattle.pm_base.specs.Cuts.{Cut}
@@ -43,7 +44,7 @@ module _ (lists : Lists) (law : Lawful lists) (p : Pricing) (by : GoesByNodes li
         ∙ adds.long x (λ z. p.offer z cut) (λ z z_node up. long_below n z z_node (omega (arith, over, law.earlier z z_node, up)))
   ]
 
-  pub offer_long : (x : ℕ) → IsNode lists x → length (p.offer x cut) ≡ p.steps
+  offer_long : (x : ℕ) → IsNode lists x → length (p.offer x cut) ≡ p.steps
   offer_long x node = long_below (suc (nodes lists)) x node (omega arith)
 
   -- so has each sum
@@ -122,6 +123,7 @@ module _ (lists : Lists) (law : Lawful lists) (p : Pricing) (by : GoesByNodes li
         ∙ ap (λ (b : List ℤ). demand_at b (p.local cut x)) (sym (by.relay x cut conc))
   ]
 
+  -- what the devices below a node take is what it offers at its own step
   pub flows_as_offered : (x : ℕ) → IsNode lists x → SaysBelow lists p cut x → power_below lists p cut x ≡ demand_at (p.offer x cut) (p.local cut x)
   flows_as_offered x node says = node_below (suc (nodes lists)) x node (omega arith) says
 
@@ -206,7 +208,8 @@ unfolding sum_children
 adds_in_node_order lists a is some long = record {
   some = some;
   one_each = long;
-  long = λ y f each. ap (λ (add : ℕ → (ℕ → List ℤ) → List ℤ). length (add y f)) is ∙ long_to lists a.steps y f each (nodes lists) (omega arith);
+  long = λ y f each. ap (λ (add : ℕ → (ℕ → List ℤ) → List ℤ). length (add y f)) is ∙ long_to lists a.steps y f each (nodes lists)
+      (omega arith);
   adds = λ y k f each inside. ap (λ (add : ℕ → (ℕ → List ℤ) → List ℤ). demand_at (add y f) k) is
       ∙ added_to lists a.steps y f each k inside (nodes lists) (omega arith);
 }

@@ -13,6 +13,7 @@ pub number_leaf : (lists : Lists) (published : ℕ → List Cut) (x : ℕ) (cut 
 unfolding number_of
 number_leaf lists published x cut leaf = cond-true _ (cut x) (greatest_number lists (published x) x cut (length (published x))) leaf
 
+-- limits that a child gives, or that never change, go by the relay's devices
 pub given_alike : (lists : Lists) (limits : ℕ → ℕ → Option Limits) (giver : ℕ → ℕ) →
     ((c : ℕ) → IsChildDevice lists c (giver c) ⊎ HasOneLimit (limits c)) → LimitsGoByDevices lists (given_limits limits giver)
 given_alike lists limits giver gives c a b same = elim (gives c) [

@@ -80,8 +80,10 @@ shorter m (x ∷ xs) a are le =
 
 -- a number of the offers from low to high, each second one
 pub record IsAmong (low high n : ℕ) : Type 0 where
+  -- it is so many places of two numbers behind the lowest
   pub place : ℕ
   pub is : n ≡ low + (place + place)
+  -- and is below the end
   pub below : n < high
 
 -- what is found under a number
@@ -122,7 +124,8 @@ pub there : (n : ℕ) (xs : List Offer) (a place : ℕ) → AreFrom a xs → n �
     IsThere (find (λ (offer : Offer). eqb offer.number n) xs)
 there n [] a place are is to = absurd (omega (arith, is, to))
 there n (x ∷ xs) a zero are is to =
-    subst IsThere (sym (cond-true (eqb x.number n) (Some x) (find (λ (offer : Offer). eqb offer.number n) xs) (eq-eqb x.number n (omega (arith, are.0, is))))) tt
+    subst IsThere
+    (sym (cond-true (eqb x.number n) (Some x) (find (λ (offer : Offer). eqb offer.number n) xs) (eq-eqb x.number n (omega (arith, are.0, is))))) tt
 there n (x ∷ xs) a (suc place) are is to =
     either IsThere (eqb x.number n) (Some x) (find (λ (offer : Offer). eqb offer.number n) xs) (λ e. tt)
     (λ e. there n xs (a + 2) place are.1 (omega (arith, is)) (omega (arith, to)))
@@ -228,7 +231,8 @@ module _ (lists : Lists) (p : Pricing) (d : ℕ) where
   finds count index agent is n = found lists p d n agent.offers is.window.first is.offers is.window.are_from
 
   answers : (count index : ℕ) (agent : DeviceAgent) → (is : AgentIs lists p d count index agent) → (price : PriceMessage) (o : Option Offer) →
-      Fits lists p d is.window.first (is.window.first + (length agent.offers + length agent.offers)) price.number o → AgentIs lists p d count price.index (answered_by agent price o)
+      Fits lists p d is.window.first (is.window.first + (length agent.offers + length agent.offers)) price.number o →
+      AgentIs lists p d count price.index (answered_by agent price o)
   answers count index agent is price None fits = record {
     half = is.half;
     even = is.even;
@@ -324,7 +328,8 @@ module _ (lists : Lists) (p : Pricing) (d : ℕ) where
         All (IsRight lists p s d) xs →
         All (IsRight lists p s d) (xs ++ setpoints_of price (kept_offer agent price.number))
     gives_right count index agent is xs all =
-        right is.window.first (is.window.first + (length agent.offers + length agent.offers)) (kept_offer agent price.number) (finds count index agent is price.number) xs all
+        right is.window.first (is.window.first + (length agent.offers + length agent.offers)) (kept_offer agent price.number)
+        (finds count index agent is price.number) xs all
 
 -- setpoints of a greater index than those before them
 module _ (price : PriceMessage) where

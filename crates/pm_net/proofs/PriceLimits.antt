@@ -20,5 +20,6 @@ module _ (lists : Lists) (law : Lawful lists) (p : Pricing) (s : State) (sound :
       (cleared_is_part lists law s sound c price.index node within.1).0 d leaf
       ∙ ap (λ (n : ℕ). part lists s c n d) (sym (ap (λ (q : PriceMessage). q.number) its.1))
 
+  -- the limits over the clearing's cut are those over the part of the number that its price names
   pub same_limits : GoesByNodes lists p → p.limits c (cleared_cut s price.index) ≡ p.limits c (part lists s c price.number)
   same_limits by = by.limits_alike c (cleared_cut s price.index) (part lists s c price.number) (λ d node leaf up. same_given d (node, leaf, up))

@@ -148,12 +148,14 @@ module _ (lists : Lists) (law : Lawful lists) (p : Pricing) (by : GoesByNodes li
           ap (λ (i : ℕ). (net.records i n z).number) (sym up) ∙ ap (λ (b : BidMessage). b.number) (agrees.records z n z_node has le)
           ∙ number_leaf lists s.published z (cut_at (s.published c) n) leaf ∙ ap (λ (i : ℕ). cut_at (s.published i) n z) up)
 
-      its_relay : IsItsBid lists p s x (bid_message n false (announced (p.limits x (numbers_of (net.records x n))) (p.add x (λ z. (net.records x n z).demand))))
+      its_relay : IsItsBid lists p s x
+          (bid_message n false (announced (p.limits x (numbers_of (net.records x n))) (p.add x (λ z. (net.records x n z).demand))))
       its_relay =
           let gone : is_gone lists x n ≡ false = gone_inner lists x n inner ∙ ne_eqb n 0 (λ e. omega (arith, e, whole.1)) in
           let demand : announced (p.limits x (numbers_of (net.records x n))) (p.add x (λ z. (net.records x n z).demand)) ≡ p.offer x (part lists s x n) =
           ap (λ v. announced v (p.add x (λ z. (net.records x n z).demand))) limits_are
-          ∙ ap (announced (p.limits x (cut_at (s.published x) n))) (by.sums x (λ z. (net.records x n z).demand) (λ z. p.offer z (cut_at (s.published x) n)) demand_is)
+          ∙ ap (announced (p.limits x (cut_at (s.published x) n)))
+          (by.sums x (λ z. (net.records x n z).demand) (λ z. p.offer z (cut_at (s.published x) n)) demand_is)
           ∙ sym (by.relay x (cut_at (s.published x) n) conc) ∙ ap (p.offer x) (sym (part_inner lists s.published x n inner)) in (
             omega (arith, newest_inner lists s.counts s.published x inner, agrees.last_number x inner),
             ap (λ g. bid_message n g (announced (p.limits x (numbers_of (net.records x n))) (p.add x (λ z. (net.records x n z).demand)))) (sym gone)
@@ -165,7 +167,9 @@ module _ (lists : Lists) (law : Lawful lists) (p : Pricing) (by : GoesByNodes li
 
     its : IsItsBid lists p s x bid
     its = either (IsItsBid lists p s x) (is_leaf lists x) (device_bid lists p x (net.counts x))
-        (bid_message (net.last_number x) false (announced (p.limits x (numbers_of (net.records x (net.last_number x)))) (p.add x (λ z. (net.records x (net.last_number x) z).demand)))) its_device its_relay
+        (bid_message (net.last_number x) false
+        (announced (p.limits x (numbers_of (net.records x (net.last_number x)))) (p.add x (λ z. (net.records x (net.last_number x) z).demand))))
+        its_device its_relay
 
     -- a bid that is sent again: no move
     pub resending : GoesOn lists p s (after_resending lists p net x)

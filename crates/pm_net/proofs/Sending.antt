@@ -115,7 +115,8 @@ module _ (lists : Lists) (law : Lawful lists) (p : Pricing) (by : GoesByNodes li
       ∙ ap (announced (p.limits c (knowledge lists knows c))) (adding.sum_is lists law p by net s agrees c inner l sound here)
       ∙ sym (by.relay c (knowledge lists knows c) conc) ∙ ap (p.offer c) (sym its_part) in (
         omega (arith, number_is, has.newest_added),
-        ap (λ g. bid_message n g (announced (p.limits c (numbers_of net.heard)) (heard_sum p net c))) (sym gone) ∙ ap (bid_message n (is_gone lists c n)) demand,
+        ap (λ g. bid_message n g (announced (p.limits c (numbers_of net.heard)) (heard_sum p net c))) (sym gone)
+            ∙ ap (bid_message n (is_gone lists c n)) demand,
       )
 
   kept_bid : (x : ℕ) (bid : BidMessage) → IsItsBid lists p s x bid → IsItsBid lists p next x bid

@@ -46,7 +46,7 @@ own_is lists p net s agrees x = elim (cases_Bool (is_leaf lists x)) [
 ]
 
 -- an auctioneer that cannot clear has no news
-none_at_root : (lists : Lists) (net : Network) → can_clear lists net ≡ false → is_caught_up lists net 0 ≡ true → has_news lists net 0 ≡ false
+pub none_at_root : (lists : Lists) (net : Network) → can_clear lists net ≡ false → is_caught_up lists net 0 ≡ true → has_news lists net 0 ≡ false
 unfolding can_clear
 none_at_root lists net cannot caught = elim (cases_Bool (has_news lists net 0)) [
   | inr e ↦ e
@@ -54,7 +54,7 @@ none_at_root lists net cannot caught = elim (cases_Bool (has_news lists net 0)) 
 ]
 
 -- a child is gone then where the last clearing does not address it
-root_gone : (lists : Lists) → Lawful lists → (p : Pricing) (net : Network) (s : State) → NetworkAgrees lists p net s →
+pub root_gone : (lists : Lists) → Lawful lists → (p : Pricing) (net : Network) (s : State) → NetworkAgrees lists p net s →
     has_news lists net 0 ≡ false → (x : ℕ) →
     IsNode lists x → parent lists x ≡ 0 → (net.heard x).gone ≡ not (addresses lists s (clearings s) x)
 root_gone lists law p net s agrees none x node up =

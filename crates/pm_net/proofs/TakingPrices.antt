@@ -411,8 +411,10 @@ module _ (lists : Lists) (law : Lawful lists) (p : Pricing) (by : GoesByNodes li
             let conc' : IsConcentrator lists (parent lists y) = subst (λ (z : ℕ). IsConcentrator lists z) (sym up) conc in
             ap (settled_step (p.limits x (numbers_of basis)) price.step) sum_is
             ∙ ap (λ l. settled_step l price.step (p.add x (λ z. p.offer z (cleared_cut s j)))) limits_are
-            ∙ ap (λ (i : ℕ). settled_step (p.limits x (cleared_cut s j)) i (p.add x (λ z. p.offer z (cleared_cut s j)))) (ap (λ (q : PriceMessage). q.step) its.1)
-            ∙ ap (λ (z : ℕ). settled_step (p.limits z (cleared_cut s j)) (p.local (cleared_cut s j) z) (p.add z (λ w. p.offer w (cleared_cut s j)))) (sym up)
+            ∙ ap (λ (i : ℕ). settled_step (p.limits x (cleared_cut s j)) i (p.add x (λ z. p.offer z (cleared_cut s j))))
+            (ap (λ (q : PriceMessage). q.step) its.1)
+            ∙ ap (λ (z : ℕ). settled_step (p.limits z (cleared_cut s j)) (p.local (cleared_cut s j) z)
+            (p.add z (λ w. p.offer w (cleared_cut s j)))) (sym up)
             ∙ sym (by.below y (cleared_cut s j) y_node conc')
 
         price_is : price_message (basis y).number j the_step ≡ price_of_clearing lists p s y j

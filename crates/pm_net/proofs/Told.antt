@@ -1,5 +1,6 @@
 -- While a device does not restart, its control is told the price of its newest bid; so in a settled network it was.
-use Rattle.std.proofs.Common.{◌≡◌, ◌∙◌, sym, ap, subst, ℕ, ◌+◌, ◌-◌, ◌<◌, ◌≤◌, true, cond, ltb, eqb, ◌&&◌, inl, inr, List, []}
+use Rattle.std.proofs.Common.{◌≡◌, ◌∙◌, sym, ap, subst, ℕ, ◌+◌, ◌-◌, ◌<◌, ◌≤◌, true, cond, ltb, eqb, ◌&&◌, inl}
+use Rattle.std.proofs.Common.{inr, List, []}
 use Rattle.std.proofs.Common.{◌∷◌, ◌++◌, length, get_or, Option, Some, None, refl, arith, pos}
 use Rattle.std.proofs.lemmas.Bool.{cases_eq, cases_Bool, cond-true, cond-false, both_ways}
 use Rattle.std.proofs.lemmas.List.{append-nil, get_or_default}
@@ -265,10 +266,12 @@ told_run lists law one p by (e ∷ es) devices s agree d leaf told runs =
     (told_step lists law one p by devices s agree d leaf told e runs.0) runs.1
 
 -- where d holds the price of the newest clearing, and that is over all numbers, its control was told what is current
-pub told_where_held : (lists : Lists) (law : Lawful lists) (one : phases lists ≡ 1) (p : Pricing) (by : GoesByNodes lists p) (events : List Event) (d : ℕ) →
+pub told_where_held : (lists : Lists) (law : Lawful lists) (one : phases lists ≡ 1) (p : Pricing) (by : GoesByNodes lists p) (events : List Event)
+    (d : ℕ) →
     IsLeaf lists d → RunsOn d events →
     (devices_after lists p (start_devices p) events).net.taken d
-    ≡ price_message ((devices_after lists p (start_devices p) events).net.counts d) (clearings (after_from lists start (run_from_start lists law one p by events).moves))
+    ≡ price_message ((devices_after lists p (start_devices p) events).net.counts d)
+    (clearings (after_from lists start (run_from_start lists law one p by events).moves))
     (p.local (devices_after lists p (start_devices p) events).net.counts d) →
     ((e : ℕ) → IsLeaf lists e →
     cleared_cut (after_from lists start (run_from_start lists law one p by events).moves)

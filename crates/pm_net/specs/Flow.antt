@@ -24,13 +24,15 @@ sum_of_offers p cut y = p.add y (λ x. p.offer x cut)
 pub record AddsUp (lists : Lists) (p : Pricing) : Type 0 where
   pub some : 1 ≤ p.steps
   pub one_each : (d n : ℕ) → IsLeaf lists d → length (p.demand d n) ≡ p.steps
-  pub long : (y : ℕ) (f : ℕ → List ℤ) → ((x : ℕ) → IsNode lists x → parent lists x ≡ y → length (f x) ≡ p.steps) → length (p.add y f) ≡ p.steps
+  pub long : (y : ℕ) (f : ℕ → List ℤ) → ((x : ℕ) → IsNode lists x → parent lists x ≡ y → length (f x) ≡ p.steps) →
+      length (p.add y f) ≡ p.steps
   pub adds : (y k : ℕ) (f : ℕ → List ℤ) → ((x : ℕ) → IsNode lists x → parent lists x ≡ y → length (f x) ≡ p.steps) → k < p.steps →
       demand_at (p.add y f) k ≡ sum_children lists y (λ x. demand_at (f x) k)
 
 -- each relay that is x or stands below it can say in a bid what is taken where it settles
 abbrev pub SaysBelow : Lists → Pricing → Cut → ℕ → Type 0
-SaysBelow lists p cut x = (c : ℕ) → IsConcentrator lists c → is_below lists x c ≡ true → CanSay (p.limits c cut) (p.local cut c) (sum_of_offers p cut c)
+SaysBelow lists p cut x = (c : ℕ) → IsConcentrator lists c → is_below lists x c ≡ true →
+    CanSay (p.limits c cut) (p.local cut c) (sum_of_offers p cut c)
 
 -- each of these relays has some step of its sum within its limits
 abbrev pub HaveStepsWithin : Lists → Pricing → Cut → ℕ → Type 0

@@ -25,7 +25,8 @@ ghost use Rattle.pm_net.specs.Agrees.{price_of_clearing, HoldsIts, NetworkAgrees
 ghost use Rattle.pm_net.specs.Settled.{IsSettledNetwork, AllTaken};
 ghost use Rattle.pm_net.specs.HeldPrice.{goes_by, IsOfItsClearing};
 ghost use Rattle.pm_net.specs.TreeAuction.{TreeDemand, IsTreeDemand, add_below, tree_pricing, AreAsGood, with_limits};
-ghost use Rattle.pm_net.specs.SmallRuns.{one_relay, run_of, limited_run_of, device_holds, cleared_once, index_held, with_skipped_price, window_sent, with_giver, changing_run, with_new_limits};
+ghost use Rattle.pm_net.specs.SmallRuns.{one_relay, run_of, limited_run_of, device_holds, cleared_once, index_held, with_skipped_price, window_sent};
+ghost use Rattle.pm_net.specs.SmallRuns.{with_giver, changing_run, with_new_limits};
 
 mod devices;
 mod taken;
@@ -256,21 +257,25 @@ pub fn limits_change_as_worked_out()
     ensures not_before { (changing_run (with_new_limits [])).bids_sent 1
         ≡ bid_message 1 false (pos 5 ∷ pos 5 ∷ []) ∷ [] }
     ensures next_bid { (changing_run (with_new_limits (Event.Sends 1 ∷ []))).bids_sent 1
-        ≡ bid_message 1 false (pos 5 ∷ pos 5 ∷ []) ∷ bid_message 2 false (pos 5 ∷ negsuc 2 ∷ []) ∷ [] }
+        ≡ bid_message 1 false (pos 5 ∷ pos 5 ∷ [])
+        ∷ bid_message 2 false (pos 5 ∷ negsuc 2 ∷ []) ∷ [] }
     ensures next_price { (changing_run (with_new_limits
-        (Event.Sends 1 ∷ Event.TakesBid 1 1 ∷ Event.Clears ∷ Event.TakesPrice 1 1 ∷ []))).prices_sent 2
+        (Event.Sends 1 ∷ Event.TakesBid 1 1 ∷ Event.Clears ∷ Event.TakesPrice 1 1
+        ∷ []))).prices_sent 2
         ≡ price_message 1 1 0 ∷ price_message 1 2 1 ∷ [] }
     // A bid that is sent again is the bid that it was.
     ensures sent_again { (changing_run (with_new_limits (Event.Resends 1 ∷ []))).bids_sent 1
         ≡ bid_message 1 false (pos 5 ∷ pos 5 ∷ []) ∷ bid_message 1 false (pos 5 ∷ pos 5 ∷ []) ∷ [] }
     // The same limits again are no news.
-    ensures no_news { can_send with_giver (changing_run (with_new_limits (Event.Sends 1 ∷ Event.TakesBid 3 0 ∷ []))) 1
+    ensures no_news { can_send with_giver
+        (changing_run (with_new_limits (Event.Sends 1 ∷ Event.TakesBid 3 0 ∷ []))) 1
         ≡ false }
     // A relay that restarts sends nothing until it has its limits again, and then has the record with them.
     ensures guarded { can_send with_giver (changing_run (with_new_limits
         (Event.Sends 1 ∷ Event.Restarts 1 0 ∷ Event.TakesBid 2 0 ∷ []))) 1 ≡ false }
     ensures again { (changing_run (with_new_limits
-        (Event.Sends 1 ∷ Event.TakesBid 1 1 ∷ Event.Clears ∷ Event.Restarts 1 0 ∷ Event.TakesBid 2 0 ∷ Event.TakesBid 3 0 ∷
+        (Event.Sends 1 ∷ Event.TakesBid 1 1 ∷ Event.Clears ∷ Event.Restarts 1 0
+        ∷ Event.TakesBid 2 0 ∷ Event.TakesBid 3 0 ∷
         Event.Rebuilds 1 ∷ Event.TakesPrice 1 1 ∷ []))).prices_sent 2
         ≡ price_message 1 1 0 ∷ price_message 1 2 1 ∷ [] }
 {}

@@ -25,7 +25,8 @@ pub fn devices_take_what_is_announced()
         (settled_step (p.limits c cut) (p.local cut c) (sum_of_offers p cut c)) }
     ensures within { (lists : Lists) (p : Pricing) (cut : Cut) (c : ℕ) (limits : Limits) →
         Lawful lists → GoesByNodes lists p → AddsUp lists p → IsConcentrator lists c →
-        SaysBelow lists p cut c → p.limits c cut ≡ Some limits → NeverRises (sum_of_offers p cut c) →
+        SaysBelow lists p cut c → p.limits c cut ≡ Some limits →
+        NeverRises (sum_of_offers p cut c) →
         HasStepWithin limits (sum_of_offers p cut c) →
         IsWithinLimits limits (power_below lists p cut c) }
     ensures root { (lists : Lists) (p : Pricing) (cut : Cut) → Lawful lists → GoesByNodes lists p →

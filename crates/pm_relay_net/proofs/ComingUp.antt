@@ -132,7 +132,8 @@ pub back_up : (lists : Lists) (p : Pricing) (numbering : Numbering) → IsNumber
     ComesBack p.steps limits (newest_bid_number old) (stored_price net c k).number (stored_price net c k).index old.recorded under new →
     RelayIs p numbering (after_restart lists p net c k) c new
 back_up lists p numbering is alike net limits under c k old new limited m under_is within back =
-    comes_up lists p numbering is alike (after_restart lists p net c k) limits under c (newest_bid_number old) (stored_price net c k).number (stored_price net c k).index
+    comes_up lists p numbering is alike (after_restart lists p net c k) limits under c (newest_bid_number old) (stored_price net c k).number
+    (stored_price net c k).index
     old.recorded new limited back
     (λ x node up. cond-true (eqb (parent lists x) c) (nothing_heard p) (net.heard x) (eq-eqb (parent lists x) c up))
     m.newest m.children

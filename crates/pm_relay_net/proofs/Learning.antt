@@ -84,7 +84,8 @@ module _ (lists : Lists) (p : Pricing) (numbering : Numbering) (is : IsNumbering
       let Match : Network → Type 0 = λ n. MatchesNode p numbering n c entered in
       elim (cases_lt (net.heard x).number bid.number) [
         | inl lt ↦ subst Match (sym (newer_taken lists p numbering is net x k node r.gathered.cache has none lt))
-            (with_cache cache r.gathered.limits m.limited.0 (m.limits ∙ same) (sym same ∙ m.limited.1) (newer_heard lists p numbering is net x k node r.gathered.cache has none lt))
+            (with_cache cache r.gathered.limits m.limited.0 (m.limits ∙ same) (sym same ∙ m.limited.1)
+            (newer_heard lists p numbering is net x k node r.gathered.cache has none lt))
         | inr ge ↦ subst Match (sym (older_left lists p numbering is net x k node r.gathered.cache has none ge))
             (same_relay cache (same_cache lists p numbering is net x k node r.gathered.cache has none ge))
       ]
@@ -95,7 +96,8 @@ module _ (lists : Lists) (p : Pricing) (numbering : Numbering) (is : IsNumbering
   enters_limits limits gone gives =
       let cache : Cache = after_learning r.gathered.cache (numbering.place x) bid.number (told_demand bid) in
       let alone : Cache = after_learning r.gathered.cache (numbering.place x) bid.number None in
-      let kept : kept_number r.gathered.cache (numbering.place x) ≡ (net.heard x).number = kept_is lists p numbering is net x k node r.gathered.cache has none in
+      let kept : kept_number r.gathered.cache (numbering.place x) ≡ (net.heard x).number =
+      kept_is lists p numbering is net x k node r.gathered.cache has none in
       let told : told_demand bid ≡ None = cond-true bid.gone None (Some bid.demand) gone in
       let newer : RelayValue = record r { gathered = record r.gathered { cache = alone; limits = Some limits } } in
       elim (cases_lt (net.heard x).number bid.number) [
@@ -108,7 +110,8 @@ module _ (lists : Lists) (p : Pricing) (numbering : Numbering) (is : IsNumbering
             (lt-ltb (kept_number r.gathered.cache (numbering.place x)) bid.number (omega (arith, kept, lt)))))
             (subst (λ (n : Network). Match n newer) (sym (newer_taken lists p numbering is net x k node r.gathered.cache has none lt))
             (with_cache alone (Some limits) limits (sym by) by
-            (subst (λ (d : Option (List ℤ)). HearsChildren p numbering (after_taking_bid net x bid) c (after_learning r.gathered.cache (numbering.place x) bid.number d))
+            (subst (λ (d : Option (List ℤ)). HearsChildren p numbering (after_taking_bid net x bid) c
+            (after_learning r.gathered.cache (numbering.place x) bid.number d))
             told (newer_heard lists p numbering is net x k node r.gathered.cache has none lt))))
         | inr ge ↦
             let Match : Network → RelayValue → Type 0 = λ n q. MatchesNode p numbering n c q in

@@ -81,6 +81,7 @@ module _ (lists : Lists) (p : Pricing) (numbering : Numbering) (is : IsNumbering
         )
       ]
 
+  -- an auctioneer that heard of each child what is in its clearing, and learnt nothing since, has no news
   pub no_news : HearsAll r → r.auction.changed ≡ false → has_news lists net 0 ≡ false
   no_news all same = level lists net 0
       (children.caught_to lists numbering is net 0 r.auction.cache.heads r.recorded known all)

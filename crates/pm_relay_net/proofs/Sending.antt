@@ -86,6 +86,7 @@ module _ (lists : Lists) (law : Lawful lists) (p : Pricing) (numbering : Numberi
       (omega (arith, is.inside x node, Rattle.std.proofs.lemmas.List.length-replicate {A = BidHead} most_nodes nothing_sent))) in
       omega (arith, heard_at lists p numbering is net c r m x node up, nothing)
 
+  -- a relay that is caught up, and heard nothing but what is in its newest bid, has no news
   pub no_news : IsCaughtUp r → r.gathered.cache.heads ≡ published_heads r.gathered → has_news lists net c ≡ false
   no_news caught same = level lists net c (caught_to lists p numbering is net c r m caught)
       (over_to lists p numbering is net c r m (nothing_newer lists p numbering is net c r m
@@ -334,7 +335,8 @@ sends_again lists p numbering net c r conc m some =
     (ap (λ (b : Bool). is_leaf lists c || b) (and_from (leb (net.whole_from c) (net.last_number c)) (leb 1 (net.last_number c))
     (le-leb (net.whole_from c) (net.last_number c) (is_whole lists p numbering net c r m some)) (le-leb 1 (net.last_number c) (omega (arith, m.newest, some))))
     ∙ or_true (is_leaf lists c)) in
-    let demand : own_demand r.gathered ≡ announced (p.limits c (numbers_of (net.records c (net.last_number c)))) (p.add c (λ z. (net.records c (net.last_number c) z).demand)) =
+    let demand : own_demand r.gathered ≡ announced (p.limits c (numbers_of (net.records c (net.last_number c))))
+    (p.add c (λ z. (net.records c (net.last_number c) z).demand)) =
     ap (λ o. unwrap_or o (aggregate_of r.gathered.cache)) (m.demand some) in
     let bid : newest_bid lists p net c ≡ bid_message (newest_bid_number r) false (own_demand r.gathered) =
     cond-false (is_leaf lists c) _ _ conc.2 ∙ ap (bid_message (net.last_number c) false) (sym demand)

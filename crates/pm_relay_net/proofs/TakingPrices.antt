@@ -24,7 +24,8 @@ use Rattle.pm_net.specs.Running.{after_given_price, after_taking_price}
 use Rattle.pm_net.specs.Events.{network_step, TakesPrice}
 use Rattle.pm_net_plan.specs.Places.{Numbering, IsNumbering}
 use Rattle.pm_relay.specs.Relays as relays
-use Rattle.pm_relay.specs.Relays.{RelayValue, newest_bid_number, record_at, limits_of_number, limits_places, no_limits, IsNewPrice, MayHearRecord, PricePassedOn, with_price, HearsItsRecord}
+use Rattle.pm_relay.specs.Relays.{RelayValue, newest_bid_number, record_at, limits_of_number, limits_places, no_limits, IsNewPrice, MayHearRecord}
+use Rattle.pm_relay.specs.Relays.{PricePassedOn, with_price, HearsItsRecord}
 use Rattle.pm_relay.specs.declared.outcome.PriceOutcome.{PriceOutcome}
 use Rattle.pm_relay.specs.declared.outcome.PriceOutcome.TheVariants.{PassedOn, Alone, Waits, Dropped}
 use Rattle.pm_relay_net.specs.Heads.{heads_of}

@@ -15,7 +15,8 @@ ghost use Rattle.pm_net.specs.Restarts.{stored_price};
 ghost use Rattle.pm_net.specs.Events.{Event, network_step, network_after};
 ghost use Rattle.pm_net.specs.Agrees.{NetworkAgrees};
 ghost use Rattle.pm_net_plan.specs.Places.{Numbering, IsNumbering};
-ghost use Rattle.pm_relay.specs.Relays.{RelayValue, newest_bid_number, ComesBack, with_child_bid, with_new_limits, limits_of_number, LooksForRecord, BidSent, NotSent, TakesPrice};
+ghost use Rattle.pm_relay.specs.Relays.{RelayValue, newest_bid_number, ComesBack, with_child_bid, with_new_limits, limits_of_number, LooksForRecord};
+ghost use Rattle.pm_relay.specs.Relays.{BidSent, NotSent, TakesPrice};
 ghost use Rattle.pm_relay.specs.declared.fault.SendFault.{SendFault};
 ghost use Rattle.pm_relay.specs.declared.outcome.PriceOutcome.{PriceOutcome};
 ghost use Rattle.pm_relay_net.specs.Elsewhere.{IsElsewhere};
@@ -114,7 +115,8 @@ pub fn relays_take_prices()
 /// A law: a relay stays what the network has of its node over each event that happens elsewhere.
 pub fn relays_are_left_alone()
     ensures { (lists : Lists) (p : Pricing) (numbering : Numbering) (net : Network) (c : ℕ)
-        (r : RelayValue) (e : Event) → IsNumbering lists numbering → LimitsGoByDevices lists p.limits →
+        (r : RelayValue) (e : Event) → IsNumbering lists numbering →
+        LimitsGoByDevices lists p.limits →
         IsConcentrator lists c →
         RelayIs p numbering net c r → IsElsewhere lists c e →
         RelayIs p numbering (network_step lists p net e) c r }

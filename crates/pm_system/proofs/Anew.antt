@@ -1,5 +1,6 @@
 -- An agent that offers anew does what two calls of a system do.
-use Rattle.std.proofs.Common.{◌≡◌, ◌∙◌, sym, ap, subst, ℕ, ◌+◌, ◌-◌, ◌≤◌, ◌^◌, ltb, cond, true, false, List, [], ◌∷◌, refl, inl, inr, arith}
+use Rattle.std.proofs.Common.{◌≡◌, ◌∙◌, sym, ap, subst, ℕ, ◌+◌, ◌-◌, ◌≤◌, ◌^◌, ltb, cond, true, false, List, []}
+use Rattle.std.proofs.Common.{◌∷◌, refl, inl, inr, arith}
 use Rattle.std.proofs.Math.Path.{fun_ext}
 use Rattle.std.proofs.lemmas.Bool.{cases_eq, cond-true, lt-ltb}
 use Rattle.pm_bid.specs.Bids.{zeros}
@@ -65,6 +66,7 @@ module _ (lists : Lists) (p : Pricing) (numbering : Numbering) (sys : System) (d
       did.new_is ∙ ap (λ (a : DeviceAgent). with_bid_sent (with_agent sys d a) d bid) after_is
       ∙ ap (λ (f : ℕ → DeviceAgent). with_bid_sent (record sys { agents = f }) d bid) (sym (updated_twice sys.agents d left after))
 
+  -- an agent that offers anew leaves, of which nothing is sent, and then bids
   pub two_calls : SystemRuns lists p numbering sys (offers_anew d) new
   two_calls = (
     stopped,

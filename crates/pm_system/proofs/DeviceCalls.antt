@@ -1,5 +1,6 @@
 -- The calls of a device's agent are events of the network.
-use Rattle.std.proofs.Common.{◌≡◌, ◌⊎◌, ◌∙◌, sym, ap, subst, ℕ, ◌+◌, ◌<◌, ◌≤◌, Bool, true, false, cond, not, ltb, leb, eqb, ◌&&◌}
+use Rattle.std.proofs.Common.{◌≡◌, ◌⊎◌, ◌∙◌, sym, ap, subst, ℕ, ◌+◌, ◌<◌, ◌≤◌, Bool, true, false, cond, not, ltb}
+use Rattle.std.proofs.Common.{leb, eqb, ◌&&◌}
 use Rattle.std.proofs.Common.{◌||◌, List, [], ◌∷◌, ◌++◌, length, Option, Some, None, arith, inl, inr, refl}
 use Rattle.std.proofs.lemmas.Bool.{cases_Bool, cases_eq, cases_lt, cond-true, cond-false, and_from, lt-ltb, eq-eqb, ne_eqb}
 use Rattle.std.proofs.lemmas.List.{get_or_append_left, get_or_push, length_push}
@@ -19,7 +20,8 @@ use Rattle.pm_net.specs.Running.{device_bid, is_new_price, after_taking_price, a
 use Rattle.pm_net.specs.Restarts as restarts
 use Rattle.pm_net.specs.Restarts.{after_restart}
 use Rattle.pm_net.specs.Events.{Event, RunsOn, network_step, may_bid, Bids, TakesPrice, Restarts}
-use Rattle.pm_net.specs.Agents.{Offer, Setpoint, DeviceAgent, may_offer, after_offer, after_leaving, kept_offer, setpoints_for, answered_by, after_price, after_coming_back}
+use Rattle.pm_net.specs.Agents.{Offer, Setpoint, DeviceAgent, may_offer, after_offer, after_leaving, kept_offer, setpoints_for, answered_by}
+use Rattle.pm_net.specs.Agents.{after_price, after_coming_back}
 use Rattle.pm_net.specs.Devices.{Devices, with_network, may_change, agent_after_own, agent_after_change, after_change, after_given, devices_step, devices_after}
 use Rattle.pm_net.specs.Devices.{AgentIs, DevicesAgree}
 use Rattle.pm_net.specs.Devices.{IsOfferWindow}
@@ -30,7 +32,8 @@ use Rattle.pm_relay_net.proofs.RootLearning.{or_true}
 use Rattle.pm_relay_net.proofs.Elsewhere.{SameNode, same_elsewhere, same_then}
 use Rattle.pm_system.specs.System.{System, price_in_channel, price_stored, with_agent, with_bid_sent}
 use Rattle.pm_system.specs.Calls as call
-use Rattle.pm_system.specs.Calls.{Offers, Leaves, DeviceChanges, DeviceBids, DeviceStops, DeviceResends, DeviceExpires, DeviceTakesPrice, DeviceRestarts, bid_kept}
+use Rattle.pm_system.specs.Calls.{Offers, Leaves, DeviceChanges, DeviceBids, DeviceStops, DeviceResends, DeviceExpires, DeviceTakesPrice}
+use Rattle.pm_system.specs.Calls.{DeviceRestarts, bid_kept}
 use Rattle.pm_system.specs.Given.{IsTreeMarket}
 use Rattle.pm_system.specs.Market.{IsIn, ChannelsAre, IsExpired, SystemIs}
 use Rattle.pm_system.proofs.Moving.{Follows, same_price, device_moves, new_in, pushed_here, made_next, channels_still, counted_still}
@@ -70,7 +73,8 @@ module _ (lists : Lists) (p : Pricing) (numbering : Numbering) (market : IsTreeM
     prices : (x : ℕ) → IsNode lists x → net'.net.prices_sent x ≡ sys.prices_sent x
 
   untouched : (before after : Network) → after.heard ≡ before.heard → after.last_number ≡ before.last_number → after.records ≡ before.records →
-      after.whole_from ≡ before.whole_from → after.answered ≡ before.answered → after.taken ≡ before.taken → (y : ℕ) → SameNode lists y before after
+      after.whole_from ≡ before.whole_from → after.answered ≡ before.answered → after.taken ≡ before.taken → (y : ℕ) →
+      SameNode lists y before after
   untouched before after heard last records whole answered taken y = record {
     heard = λ x node up. ap (λ f. f x) (sym heard);
     last_number = ap (λ f. f y) (sym last);
@@ -170,7 +174,8 @@ module _ (lists : Lists) (p : Pricing) (numbering : Numbering) (market : IsTreeM
           (lt-ltb (before.net.counts d) (changes lists d) (omega (arith, made_so.has_next, next))))
           (or_true (eqb (before.net.counts d) (before.agents d).number) _
           (elim made_so.change [
-            | inl offers ↦ or_true (not (is_member lists d (before.net.counts d + 1))) (may_offer (before.agents d)) (ap may_offer agent_before ∙ offers.may)
+            | inl offers ↦ or_true (not (is_member lists d (before.net.counts d + 1))) (may_offer (before.agents d))
+                (ap may_offer agent_before ∙ offers.may)
             | inr leaves ↦ ap (λ b. not b || may_offer (before.agents d)) (ap (is_member lists d) n_is ∙ leaves.absent)
           ]))
 
@@ -393,7 +398,8 @@ module _ (lists : Lists) (p : Pricing) (numbering : Numbering) (market : IsTreeM
       (answered_by agent price (kept_offer agent price.number)) agent (λ e. answered_number agent price (kept_offer agent price.number)) (λ e. refl)
 
   -- an agent changes, but for its number
-  numbers_kept : (d : ℕ) (agent : DeviceAgent) → agent.number ≡ (sys.agents d).number → (counts : ℕ → ℕ) → counts ≡ net.counts → (e : ℕ) →
+  numbers_kept : (d : ℕ) (agent : DeviceAgent) → agent.number ≡ (sys.agents d).number → (counts : ℕ → ℕ) → counts ≡ net.counts →
+      (e : ℕ) →
       IsLeaf lists e →
       (counts e ≡ (update sys.agents d agent e).number) ⊎ IsExpired lists e (counts e) (update sys.agents d agent e).number (sys.bids_sent e)
   numbers_kept d agent same counts counts_same e leaf =

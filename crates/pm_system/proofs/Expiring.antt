@@ -1,5 +1,6 @@
 -- The number that a parent gives for a device is the device's next but one, and so its call is two calls of the system.
-use Rattle.std.proofs.Common.{◌≡◌, ◌∙◌, sym, ap, subst, ℕ, ◌+◌, ◌*◌, ◌/◌, ◌%◌, ◌<◌, ◌≤◌, cond, eqb, ltb, inl, inr, true, List, [], ◌∷◌, ◌++◌, length, get_or, refl, arith}
+use Rattle.std.proofs.Common.{◌≡◌, ◌∙◌, sym, ap, subst, ℕ, ◌+◌, ◌*◌, ◌/◌, ◌%◌, ◌<◌, ◌≤◌, cond, eqb, ltb, inl}
+use Rattle.std.proofs.Common.{inr, true, List, [], ◌∷◌, ◌++◌, length, get_or, refl, arith}
 use Rattle.std.proofs.lemmas.Bool.{cases_Bool, cond-true, cond-false, eqb-true, ne_eqb, eq-eqb, both_ways}
 use Rattle.std.proofs.lemmas.Nat.{div-add-mod', mod_below}
 use Rattle.std.proofs.lemmas.List.{get_or_push, length_push}
@@ -48,7 +49,8 @@ odd_number known last half even le =
     let some : known % 2 ≡ 0 → ⊥ = λ none. both_ways (eqb (known % 2) 0) e (eq-eqb (known % 2) 0 none) in
     record { half = known / 2; odd = omega (arith, parts, small, some); within = le })
 
-known_within : (numbers : List ℕ) (heads : List BidHead) (child count : ℕ) → child_number numbers child ≤ count → head_number heads child ≤ count →
+known_within : (numbers : List ℕ) (heads : List BidHead) (child count : ℕ) → child_number numbers child ≤ count →
+    head_number heads child ≤ count →
     known_number numbers heads child ≤ count
 known_within numbers heads child count recorded heard =
     either (λ (n : ℕ). n ≤ count) (ltb (child_number numbers child) (head_number heads child)) (head_number heads child) (child_number numbers child)

@@ -82,6 +82,7 @@ module _ (lists : Lists) (p : Pricing) (numbering : Numbering) (market : IsTreeM
     taken j x power take = sum_on_same lists x power (power_at p (cleared_cut s j)) (λ d leaf.
         takes j d (power d) (leaf_of_parts lists x d leaf).0 (take d leaf))
 
+    -- in each clearing the powers given below a relay add up to what it announced
     pub flows : FlowsAsCleared lists p sys s
     flows = record {
       clearings = λ j. flows_in (cleared_cut s j) (TakeWhatWasGiven lists sys s j) (taken j);
@@ -96,6 +97,7 @@ module _ (lists : Lists) (p : Pricing) (numbering : Numbering) (market : IsTreeM
         is.power ∙ is.told.power ∙ ap (λ (n : ℕ). demand_at (p.demand d n) (p.local counted d)) (sym is.counts)
     tells d power leaf (inr out) = nothing counted d power leaf out.0 out.1
 
+    -- and so do the powers that controls were told, by the numbers that parents count
     pub flows_told : FlowsIn lists p counted (TakeWhatWasTold lists p counted sys)
     flows_told = flows_in counted (TakeWhatWasTold lists p counted sys) (λ x power take.
         sum_on_same lists x power (power_at p counted) (λ d leaf. tells d (power d) (leaf_of_parts lists x d leaf).0 (take d leaf)))

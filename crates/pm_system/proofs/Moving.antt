@@ -1,5 +1,6 @@
 -- One node of a system moves, and the others stay what the network has of them.
-use Rattle.std.proofs.Common.{◌≡◌, ◌⊎◌, ◌∙◌, sym, ap, subst, ℕ, ◌+◌, ◌<◌, ◌≤◌, eqb, List, [], ◌∷◌, ◌++◌, length, get_or, arith, inl, inr, refl}
+use Rattle.std.proofs.Common.{◌≡◌, ◌⊎◌, ◌∙◌, sym, ap, subst, ℕ, ◌+◌, ◌<◌, ◌≤◌, eqb, List, [], ◌∷◌, ◌++◌}
+use Rattle.std.proofs.Common.{length, get_or, arith, inl, inr, refl}
 use Rattle.std.proofs.lemmas.Bool.{cases_eq, cond-true, cond-false, eq-eqb, ne_eqb, both_ways}
 use Rattle.pm_market.specs.Lists.{Lists, parent, is_leaf, IsNode, IsLeaf, IsConcentrator, Lawful}
 use Rattle.pm_market.specs.State.{update}
@@ -150,6 +151,7 @@ module _ (lists : Lists) (p : Pricing) (numbering : Numbering) (is : IsNumbering
       let Is : (ℕ → ℕ) → Type 0 = λ f. (f d ≡ (sys.agents d).number) ⊎ IsExpired lists d (f d) (sys.agents d).number (sys.bids_sent d) in
       subst Is (sym same) (sys_is.counted d leaf)
 
+  -- channels are those of a network with the same counts and bids
   pub channels_still : (counts' : ℕ → ℕ) (bids' : ℕ → List BidMessage) → counts' ≡ net.counts → bids' ≡ net.bids_sent →
       ChannelsAre lists p counts' bids' sys.bids_sent
   channels_still counts' bids' counts_same bids_same =
@@ -244,7 +246,8 @@ module _ (lists : Lists) (p : Pricing) (numbering : Numbering) (is : IsNumbering
         (agents : ℕ → DeviceAgent) → ((e : ℕ) → IsLeaf lists e → devices'.agents e ≡ agents e) →
         (setpoints : ℕ → List Setpoint) → ((e : ℕ) → IsLeaf lists e → devices'.setpoints e ≡ setpoints e) →
         (bids : ℕ → List BidMessage) → ChannelsAre lists p devices'.net.counts devices'.net.bids_sent bids →
-        ((e : ℕ) → IsLeaf lists e → (devices'.net.counts e ≡ (agents e).number) ⊎ IsExpired lists e (devices'.net.counts e) (agents e).number (bids e)) →
+        ((e : ℕ) → IsLeaf lists e →
+        (devices'.net.counts e ≡ (agents e).number) ⊎ IsExpired lists e (devices'.net.counts e) (agents e).number (bids e)) →
         ((x : ℕ) → IsNode lists x → devices'.net.prices_sent x ≡ sys.prices_sent x) →
         SystemIs lists p numbering devices' (record sys { agents = agents; setpoints = setpoints; bids_sent = bids })
     device_moves d leaf node same agents agents_are setpoints setpoints_are bids bids_are counted_are prices_are = record {

@@ -100,6 +100,7 @@ module _ (lists : Lists) (p : Pricing) (numbering : Numbering) (market : IsTreeM
     pub sum_long : length (p.add y (λ x. p.offer x cut)) ≡ p.steps
     sum_long = ap (λ (l : List ℤ). length l) (market.by_places y offers) ∙ length-sum_of p.steps placed have
 
+    -- the sum of what the children offer never rises with the step
     pub sum_down : NeverRises (p.add y (λ x. p.offer x cut))
     sum_down = subst NeverRises (sym (market.by_places y offers)) (sum_falls p.steps placed have (λ k o lt. (all_places k o lt).falls))
 

@@ -1,5 +1,6 @@
 -- A sum by the places of the children is the sum of the children.
-use Rattle.std.proofs.Common.{◌≡◌, ◌∙◌, sym, ap, subst, ℕ, zero, suc, ◌+◌, ◌-◌, ◌<◌, ◌≤◌, ℤ, pos, ◌+ℤ◌, cond, eqb, List, [], ◌∷◌, length, get_or}
+use Rattle.std.proofs.Common.{◌≡◌, ◌∙◌, sym, ap, subst, ℕ, zero, suc, ◌+◌, ◌-◌, ◌<◌, ◌≤◌, ℤ, pos, ◌+ℤ◌, cond}
+use Rattle.std.proofs.Common.{eqb, List, [], ◌∷◌, length, get_or}
 use Rattle.std.proofs.Common.{inl, inr, refl, arith}
 use Rattle.std.proofs.lemmas.Bool.{cases_eq, cond-true, cond-false, eq-eqb, ne_eqb}
 use Rattle.std.proofs.lemmas.Int.{ints}
@@ -141,5 +142,6 @@ market_adds lists p numbering market = record {
   some = omega (arith, market.steps.least);
   one_each = λ d n leaf. (market.demands d n leaf).one_each;
   long = λ y f each. ap (λ (b : List ℤ). length b) (market.by_places y f) ∙ places_long lists numbering market.places p.steps y f each;
-  adds = λ y k f each inside. ap (λ (b : List ℤ). demand_at b k) (market.by_places y f) ∙ places_add lists numbering market.places p.steps y f each k inside;
+  adds = λ y k f each inside. ap (λ (b : List ℤ). demand_at b k) (market.by_places y f)
+      ∙ places_add lists numbering market.places p.steps y f each k inside;
 }

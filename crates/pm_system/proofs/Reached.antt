@@ -28,6 +28,7 @@ use Rattle.pm_laws.specs.Gone.{is_gone}
 use Rattle.pm_net.specs.Agrees.{price_of_clearing, NetworkAgrees}
 use Rattle.pm_net.specs.Settled.{made_number}
 use Rattle.pm_net.proofs.Settled.{own_is}
+use Rattle.pm_net.proofs.Settled.{none_at_root, root_gone}
 use Rattle.pm_net.proofs.Learns.{learnt_to, passing, Learning, learning_to, learning_sound}
 use Rattle.pm_net.proofs.News.{no_news, caught_at}
 use Rattle.pm_laws.proofs.Gone.{gone_addresses, gone_leaf}
@@ -36,24 +37,6 @@ use Rattle.pm_laws.proofs.Quiet.{addressed_index}
 use Rattle.pm_net.proofs.Adding.{knowing}
 use Rattle.pm_laws.proofs.Facts.{contains_within}
 use Rattle.pm_net.proofs.Answered.{answered_exact}
-
--- an auctioneer that cannot clear has no news
-none_at_root : (lists : Lists) (net : Network) → can_clear lists net ≡ false → is_caught_up lists net 0 ≡ true → has_news lists net 0 ≡ false
-unfolding can_clear
-none_at_root lists net cannot caught = elim (cases_Bool (has_news lists net 0)) [
-  | inr e ↦ e
-  | inl e ↦ absurd (both_ways (is_caught_up lists net 0 && has_news lists net 0) cannot (and_from _ _ caught e))
-]
-
--- a child is gone then where the last clearing does not address it
-root_gone : (lists : Lists) → Lawful lists → (p : Pricing) (net : Network) (s : State) → NetworkAgrees lists p net s →
-    has_news lists net 0 ≡ false → (x : ℕ) →
-    IsNode lists x → parent lists x ≡ 0 → (net.heard x).gone ≡ not (addresses lists s (clearings s) x)
-root_gone lists law p net s agrees none x node up =
-    ap (λ (b : BidMessage). b.gone) (agrees.heard x node).1
-    ∙ ap (is_gone lists x) (no_news lists law p net s agrees 0 none x node up ∙ agrees.learnt x node
-    ∙ ap (λ (z : ℕ). number lists s x (cut_at (s.published z) (length (s.published z)))) up)
-    ∙ gone_addresses lists law s agrees.sound x (clearings s) node (omega arith)
 
 -- what its parent heard of x counts: a device that is not gone, or a relay with a bid
 abbrev pub CountsIn : Lists → Network → ℕ → Type 0
@@ -167,13 +150,15 @@ module _ (lists : Lists) (law : Lawful lists) (p : Pricing) (by : GoesByNodes li
       ]
 
   -- where the newest clearing has the number that is heard of a node, and addresses it, the node counts
-  counts_where : (x : ℕ) → IsNode lists x → (net.heard x).gone ≡ not (addresses lists s (clearings s) x) → addresses lists s (clearings s) x ≡ true →
+  counts_where : (x : ℕ) → IsNode lists x → (net.heard x).gone ≡ not (addresses lists s (clearings s) x) →
+      addresses lists s (clearings s) x ≡ true →
       CountsIn lists net x
   counts_where x node gone addressed = elim (cases_Bool (is_leaf lists x)) [
     | inl leaf ↦ inl (leaf, gone ∙ ap not addressed)
     | inr inner ↦
         let conc : IsConcentrator lists x = (node.0, node.1, inner) in
-        let one : 1 ≤ number lists s x (cleared_cut s (clearings s)) = (addressed_number lists law s agrees.sound x (clearings s) conc (omega arith)).0 addressed in
+        let one : 1 ≤ number lists s x (cleared_cut s (clearings s)) =
+        (addressed_number lists law s agrees.sound x (clearings s) conc (omega arith)).0 addressed in
         inr (conc, omega (arith, one, (cleared_is_part lists law s agrees.sound x (clearings s) node (omega arith)).1, learnt_heard x node))
   ]
 

@@ -42,7 +42,8 @@ use Rattle.pm_system.specs.Calls as call
 use Rattle.pm_system.specs.Calls.{LearnsBid, LearnsLimits, RelayTakesBid, RelaySends, RelayStops, RelayResends, RelayTakesPrice, RelayRestarts}
 use Rattle.pm_system.specs.Given.{IsTreeMarket}
 use Rattle.pm_system.specs.Market.{SystemIs, IsExpired}
-use Rattle.pm_system.proofs.Moving.{Follows, relay_no_leaf, parent_relay, same_bid, same_price, bids_in, sent_prices, relay_moves, its_place, channels_still, channels_push, counted_still}
+use Rattle.pm_system.proofs.Moving.{Follows, relay_no_leaf, parent_relay, same_bid, same_price, bids_in, sent_prices, relay_moves, its_place}
+use Rattle.pm_system.proofs.Moving.{channels_still, channels_push, counted_still}
 
 -- a bid that is gone has zeros
 pub gone_zeros : (lists : Lists) (p : Pricing) (numbering : Numbering) → IsTreeMarket lists p numbering → (s : State) (x : ℕ) → IsNode lists x →
@@ -125,7 +126,8 @@ module _ (lists : Lists) (p : Pricing) (numbering : Numbering) (market : IsTreeM
         (can_rebuild lists once c) (after_rebuilding once c) once (λ e. (refl, refl, refl)) (λ e. (refl, refl, refl))
 
     moved : (after : Network) → RelayIs p numbering after c did.relay → ((y : ℕ) → (y ≡ c → ⊥) → SameNode lists y net after) →
-        after.bids_sent ≡ net.bids_sent → after.prices_sent ≡ net.prices_sent → after.counts ≡ net.counts → SystemIs lists p numbering (with_network devices after) new
+        after.bids_sent ≡ net.bids_sent → after.prices_sent ≡ net.prices_sent → after.counts ≡ net.counts →
+        SystemIs lists p numbering (with_network devices after) new
     moved after relay_is same bids prices counts =
         subst (λ (t : System). SystemIs lists p numbering (with_network devices after) t) (sym did.new_is)
         (relay_moves lists p numbering market.places devices sys sys_is market.by_nodes.limits_alike
@@ -184,7 +186,8 @@ module _ (lists : Lists) (p : Pricing) (numbering : Numbering) (market : IsTreeM
         record {
           events = Sends c ∷ [];
           is = subst (λ (t : System). SystemIs lists p numbering (with_network devices after_sent) t) (sym did.new_is)
-              (relay_moves lists p numbering market.places devices sys sys_is market.by_nodes.limits_alike (with_network devices after_sent) c did.relay did.conc sent.0
+              (relay_moves lists p numbering market.places devices sys sys_is market.by_nodes.limits_alike
+              (with_network devices after_sent) c did.relay did.conc sent.0
               (λ y ne. same_elsewhere lists p net y (Sends c) (λ e. ne (sym e))) sys_is.agents sys_is.setpoints
               (update sys.bids_sent c (sys.bids_sent c ++ bid ∷ []))
               (channels_push lists p numbering market.places devices sys sys_is after_sent.counts after_sent.bids_sent c bid counts_sent sent.1 (λ x ne.
@@ -217,7 +220,8 @@ module _ (lists : Lists) (p : Pricing) (numbering : Numbering) (market : IsTreeM
           is = subst Is (sym (cond-false (is_leaf lists c) (cond (may_change lists devices c) (after_stop lists p devices c) devices)
               (with_network devices after_stopped) did.conc.2))
               (subst (λ (t : System). SystemIs lists p numbering (with_network devices after_stopped) t) (sym did.new_is)
-              (relay_moves lists p numbering market.places devices sys sys_is market.by_nodes.limits_alike (with_network devices after_stopped) c did.relay did.conc
+              (relay_moves lists p numbering market.places devices sys sys_is market.by_nodes.limits_alike
+              (with_network devices after_stopped) c did.relay did.conc
               (sending.stops lists market.law p numbering market.places net s agrees c did.conc (sys.relays c) (sys_is.relays c did.conc) market.by_places
               did.relay did.number did.sent market.by_nodes.limits_alike)
               (λ y ne. same_elsewhere lists p net y (StopsBidding c) (λ e. ne (sym e))) sys_is.agents sys_is.setpoints
@@ -247,7 +251,8 @@ module _ (lists : Lists) (p : Pricing) (numbering : Numbering) (market : IsTreeM
           is = subst (λ (t : System). SystemIs lists p numbering (with_network devices after_again) t) (sym did.new_is) (record {
             root = Rattle.pm_relay_net.proofs.LeftAlone.root_stays lists p numbering market.places net after_again sys.root (same 0) sys_is.root;
             relays = λ y conc.
-                Rattle.pm_relay_net.proofs.LeftAlone.relay_stays lists p numbering market.places market.by_nodes.limits_alike net after_again y (sys.relays y) (same y)
+                Rattle.pm_relay_net.proofs.LeftAlone.relay_stays lists p numbering market.places market.by_nodes.limits_alike net after_again y
+                (sys.relays y) (same y)
                 (sys_is.relays y conc);
             agents = sys_is.agents;
             setpoints = sys_is.setpoints;
@@ -298,7 +303,8 @@ module _ (lists : Lists) (p : Pricing) (numbering : Numbering) (market : IsTreeM
           events = TakesPrice c k ∷ [];
           is = subst Is (sym (cond-false (is_leaf lists c) (after_given devices c k after_taken) (with_network devices after_taken) did.conc.2))
               (subst (λ (t : System). SystemIs lists p numbering (with_network devices after_taken) t) (sym did.new_is)
-              (relay_moves lists p numbering market.places devices sys sys_is market.by_nodes.limits_alike (with_network devices after_taken) c did.relay did.conc done.0
+              (relay_moves lists p numbering market.places devices sys sys_is market.by_nodes.limits_alike
+              (with_network devices after_taken) c did.relay did.conc done.0
               (λ y ne. same_elsewhere lists p net y (TakesPrice c k) (λ e. ne (sym e))) sys_is.agents sys_is.setpoints
               sys.bids_sent (channels_still lists p numbering market.places devices sys sys_is after_taken.counts after_taken.bids_sent counts_taken
               (hears_each lists p net c k (λ (w : Network). w.bids_sent ≡ net.bids_sent) refl refl refl refl)) counts_taken (λ d leaf. refl)

@@ -46,7 +46,8 @@ module _ (lists : Lists) (p : Pricing) (numbering : Numbering) (market : IsTreeM
       after.counts ≡ net.counts → SystemIs lists p numbering (with_network devices after) new
   moved after root new new_is root_is same bids prices counts =
       subst (λ (t : System). SystemIs lists p numbering (with_network devices after) t) (sym new_is)
-      (root_moves lists p numbering market.places devices sys sys_is market.by_nodes.limits_alike (with_network devices after) root root_is same sys_is.agents sys_is.setpoints
+      (root_moves lists p numbering market.places devices sys sys_is market.by_nodes.limits_alike
+      (with_network devices after) root root_is same sys_is.agents sys_is.setpoints
       counts bids sys.prices_sent (λ z node. ap (λ f. f z) prices ∙ sys_is.prices_sent z node))
 
   -- ---- it learns a bid
@@ -146,7 +147,8 @@ module _ (lists : Lists) (p : Pricing) (numbering : Numbering) (market : IsTreeM
         events = TellsOne z ∷ [];
         is = subst (λ (t : System). SystemIs lists p numbering (with_network devices after) t) (sym did.new_is) (record {
           root = root_stays lists p numbering market.places net after sys.root (same 0) sys_is.root;
-          relays = λ y conc. relay_stays lists p numbering market.places market.by_nodes.limits_alike net after y (sys.relays y) (same y) (sys_is.relays y conc);
+          relays = λ y conc. relay_stays lists p numbering market.places market.by_nodes.limits_alike net after y (sys.relays y) (same y)
+              (sys_is.relays y conc);
           agents = sys_is.agents;
           setpoints = sys_is.setpoints;
           channels = channels_still lists p numbering market.places devices sys sys_is after.counts after.bids_sent counts

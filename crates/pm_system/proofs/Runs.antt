@@ -118,6 +118,7 @@ module _ (lists : Lists) (p : Pricing) (numbering : Numbering) (market : IsTreeM
   more_stays x [] more up = up
   more_stays x (call ∷ calls) more up = more_stays x calls more up.1
 
+  -- what runs the market does so after more calls
   pub goes_on : (before more : List NodeCall) (sys new : System) → RunsTheMarket lists p numbering before sys →
       SystemRuns lists p numbering sys more new → RunsTheMarket lists p numbering (before ++ more) new
   goes_on before more sys new has runs =

@@ -38,7 +38,8 @@ use Rattle.pm_system.specs.System.{System, price_in_channel}
 use Rattle.pm_system.specs.Calls.{NodeCall, StaysUp}
 use Rattle.pm_system.specs.Given.{IsTreeMarket}
 use Rattle.pm_system.specs.Market.{RunsTheMarket}
-use Rattle.pm_system.specs.Settled.{number_made, number_held, index_of_held, IsSettledSystem, IsReachedSystem, IsToldSystem, IsCurrentSystem, HoldsNewestBid, WasTold, numbers_counted, head_held, CountsAtParent, HasNothingToSend, HasNothingToClear}
+use Rattle.pm_system.specs.Settled.{number_made, number_held, index_of_held, IsSettledSystem, IsReachedSystem, IsToldSystem, IsCurrentSystem}
+use Rattle.pm_system.specs.Settled.{HoldsNewestBid, WasTold, numbers_counted, head_held, CountsAtParent, HasNothingToSend, HasNothingToClear}
 use Rattle.pm_system.proofs.Reached as reaching
 use Rattle.pm_system.proofs.Reached.{CountsIn}
 use Rattle.pm_system.proofs.Told as telling
@@ -149,7 +150,8 @@ module _ (lists : Lists) (p : Pricing) (numbering : Numbering) (market : IsTreeM
     held : (d : ℕ) → IsLeaf lists d → is_member lists d (net.counts d) ≡ true →
         net.taken d ≡ price_message (net.counts d) (clearings s) (p.local net.counts d)
 
-  relays_quiet : ((c : ℕ) → IsConcentrator lists c → HasNothingToSend (sys.relays c)) → (c : ℕ) → IsConcentrator lists c → can_send lists net c ≡ false
+  relays_quiet : ((c : ℕ) → IsConcentrator lists c → HasNothingToSend (sys.relays c)) → (c : ℕ) → IsConcentrator lists c →
+      can_send lists net c ≡ false
   relays_quiet all c conc =
       let why = all c conc in
       cannot_send lists p net c (not_left why.2 (sending.refuses lists market.law p numbering market.places net s agrees c conc (sys.relays c)

@@ -1,5 +1,6 @@
 -- The worked system: each call, one by one.
-use Rattle.std.proofs.Common.{◌≡◌, ◌∙◌, sym, ap, ℕ, zero, suc, ◌+◌, ◌-◌, ◌<◌, ◌≤◌, Bool, true, false, leb, ◌&&◌, ℤ, pos, negsuc, List, [], ◌∷◌, ◌++◌, length, map, replicate, get_or, Some, None}
+use Rattle.std.proofs.Common.{◌≡◌, ◌∙◌, sym, ap, ℕ, zero, suc, ◌+◌, ◌-◌, ◌<◌, ◌≤◌, Bool, true, false, leb, ◌&&◌}
+use Rattle.std.proofs.Common.{ℤ, pos, negsuc, List, [], ◌∷◌, ◌++◌, length, map, replicate, get_or, Some, None}
 use Rattle.std.proofs.Common.{refl, inl, inr, arith}
 use Rattle.std.proofs.lemmas.Bool.{leb-true, and_parts}
 use Rattle.std.proofs.Math.ListN.{get_or-map}
@@ -37,6 +38,7 @@ reaches [] heads = true
 reaches (n ∷ ns) [] = false
 reaches (n ∷ ns) (h ∷ hs) = leb n h.number && reaches ns hs
 
+-- by the test each child was heard up to its number
 pub reached : (numbers : List ℕ) (heads : List BidHead) → reaches numbers heads ≡ true → AreReached numbers heads
 unfolding reaches
 reached [] heads e child inside = absurd (omega (arith, inside))
@@ -50,6 +52,7 @@ suffices [] heads = true
 suffices (n ∷ ns) [] = false
 suffices (n ∷ ns) (h ∷ hs) = leb h.number n && suffices ns hs
 
+-- by the test no child was heard beyond its number
 pub enough : (numbers : List ℕ) (heads : List BidHead) → suffices numbers heads ≡ true → AreEnough numbers heads
 unfolding suffices
 enough [] heads e child inside = absurd (omega (arith, inside))
@@ -61,6 +64,7 @@ enough (n ∷ ns) (h ∷ hs) e (suc child) inside =
 abbrev pub numbers_of : List BidHead → List ℕ
 numbers_of heads = map (λ (h : BidHead). h.number) heads
 
+-- the numbers of heads are the numbers noted
 pub noted : (heads : List BidHead) (child : ℕ) → child_number (numbers_of heads) child ≡ head_number heads child
 noted heads child = get_or-map (λ (h : BidHead). h.number) heads child nothing_sent
 
@@ -224,7 +228,13 @@ started = record {
     small_limits,
     refl,
     record {
-      gathered = record { cache = refl; window = record { children = refl; steps = refl; answered = refl; last = refl; opening = refl }; limits = refl; announced = refl };
+      gathered =
+          record {
+            cache = refl;
+            window = record { children = refl; steps = refl; answered = refl; last = refl; opening = refl };
+            limits = refl;
+            announced = refl;
+          };
       base = refl;
       answered = refl;
       index = refl;
@@ -242,6 +252,7 @@ started = record {
 passes_by : (x : ℕ) → LimitsPassBy small_pricing 1 x
 passes_by x a b same = refl
 
+-- call 1: device 2 bids
 pub does_1 : Does small_tree small_pricing small_places s0 (Bids 2) s1
 unfolding is_leaf is_member changes
 does_1 = record {
@@ -251,6 +262,7 @@ does_1 = record {
   new_is = refl;
 }
 
+-- call 2: device 3 bids
 pub does_2 : Does small_tree small_pricing small_places s1 (Bids 3) s2
 unfolding is_leaf is_member changes update
 does_2 = record {
@@ -260,6 +272,7 @@ does_2 = record {
   new_is = refl;
 }
 
+-- call 3: the relay takes the bid of device 2
 pub does_3 : Does small_tree small_pricing small_places s2 (TakesBid 2 0) s3
 unfolding parent update place_in children_to
 does_3 = inl (record {
@@ -271,6 +284,7 @@ does_3 = inl (record {
   new_is = refl;
 })
 
+-- call 4: the relay takes the bid of device 3
 pub does_4 : Does small_tree small_pricing small_places s3 (TakesBid 3 0) s4
 unfolding parent update place_in children_to
 does_4 = inl (record {
@@ -282,6 +296,7 @@ does_4 = inl (record {
   new_is = refl;
 })
 
+-- call 5: the relay sends its bid
 pub does_5 : Does small_tree small_pricing small_places s4 (Sends 1) s5
 unfolding is_leaf parent update place_in children_to reaches said_between
 does_5 = record {
@@ -320,6 +335,7 @@ does_5 = record {
   new_is = refl;
 }
 
+-- call 6: the auctioneer takes the relay's bid
 pub does_6 : Does small_tree small_pricing small_places s5 (TakesBid 1 0) s6
 unfolding is_leaf parent update place_in children_to said_between
 does_6 = inr (record {
@@ -331,6 +347,7 @@ does_6 = inr (record {
   new_is = refl;
 })
 
+-- call 7: the auctioneer clears
 pub does_7 : Does small_tree small_pricing small_places s6 Clears s7
 unfolding is_leaf parent update place_in children_to said_between reaches
 does_7 = record {
@@ -348,6 +365,7 @@ does_7 = record {
   new_is = refl;
 }
 
+-- call 8: device 2 bids anew
 pub does_8 : Does small_tree small_pricing small_places s7 (Bids 2) s8
 unfolding is_leaf is_member changes update
 does_8 = record {
@@ -357,6 +375,7 @@ does_8 = record {
   new_is = refl;
 }
 
+-- call 9: the relay takes the new bid
 pub does_9 : Does small_tree small_pricing small_places s8 (TakesBid 2 1) s9
 unfolding parent update place_in children_to
 does_9 = inl (record {
@@ -368,9 +387,11 @@ does_9 = inl (record {
   new_is = refl;
 })
 
+-- of numbers from 1 to 1 there is one
 pub one_kept : (number : ℕ) → 1 ≤ number → number ≤ 1 → number ≡ 1
 one_kept number one to = omega (arith, one, to)
 
+-- call 10: the relay stops between what it keeps and its bid
 pub does_10 : Does small_tree small_pricing small_places s9 (StopsBidding 1) s10
 unfolding is_leaf parent update place_in children_to reaches said_between
 does_10 = inl (record {
@@ -410,6 +431,7 @@ does_10 = inl (record {
   new_is = refl;
 })
 
+-- call 11: the relay restarts
 pub does_11 : Does small_tree small_pricing small_places s10 (Restarts 1 0) s11
 unfolding is_leaf parent update place_in children_to said_between
 does_11 = inr (inl (record {
@@ -420,7 +442,13 @@ does_11 = inr (inl (record {
   under_is = refl;
   relay = _;
   back = record {
-    gathered = record { cache = refl; window = record { children = refl; steps = refl; answered = refl; last = refl; opening = refl }; limits = refl; announced = refl };
+    gathered =
+        record {
+          cache = refl;
+          window = record { children = refl; steps = refl; answered = refl; last = refl; opening = refl };
+          limits = refl;
+          announced = refl;
+        };
     base = refl;
     answered = refl;
     index = refl;
@@ -430,6 +458,7 @@ does_11 = inr (inl (record {
   new_is = refl;
 }))
 
+-- call 12: it hears device 3 again
 pub does_12 : Does small_tree small_pricing small_places s11 (TakesBid 3 0) s12
 unfolding is_leaf parent update place_in children_to said_between
 does_12 = inl (record {
@@ -441,6 +470,7 @@ does_12 = inl (record {
   new_is = refl;
 })
 
+-- call 13: it hears device 2 again, and has its record
 pub does_13 : Does small_tree small_pricing small_places s12 (TakesBid 2 1) s13
 unfolding is_leaf parent update place_in children_to said_between reaches suffices
 does_13 = inl (record {
@@ -477,10 +507,12 @@ does_13 = inl (record {
   new_is = refl;
 })
 
+-- call 14: it sends its bid again
 pub does_14 : Does small_tree small_pricing small_places s13 (Resends 1) s14
 unfolding is_leaf parent update place_in children_to said_between
 does_14 = inl (record { conc = (omega arith, omega arith, refl); has = omega arith; new_is = refl })
 
+-- call 15: the auctioneer takes it
 pub does_15 : Does small_tree small_pricing small_places s14 (TakesBid 1 1) s15
 unfolding is_leaf parent update place_in children_to said_between
 does_15 = inr (record {
@@ -492,6 +524,7 @@ does_15 = inr (record {
   new_is = refl;
 })
 
+-- call 16: the auctioneer clears again
 pub does_16 : Does small_tree small_pricing small_places s15 Clears s16
 unfolding is_leaf parent update place_in children_to said_between reaches
 does_16 = record {
@@ -509,6 +542,7 @@ does_16 = record {
   new_is = refl;
 }
 
+-- call 17: the relay takes the price
 pub does_17 : Does small_tree small_pricing small_places s16 (TakesPrice 1 1) s17
 unfolding is_leaf parent update place_in children_to said_between
 does_17 = inl (record {
@@ -543,14 +577,17 @@ does_17 = inl (record {
   new_is = refl;
 })
 
+-- call 18: device 2 takes its price
 pub does_18 : Does small_tree small_pricing small_places s17 (TakesPrice 2 0) s18
 unfolding is_leaf parent update place_in children_to said_between
 does_18 = inr (record { leaf = refl; inside = omega arith; new_is = refl })
 
+-- call 19: device 3 takes its price
 pub does_19 : Does small_tree small_pricing small_places s18 (TakesPrice 3 0) s19
 unfolding is_leaf parent update place_in children_to said_between
 does_19 = inr (record { leaf = refl; inside = omega arith; new_is = refl })
 
+-- call 20: device 3 takes it once more, and is told nothing
 pub does_20 : Does small_tree small_pricing small_places s19 (TakesPrice 3 0) s20
 unfolding is_leaf parent update place_in children_to said_between
 does_20 = inr (record { leaf = refl; inside = omega arith; new_is = refl })

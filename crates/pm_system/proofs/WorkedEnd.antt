@@ -1,5 +1,6 @@
 -- The worked system in the end.
-use Rattle.std.proofs.Common.{◌≡◌, ◌∙◌, sym, ap, subst, ℕ, ℤ, zero, suc, Some, [], ◌∷◌, ◌<◌, ◌≤◌, true, false, pos, negsuc, ◌≤ℤ◌, List, length, get_or, refl, inl, inr, arith}
+use Rattle.std.proofs.Common.{◌≡◌, ◌∙◌, sym, ap, subst, ℕ, ℤ, zero, suc, Some, [], ◌∷◌, ◌<◌, ◌≤◌, true, false, pos}
+use Rattle.std.proofs.Common.{negsuc, ◌≤ℤ◌, List, length, get_or, refl, inl, inr, arith}
 use Rattle.std.proofs.lemmas.Int.{ints}
 use Rattle.pm_base.specs.Limits.{IsWithin, demand_limit, most_nodes}
 use Rattle.pm_base.specs.declared.limits.Limits.{Limits}
@@ -111,7 +112,8 @@ runs = (
 
 bids_are_held : (x : ℕ) → IsNode small_tree x → number_made small_tree s20 x ≤ number_held small_tree small_places s20 x
 unfolding parent is_leaf is_member changes update place_in children_to said_between
-bids_are_held x node = each_node (λ x. number_made small_tree s20 x ≤ number_held small_tree small_places s20 x) (omega arith) (omega arith) (omega arith) x node
+bids_are_held x node =
+    each_node (λ x. number_made small_tree s20 x ≤ number_held small_tree small_places s20 x) (omega arith) (omega arith) (omega arith) x node
 
 one_or_two : (P : ℕ → Type 0) → P 0 → P 1 → (k : ℕ) → k < 2 → P k
 one_or_two P one two zero inside = one
@@ -214,6 +216,7 @@ flow power take =
     )
 
 module _ (back : ComesBackAsStored) where
+  -- the worked system runs, settles and is current, and its values are these
   pub settles : Settles
   unfolding parent is_leaf is_member changes update place_in children_to said_between
   settles = record {

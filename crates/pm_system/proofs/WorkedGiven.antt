@@ -1,5 +1,6 @@
 -- The worked system is over a market.
-use Rattle.std.proofs.Common.{◌≡◌, ap, ℕ, zero, suc, ◌+◌, ◌<◌, ◌≤◌, Bool, true, false, ℤ, pos, negsuc, ◌≤ℤ◌, List, [], ◌∷◌, length, cond, eqb}
+use Rattle.std.proofs.Common.{◌≡◌, ap, ℕ, zero, suc, ◌+◌, ◌<◌, ◌≤◌, Bool, true, false, ℤ, pos, negsuc, ◌≤ℤ◌, List, []}
+use Rattle.std.proofs.Common.{◌∷◌, length, cond, eqb}
 use Rattle.std.proofs.Common.{refl, inl, inr, arith}
 use Rattle.std.proofs.lemmas.Int.{ints}
 use Rattle.std.proofs.lemmas.Bool.{cond-false}
@@ -44,7 +45,8 @@ small_is_demand : (d n : ℕ) → IsDemand 3 (small_demand d n)
 small_is_demand d n =
     let Is : List ℤ → Type 0 = λ l. IsDemand 3 l in
     either Is (is_member small_tree d n) (small_offer d n) (zeros 3)
-    (λ e. either Is (eqb d 3) (pos 3 ∷ pos 1 ∷ negsuc 0 ∷ []) (cond (eqb n 2) (pos 6 ∷ pos 4 ∷ negsuc 1 ∷ []) (pos 6 ∷ negsuc 1 ∷ negsuc 2 ∷ []))
+    (λ e. either Is (eqb d 3) (pos 3 ∷ pos 1 ∷ negsuc 0 ∷ [])
+    (cond (eqb n 2) (pos 6 ∷ pos 4 ∷ negsuc 1 ∷ []) (pos 6 ∷ negsuc 1 ∷ negsuc 2 ∷ []))
     (λ e. is_demand (pos 3) (pos 1) (negsuc 0) (within (pos 3) (omega (arith, ints)) (omega (arith, ints)))
     (within (pos 1) (omega (arith, ints)) (omega (arith, ints))) (below (negsuc 0) (omega (arith, ints)) (omega (arith, ints)))
     (omega (arith, ints)) (omega (arith, ints)))
@@ -67,6 +69,7 @@ each_node P one two three (suc (suc zero)) node = two
 each_node P one two three (suc (suc (suc zero))) node = three
 each_node P one two three (suc (suc (suc (suc x)))) node = absurd (omega (arith, node.1))
 
+-- what holds of devices 2 and 3 holds of each leaf
 pub each_leaf : (P : ℕ → Type 0) → P 2 → P 3 → (x : ℕ) → IsLeaf small_tree x → P x
 unfolding is_leaf
 each_leaf P two three zero leaf = absurd cc
@@ -131,5 +134,6 @@ given = record {
   givers = λ c. inr (λ n. refl);
 }
 
+-- the small tree is a market
 pub market : IsTreeMarket small_tree small_pricing small_places
 market = is_market small_tree 3 small_demand (λ c n. small_limits) no_giver given

@@ -51,8 +51,10 @@ small_pricing = placed_pricing small_tree 3 small_demand (λ c n. small_limits) 
 -- learns it and makes its next bid; its process is killed before the bid is sent, and comes back. It hears both devices again, so it
 -- has its record again, and sends the bid. The root clears again, and the price goes down; that of device 3 comes twice.
 abbrev pub small_calls : List NodeCall
-small_calls = Bids 2 ∷ Bids 3 ∷ TakesBid 2 0 ∷ TakesBid 3 0 ∷ Sends 1 ∷ TakesBid 1 0 ∷ Clears ∷ Bids 2 ∷ TakesBid 2 1 ∷ StopsBidding 1 ∷ Restarts 1 0
-    ∷ TakesBid 3 0 ∷ TakesBid 2 1 ∷ Resends 1 ∷ TakesBid 1 1 ∷ Clears ∷ TakesPrice 1 1 ∷ TakesPrice 2 0 ∷ TakesPrice 3 0 ∷ TakesPrice 3 0 ∷ []
+small_calls =
+    Bids 2 ∷ Bids 3 ∷ TakesBid 2 0 ∷ TakesBid 3 0 ∷ Sends 1 ∷ TakesBid 1 0 ∷ Clears ∷ Bids 2 ∷ TakesBid 2 1 ∷ StopsBidding 1 ∷ Restarts 1 0
+    ∷ TakesBid 3 0 ∷ TakesBid 2 1 ∷ Resends 1 ∷ TakesBid 1 1 ∷ Clears ∷ TakesPrice 1 1 ∷ TakesPrice 2 0 ∷ TakesPrice 3 0 ∷
+    TakesPrice 3 0 ∷ []
 
 -- In the end the newest clearing, the second, is over the newest offers. The sum of the devices is 9, -1, -3 - 1. The root clears at
 -- step 0 of what the relay announces, which is -1 at each step; at step 0 the devices would take more than 7 watts, so the relay

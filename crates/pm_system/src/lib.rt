@@ -66,11 +66,13 @@ pub fn devices_give_limits()
 pub fn expiring_is_two_calls()
     ensures relay { (lists : Lists) (p : Pricing) (numbering : Numbering) (calls : List NodeCall)
         (sys new : System) (d : ℕ) → IsTreeMarket lists p numbering →
-        RunsTheMarket lists p numbering calls sys → (did : RelayExpires lists p numbering sys d new) →
+        RunsTheMarket lists p numbering calls sys →
+        (did : RelayExpires lists p numbering sys d new) →
         AreTwoCalls lists p numbering sys d did.number new }
     ensures root { (lists : Lists) (p : Pricing) (numbering : Numbering) (calls : List NodeCall)
         (sys new : System) (d : ℕ) → IsTreeMarket lists p numbering →
-        RunsTheMarket lists p numbering calls sys → (did : RootExpires lists p numbering sys d new) →
+        RunsTheMarket lists p numbering calls sys →
+        (did : RootExpires lists p numbering sys d new) →
         AreTwoCalls lists p numbering sys d did.number new }
 {}
 

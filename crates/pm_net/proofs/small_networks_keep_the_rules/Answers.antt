@@ -22,13 +22,15 @@ unfolding parent is_leaf is_member changes update all_to is_new_bid is_caught_up
 returns-clause-newest_bid c = refl
 
 pub returns-clause-limited : goal.returns-clause-limited
-unfolding said_between parent is_leaf is_member changes update all_to is_new_bid is_caught_up has_news can_send sent_down can_clear is_new_price names_a_bid is_overtaken
+unfolding said_between parent is_leaf is_member changes update all_to is_new_bid is_caught_up has_news can_send sent_down can_clear is_new_price
+    names_a_bid is_overtaken
     waits
     can_rebuild can_resend can_tell_one can_pass_to_one last_join add_to
 returns-clause-limited c = (refl, refl)
 
 pub returns-clause-by_record : goal.returns-clause-by_record
-unfolding said_between parent is_leaf is_member changes update all_to is_new_bid is_caught_up has_news can_send sent_down can_clear is_new_price names_a_bid is_overtaken
+unfolding said_between parent is_leaf is_member changes update all_to is_new_bid is_caught_up has_news can_send sent_down can_clear is_new_price
+    names_a_bid is_overtaken
     waits
     can_rebuild can_resend can_tell_one can_pass_to_one last_join add_to
 returns-clause-by_record c = refl
