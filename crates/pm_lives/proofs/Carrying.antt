@@ -1,8 +1,9 @@
 -- Frames that come from node to node, and the start of a life.
-use Rattle.std.proofs.Common.{◌≡◌, ◌⊎◌, ◌∙◌, sym, ap, subst, ℕ, ◌+◌, ◌<◌, Bool, true, false, cond, eqb, List, [], ◌∷◌, ◌++◌, Option, Some, None, refl, inl, inr}
-use Rattle.std.proofs.lemmas.Bool.{cond-true, cond-false, ne_eqb}
+use Rattle.std.proofs.Common.{◌≡◌, ◌⊎◌, ◌∙◌, sym, ap, subst, ℕ, ◌+◌, ◌<◌, Bool, true, false, cond, eqb, List, [], ◌∷◌, ◌++◌, Option, Some, None, refl, inl, inr, arith, subst₂, get_or, replicate}
+use Rattle.std.proofs.lemmas.Bool.{cond-true, cond-false, ne_eqb, eq-eqb, and_from}
+use Rattle.std.proofs.lemmas.List.{get_or-replicate, get_or_past, length-replicate}
+use Rattle.std.proofs.lemmas.Cmp.{int_eq_equiv}
 use Rattle.pm_base.specs.declared.limits.Limits.{Limits}
-use Rattle.pm_cache.specs.Cache.{Cache}
 use Rattle.pm_market.specs.Lists.{Lists, parent, IsNode}
 use Rattle.pm_net.specs.Pricing.{Pricing}
 use Rattle.pm_net.specs.Messages.{BidMessage, PriceMessage}
@@ -27,7 +28,19 @@ use Rattle.pm_frames.proofs.OneRelayFrame.{relay_framing_sound}
 use Rattle.pm_frames.proofs.OneRootFrame.{root_framing_sound}
 use Rattle.pm_frames.proofs.OneDeviceFrame.{device_framing_sound}
 use Rattle.pm_basis.specs.declared.basis.Basis.{Basis}
-use Rattle.pm_services.specs.RelayAnswers.{OpenRelay, RelayServiceValue, AnswersRelay, AnswersNow}
+use Rattle.pm_basis.specs.Prices.{BasisValue}
+use Rattle.pm_base.specs.Limits.{most_nodes}
+use Rattle.pm_session.specs.declared.price.PriceUpdate.{PriceUpdate}
+use Rattle.pm_relay.specs.Numbers.{child_number}
+use Rattle.pm_frames.specs.declared.place.RelayPlace.{RelayPlace}
+use Rattle.pm_services.specs.Bounds.{no_bounds}
+use Rattle.pm_services.specs.Receipts.{sender_place}
+use Rattle.pm_services.specs.RelaySetups.{RelaySetup}
+use Rattle.pm_services.specs.RelayAnswers.{WaitingRelay, OpenRelay, RelayServiceValue, ComesUp, with_held, AnswersKeptIn, AnswersGivenIn, AnswersRelay, AnswersNow}
+use Rattle.pm_lives.specs.RelayWrites.{WritesLimits, WritesKept}
+use Rattle.pm_lives.specs.Outputs.{Output}
+use Rattle.pm_lives.specs.Carrying.{setup_for}
+use Rattle.pm_lives.proofs.Answering.{limits_written}
 use Rattle.pm_system.specs.System.{System}
 use Rattle.pm_lives.specs.Outputs.{Up, outputs_bytes, PriceWasSent, BidWasSent, up_bytes, down_bytes}
 use Rattle.pm_lives.specs.RelayLife.{CarriesBid, CarriesLimits, RelayMayRead, nothing_stored}
@@ -35,13 +48,20 @@ use Rattle.pm_lives.specs.RootLife.{RootMayRead}
 use Rattle.pm_lives.specs.DeviceLife.{DeviceMayRead}
 use Rattle.pm_net.specs.Agents.{DeviceAgent, new_agent}
 use Rattle.pm_relay.specs.Roots.{RootValue, RootComesBack}
-use Rattle.pm_frames.specs.Stored.{StoredRoot, agent_resume_bytes, IsNewestAccepted}
+use Rattle.pm_frames.specs.Stored.{StoredRoot, relay_resume_bytes, agent_resume_bytes, IsNewestAccepted}
 use Rattle.pm_frames.specs.declared.stored.StoredAgent.{StoredAgent}
-use Rattle.pm_services.specs.RootAnswers.{AnswersRoot}
-use Rattle.pm_services.specs.DeviceAnswers.{DeviceServiceValue, AnswersDevice, agent_after, reply_to, sent_again}
+use Rattle.pm_services.specs.RootAnswers.{OpenRoot, AnswersRoot}
+use Rattle.pm_services.specs.DeviceAnswers.{DeviceServiceValue, OpenDevice, AnswersDevice, device_after, same_basis, reply_to, sent_again}
 use Rattle.pm_system.specs.Calls.{bid_kept}
 use Rattle.pm_lives.specs.Lives.{no_root_stored}
 use Rattle.pm_lives.specs.Carrying.{RootIsGiven, RootIsBack, DeviceIsBack, root_hello, root_resumed, bid_frame, limits_frame, price_frame, RelayIsGiven, RelayIsBack, hello, resumed}
+
+some_same : (a b : ℕ) → Some a ≡ Some b → a ≡ b
+some_same a b e = cc
+
+-- a basis is the same as itself
+itself : (b : BasisValue) → same_basis b b ≡ true
+itself b = and_from _ _ (and_from _ _ (int_eq_equiv.refl b.min) (int_eq_equiv.refl b.max)) (eq-eqb b.steps b.steps refl)
 
 -- a bid has the bytes of its frame
 bytes_by : (g : Bool) (child number : ℕ) (demand : List Rattle.std.proofs.Common.ℤ) →
@@ -68,11 +88,11 @@ module _ (lists : Lists) (p : Pricing) (numbering : Numbering) (sys : System) (x
     passes = passes;
   }
 
-  relay_by : (c : ℕ) → parent lists x ≡ c → LimitsPassBy p c x → (g : Bool) → bid.gone ≡ g →
-      RelayMayRead lists p numbering sys c (relay_frame.Child (cond g (Gone (numbering.place x + 1) bid.number) (Bid (numbering.place x + 1) bid.number
+  relay_by : (own : RelaySetup) (c : ℕ) → parent lists x ≡ c → LimitsPassBy p c x → (g : Bool) → bid.gone ≡ g →
+      RelayMayRead lists p numbering own sys c (relay_frame.Child (cond g (Gone (numbering.place x + 1) bid.number) (Bid (numbering.place x + 1) bid.number
       bid.demand)))
-  relay_by c up passes true e = carried c up (λ ne. passes) None (sym (cond-true bid.gone None (Some bid.demand) e))
-  relay_by c up passes false e = carried c up (λ ne. passes) (Some bid.demand) (sym (cond-false bid.gone None (Some bid.demand) e))
+  relay_by own c up passes true e = carried c up (λ ne. passes) None (sym (cond-true bid.gone None (Some bid.demand) e))
+  relay_by own c up passes false e = carried c up (λ ne. passes) (Some bid.demand) (sym (cond-false bid.gone None (Some bid.demand) e))
 
   root_by : parent lists x ≡ 0 → (g : Bool) → bid.gone ≡ g →
       RootMayRead lists p numbering sys (root_frame.Market (cond g (Gone (numbering.place x + 1) bid.number) (Bid (numbering.place x + 1) bid.number
@@ -81,22 +101,23 @@ module _ (lists : Lists) (p : Pricing) (numbering : Numbering) (sys : System) (x
   root_by up false e = carried 0 up (λ ne. absurd (ne refl)) (Some bid.demand) (sym (cond-false bid.gone None (Some bid.demand) e))
 
   -- a relay that reads these bytes reads that bid
-  pub relay_reads_bid : (c : ℕ) → parent lists x ≡ c → LimitsPassBy p c x → (place : NodePlace) (frame : RelayFrame) (more behind : List ℕ) → IsRelayFormed place frame →
+  pub relay_reads_bid : (c : ℕ) → parent lists x ≡ c → LimitsPassBy p c x → (own : RelaySetup) (place : RelayPlace) (frame : RelayFrame) (more behind : List ℕ) → IsRelayFormed place frame →
       IsRelayFormed place (relay_frame.Child (bid_frame (numbering.place x + 1) bid)) →
-      relay_frame_bytes frame ++ more ≡ up_bytes (numbering.place x + 1) bid ++ behind → RelayMayRead lists p numbering sys c frame × (more ≡ behind)
-  relay_reads_bid c up passes place frame more behind formed fits same =
+      relay_frame_bytes frame ++ more ≡ up_bytes (numbering.place x + 1) bid ++ behind → RelayMayRead lists p numbering own sys c frame × (more ≡ behind)
+  relay_reads_bid c up passes own place frame more behind formed fits same =
       let other : RelayFrame = relay_frame.Child (bid_frame (numbering.place x + 1) bid) in
       let one = relay_framing_sound.one_frame place frame other more behind formed fits
       (same ∙ ap (λ (l : List ℕ). l ++ behind) (up_is (numbering.place x + 1) bid)) in
-      (subst (λ (f : RelayFrame). RelayMayRead lists p numbering sys c f) (sym one.0) (relay_by c up passes bid.gone refl), one.1)
+      (subst (λ (f : RelayFrame). RelayMayRead lists p numbering own sys c f) (sym one.0) (relay_by own c up passes bid.gone refl), one.1)
 
   -- and one that reads those of limits reads the limits that are given under it
-  pub relay_reads_limits : (c : ℕ) → parent lists x ≡ c → bid.gone ≡ true → (limits : Limits) → GivesLimits p c x bid.number limits → (place : NodePlace)
-      (frame : RelayFrame) (more behind : List ℕ) → IsRelayFormed place frame → IsRelayFormed place (limits_frame (numbering.place x + 1) bid limits) →
-      relay_frame_bytes frame ++ more ≡ relay_frame_bytes (limits_frame (numbering.place x + 1) bid limits) ++ behind →
-      RelayMayRead lists p numbering sys c frame × (more ≡ behind)
-  relay_reads_limits c up gone limits gives place frame more behind formed fits same =
-      let other : RelayFrame = limits_frame (numbering.place x + 1) bid limits in
+  pub relay_reads_limits : (c : ℕ) → parent lists x ≡ c → bid.gone ≡ true → (limits : Limits) → GivesLimits p c x bid.number limits → (own : RelaySetup) →
+      own.terms.giver ≡ Some (numbering.place x + 1) → (place : RelayPlace)
+      (frame : RelayFrame) (more behind : List ℕ) → IsRelayFormed place frame → IsRelayFormed place (limits_frame bid limits) →
+      relay_frame_bytes frame ++ more ≡ relay_frame_bytes (limits_frame bid limits) ++ behind →
+      RelayMayRead lists p numbering own sys c frame × (more ≡ behind)
+  relay_reads_limits c up gone limits gives own given place frame more behind formed fits same =
+      let other : RelayFrame = limits_frame bid limits in
       let one = relay_framing_sound.one_frame place frame other more behind formed fits same in
       let carries : CarriesLimits lists p numbering sys c (numbering.place x + 1) bid.number limits = record {
         x = x;
@@ -109,7 +130,9 @@ module _ (lists : Lists) (p : Pricing) (numbering : Numbering) (sys : System) (x
         gone = ap (λ (b : BidMessage). b.gone) sent.is ∙ gone;
         gives = gives;
       } in
-      (subst (λ (f : RelayFrame). RelayMayRead lists p numbering sys c f) (sym one.0) carries, one.1)
+      let may : RelayMayRead lists p numbering own sys c (limits_frame bid limits) = λ giver is.
+      subst (λ (g : ℕ). CarriesLimits lists p numbering sys c g bid.number limits) (some_same (numbering.place x + 1) giver (sym given ∙ is)) carries in
+      (subst (λ (f : RelayFrame). RelayMayRead lists p numbering own sys c f) (sym one.0) may, one.1)
 
   pub root_reads_bid : parent lists x ≡ 0 → (stage : Stage) (frame : RootFrame) (more behind : List ℕ) → IsRootFormed stage frame →
       IsRootFormed stage (root_frame.Market (bid_frame (numbering.place x + 1) bid)) →
@@ -122,86 +145,140 @@ module _ (lists : Lists) (p : Pricing) (numbering : Numbering) (sys : System) (x
 
 module _ (lists : Lists) (p : Pricing) (numbering : Numbering) (sys : System) (x : ℕ) (price : PriceMessage) (sent : PriceWasSent sys x price) where
   -- a relay or a device that reads the bytes of a price reads that price
-  pub relay_reads_price : (child : NodePlace) (frame : RelayFrame) (more behind : List ℕ) → IsRelayFormed child frame →
-      IsRelayFormed child (relay_frame.Parent (price_frame (numbering.place x + 1) price)) →
-      relay_frame_bytes frame ++ more ≡ down_bytes (numbering.place x) price ++ behind → RelayMayRead lists p numbering sys x frame × (more ≡ behind)
-  relay_reads_price place frame more behind formed fits same =
-      let other : RelayFrame = relay_frame.Parent (price_frame (numbering.place x + 1) price) in
+  pub relay_reads_price : (own : RelaySetup) (child : RelayPlace) (frame : RelayFrame) (more behind : List ℕ) → IsRelayFormed child frame →
+      IsRelayFormed child (relay_frame.Parent (price_frame own.basis (numbering.place x + 1) price)) →
+      relay_frame_bytes frame ++ more ≡ down_bytes own.basis (numbering.place x) price ++ behind →
+      RelayMayRead lists p numbering own sys x frame × (more ≡ behind)
+  relay_reads_price own place frame more behind formed fits same =
+      let other : RelayFrame = relay_frame.Parent (price_frame own.basis (numbering.place x + 1) price) in
       let one = relay_framing_sound.one_frame place frame other more behind formed fits same in
-      (subst (λ (f : RelayFrame). RelayMayRead lists p numbering sys x f) (sym one.0) sent, one.1)
+      (subst (λ (f : RelayFrame). RelayMayRead lists p numbering own sys x f) (sym one.0) (refl, sent), one.1)
 
-  pub device_reads_price : (child : NodePlace) (frame : DeviceFrame) (more behind : List ℕ) → IsDeviceFormed child frame →
-      IsDeviceFormed child (device_frame.Parent (price_frame (numbering.place x + 1) price)) →
-      device_frame_bytes frame ++ more ≡ down_bytes (numbering.place x) price ++ behind → DeviceMayRead lists p sys x frame × (more ≡ behind)
-  device_reads_price place frame more behind formed fits same =
-      let other : DeviceFrame = device_frame.Parent (price_frame (numbering.place x + 1) price) in
+  pub device_reads_price : (basis : BasisValue) (child : NodePlace) (frame : DeviceFrame) (more behind : List ℕ) → IsDeviceFormed child frame →
+      IsDeviceFormed child (device_frame.Parent (price_frame basis (numbering.place x + 1) price)) →
+      device_frame_bytes frame ++ more ≡ down_bytes basis (numbering.place x) price ++ behind →
+      DeviceMayRead lists p basis sys x frame × (more ≡ behind)
+  device_reads_price basis place frame more behind formed fits same =
+      let other : DeviceFrame = device_frame.Parent (price_frame basis (numbering.place x + 1) price) in
       let one = device_framing_sound.one_frame place frame other more behind formed fits same in
-      (subst (λ (f : DeviceFrame). DeviceMayRead lists p sys x f) (sym one.0) sent, one.1)
+      (subst (λ (f : DeviceFrame). DeviceMayRead lists p basis sys x f) (sym one.0) (itself basis, sent), one.1)
 
 -- ---- the start of a life
 
 relay_hello : (old : RelayServiceValue) (basis : Basis) (after : RelayServiceValue) (reply : List ℕ) → old.relay ≡ None →
-    AnswersRelay old (relay_frame.Child (Hello basis)) after reply → RelayIsBack old basis.steps after (nothing_stored old.limits)
+    AnswersRelay old (relay_frame.Child (Hello basis)) after reply →
+    ComesUp (setup_for old basis) after.relay × (reply ≡ [])
 relay_hello old basis after reply closed did =
-    let opens = subst (λ (o : Option OpenRelay). AnswersNow old.child old.limits o (relay_frame.Child (Hello basis)) after.relay reply) closed did.answers in
-    record { relay = opens.0.relay; relay_is = opens.0.opened; back = opens.0.back; child = did.child; limits = did.limits }
+    subst (λ (o : Option OpenRelay). AnswersNow old.child old.terms o (relay_frame.Child (Hello basis)) after.relay reply) closed did.answers
 
-pub relay_is_back : (old : RelayServiceValue) (basis : Basis) (after : RelayServiceValue) (stored : StoredRelay) → old.relay ≡ None →
-    RelayIsGiven old basis after stored → RelayIsBack old basis.steps after stored
-relay_is_back old basis after _ closed (hello reply did) = relay_hello old basis after reply closed did
-relay_is_back old basis after _ closed (resumed mid reply more stored first then) =
-    let was = relay_hello old basis mid reply closed first in
-    let opens = subst (λ (o : Option OpenRelay). AnswersNow mid.child mid.limits o (relay_frame.Resume stored) after.relay more) was.relay_is then.answers in
-    let Back : ℕ → Limits → Type 0 = λ steps limits.
-    Rattle.pm_relay.specs.Relays.ComesBack steps limits stored.last stored.answered stored.index stored.numbers stored.limits opens.0.relay in
+nothing_learnt : (giver : Option ℕ) (own : RelaySetup) (held : WaitingRelay) → WritesKept giver own held (nothing_stored own) held []
+nothing_learnt None own held = (refl, refl)
+nothing_learnt (Some giver) own held = inl (no_number (sender_place giver), (refl, refl))
+  where
+    no_number : (k : ℕ) → child_number (replicate most_nodes 0) k ≡ 0
+    no_number k = elim (Rattle.std.proofs.lemmas.Bool.cases_lt k most_nodes) [
+      | inl inside ↦ get_or-replicate most_nodes k 0 0 inside
+      | inr past ↦ get_or_past (replicate most_nodes 0) k 0 (omega (arith, past, length-replicate {A = ℕ} most_nodes 0))
+    ]
+
+waiting_is : (held : WaitingRelay) → held.waiting ≡ None → record { relay = held.relay; waiting = None } ≡ held
+waiting_is held e = ap (λ (w : Option PriceUpdate). record { relay = held.relay; waiting = w }) (sym e)
+
+-- what the service answers is what the words have
+kept_written : (giver : Option ℕ) (old : OpenRelay) (stored : StoredRelay) (new : OpenRelay) (reply : List ℕ) → old.setup.terms.giver ≡ giver →
+    AnswersKeptIn giver old stored new reply →
+    (outs : List (Output StoredRelay)) × WritesKept giver old.setup old.held stored new.held outs
+    × (reply ≡ outputs_bytes relay_resume_bytes old.setup.basis old.setup.child outs) × (new.setup ≡ old.setup)
+kept_written None old stored new reply is did = ([], (ap (λ (r : OpenRelay). r.held) did.0, refl), did.1, ap (λ (r : OpenRelay). r.setup) did.0)
+kept_written (Some giver) old stored new reply is (inl none) =
+    ([], inl (none.0, (ap (λ (r : OpenRelay). r.held) none.1.0, refl)), none.1.1, ap (λ (r : OpenRelay). r.setup) none.1.0)
+kept_written (Some giver) old stored new reply is (inr some) =
+    let number : ℕ = child_number stored.numbers (sender_place giver) in
+    let given = subst (λ (g : Option ℕ). AnswersGivenIn g old number stored.limits new reply) is some.1 in
+    let w = limits_written old.setup old.held giver number stored.limits given.0 reply given.2 in (
+      w.0,
+      inr (some.0, subst (λ (h : WaitingRelay). WritesLimits old.setup old.held giver number stored.limits h w.0) (sym (ap (λ (r : OpenRelay). r.held) given.1)) w.1),
+      w.2,
+      ap (λ (r : OpenRelay). r.setup) given.1,
+    )
+
+pub relay_is_back : (old : RelayServiceValue) (basis : Basis) (after : RelayServiceValue) (stored : StoredRelay) (reply : List ℕ) → old.relay ≡ None →
+    RelayIsGiven old basis after stored reply → RelayIsBack old basis after stored reply
+relay_is_back old basis after _ _ closed (hello reply did) =
+    let up = relay_hello old basis after reply closed did in
+    let held : WaitingRelay = up.0.held in
     record {
-      relay = opens.0.relay;
-      relay_is = opens.0.opened;
-      back = subst (λ (s : ℕ). Back s old.limits) (ap (λ (k : Cache). k.steps) was.back.gathered.cache)
-          (subst (λ (l : Limits). Back was.relay.gathered.cache.steps l) first.limits opens.0.back);
-      child = then.child ∙ first.child;
-      limits = then.limits ∙ first.limits;
+      relay = held.relay;
+      back = up.0.opens.back;
+      held = held;
+      bounds = _;
+      relay_is = up.0.opened;
+      outs = [];
+      learns = subst (λ (h : WaitingRelay). WritesKept old.terms.giver (setup_for old basis) h (nothing_stored (setup_for old basis)) held [])
+          (sym (waiting_is held up.0.opens.waiting)) (nothing_learnt old.terms.giver (setup_for old basis) held);
+      written = up.1;
+    }
+relay_is_back old basis after _ _ closed (resumed mid reply more stored first then) =
+    let up = relay_hello old basis mid reply closed first in
+    let opened : OpenRelay = record { setup = setup_for old basis; bounds = no_bounds; held = up.0.held } in
+    let answers = subst (λ (o : Option OpenRelay). AnswersNow mid.child mid.terms o (relay_frame.Resume stored) after.relay more) up.0.opened then.answers in
+    let came = answers.2 in
+    let w = kept_written old.terms.giver (with_held opened came.back) stored answers.0 more refl came.learns in
+    record {
+      relay = came.back.relay;
+      back = came.opens.back;
+      held = answers.0.held;
+      bounds = answers.0.bounds;
+      relay_is = answers.1 ∙ ap (λ (s : RelaySetup). Some (record { setup = s; bounds = answers.0.bounds; held = answers.0.held })) w.3;
+      outs = w.0;
+      learns = subst (λ (h : WaitingRelay). WritesKept old.terms.giver (setup_for old basis) h stored answers.0.held w.0)
+          (sym (waiting_is came.back came.opens.waiting)) w.1;
+      written = w.2;
     }
 
-root_is_there : (basis : Basis) (after : Option RootValue) (reply : List ℕ) → AnswersRoot None (root_frame.Market (Hello basis)) after reply →
-    RootIsBack basis.steps after no_root_stored
-root_is_there basis after reply did = record { root = did.0.root; root_is = did.0.opened; back = did.0.back }
+root_is_there : (basis : Basis) (after : Option OpenRoot) (reply : List ℕ) → AnswersRoot None (root_frame.Market (Hello basis)) after reply →
+    RootIsBack basis after (no_root_stored basis)
+root_is_there basis after reply did =
+    record { up_root = record { basis = basis; bounds = no_bounds; root = did.0.root }; root_is = did.0.opened; basis_is = refl; back = did.0.back }
 
-pub root_is_back : (basis : Basis) (after : Option RootValue) (stored : StoredRoot) → RootIsGiven basis after stored → RootIsBack basis.steps after stored
+pub root_is_back : (basis : Basis) (after : Option OpenRoot) (stored : StoredRoot) → RootIsGiven basis after stored → RootIsBack basis after stored
 root_is_back basis after _ (root_hello reply did) = root_is_there basis after reply did
 root_is_back basis after _ (root_resumed mid reply more stored first then) =
     let was = root_is_there basis mid reply first in
-    let opens = subst (λ (o : Option RootValue). AnswersRoot o (root_frame.Resume stored) after more) was.root_is then in
+    let came = subst (λ (o : Option OpenRoot). AnswersRoot o (root_frame.Resume stored) after more) was.root_is then in
+    let held = came.2 in
     record {
-      root = opens.0.root;
-      root_is = opens.0.opened;
-      back = subst (λ (s : ℕ). RootComesBack s stored.last stored.numbers opens.0.root)
-          (ap (λ (a : Rattle.pm_auctioneer.specs.Auctions.Auction). a.cache.steps) was.back.auction) opens.0.back;
+      up_root = came.0;
+      root_is = came.1;
+      basis_is = ap (λ (r : OpenRoot). r.basis) held.1 ∙ was.basis_is;
+      back = subst₂ (λ (b : BasisValue) (r : RootValue). RootComesBack b.steps stored.last stored.numbers r) was.basis_is
+          (sym (ap (λ (r : OpenRoot). r.root) held.1)) held.2.0;
     }
 
-gone_if : (p : Pricing) (child number : ℕ) (test : Bool) →
-    cond test [] (frame_bytes (Gone child number)) ≡ outputs_bytes agent_resume_bytes child (cond test [] (Up (bid_kept p number None) ∷ []))
-gone_if p child number true = refl
-gone_if p child number false = sym (Rattle.std.proofs.Common.append-nil (frame_bytes (Gone child number)))
+gone_if : (p : Pricing) (basis : BasisValue) (child number : ℕ) (test : Bool) →
+    cond test [] (frame_bytes (Gone child number)) ≡ outputs_bytes agent_resume_bytes basis child (cond test [] (Up (bid_kept p number None) ∷ []))
+gone_if p basis child number true = refl
+gone_if p basis child number false = sym (Rattle.std.proofs.Common.append-nil (frame_bytes (Gone child number)))
 
-restart_written : (p : Pricing) (child : ℕ) (stored : StoredAgent) (newest : Option (List Rattle.std.proofs.Common.ℤ)) → stored.newest ≡ newest →
+restart_written : (p : Pricing) (basis : BasisValue) (child : ℕ) (stored : StoredAgent) (newest : Option (List Rattle.std.proofs.Common.ℤ)) → stored.newest ≡ newest →
     IsNewestAccepted stored.number newest →
     sent_again child stored.number newest
-    ≡ outputs_bytes agent_resume_bytes child (cond (eqb stored.number 0) [] (Up (bid_kept p stored.number newest) ∷ []))
-restart_written p child stored None is accepted = gone_if p child stored.number (eqb stored.number 0)
-restart_written p child stored (Some demand) is accepted =
+    ≡ outputs_bytes agent_resume_bytes basis child (cond (eqb stored.number 0) [] (Up (bid_kept p stored.number newest) ∷ []))
+restart_written p basis child stored None is accepted = gone_if p basis child stored.number (eqb stored.number 0)
+restart_written p basis child stored (Some demand) is accepted =
     sym (Rattle.std.proofs.Common.append-nil (frame_bytes (Bid child stored.number demand)))
-    ∙ sym (ap (outputs_bytes agent_resume_bytes child) (cond-false (eqb stored.number 0) [] (Up (bid_kept p stored.number (Some demand)) ∷ [])
+    ∙ sym (ap (outputs_bytes agent_resume_bytes basis child) (cond-false (eqb stored.number 0) [] (Up (bid_kept p stored.number (Some demand)) ∷ [])
     (ne_eqb stored.number 0 (λ e. omega (Rattle.std.proofs.Common.arith, e, accepted.0)))))
 
-pub device_is_back : (p : Pricing) (old mid after : DeviceServiceValue) (basis : Basis) (stored : StoredAgent) (reply more : List ℕ) → old.agent ≡ None →
+pub device_is_back : (p : Pricing) (old mid after : DeviceServiceValue) (basis : Basis) (stored : StoredAgent) (reply more : List ℕ) → old.device ≡ None →
     IsNewestAccepted stored.number stored.newest → AnswersDevice old (device_frame.Hello basis) mid reply →
-    AnswersDevice mid (device_frame.Resume stored) after more → DeviceIsBack p old.child after stored reply more
+    AnswersDevice mid (device_frame.Resume stored) after more → DeviceIsBack p old.child basis after stored reply more
 device_is_back p old mid after basis stored reply more closed accepted first then =
-    let was : mid.agent ≡ Some new_agent = first.agent ∙ ap (λ (o : Option DeviceAgent). agent_after o (device_frame.Hello basis)) closed in
+    let was : mid.device ≡ Some (record { agent = new_agent; basis = basis }) =
+    first.device ∙ ap (λ (o : Option OpenDevice). device_after o (device_frame.Hello basis)) closed in
     record {
-      agent_is = then.agent ∙ ap (λ (o : Option DeviceAgent). agent_after o (device_frame.Resume stored)) was;
-      silent = first.replied ∙ ap (λ (o : Option DeviceAgent). reply_to old.child o (device_frame.Hello basis)) closed;
-      written = then.replied ∙ ap (λ (o : Option DeviceAgent). reply_to mid.child o (device_frame.Resume stored)) was
-          ∙ ap (λ (n : ℕ). sent_again n stored.number stored.newest) first.child ∙ restart_written p old.child stored stored.newest refl accepted;
+      device_is = then.device ∙ ap (λ (o : Option OpenDevice). device_after o (device_frame.Resume stored)) was;
+      silent = first.replied ∙ ap (λ (o : Option OpenDevice). reply_to old.child o (device_frame.Hello basis)) closed;
+      written = then.replied ∙ ap (λ (o : Option OpenDevice). reply_to mid.child o (device_frame.Resume stored)) was
+          ∙ ap (λ (n : ℕ). sent_again n stored.number stored.newest) first.child ∙ restart_written p basis old.child stored stored.newest refl accepted;
     }

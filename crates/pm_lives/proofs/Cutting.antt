@@ -3,14 +3,15 @@ use Rattle.std.proofs.Common.{◌∙◌, sym, ap, ℕ, suc, ◌-◌, List, [], �
 use Rattle.std.proofs.lemmas.Bool.{cases_lt}
 use Rattle.std.proofs.lemmas.List.{take-append-le, length-take-le, take-append-drop, take_all}
 use Rattle.std.proofs.Math.Seq.{take-append-add}
+use Rattle.pm_basis.specs.Prices.{BasisValue}
 use Rattle.pm_lives.specs.Outputs.{Output, output_bytes, outputs_bytes}
 use Rattle.pm_lives.specs.Cutting.{IsCut}
 
-pub cut_anywhere : {K : Type 0} (kept : K → List ℕ) (child : ℕ) (outs : List (Output K)) (m : ℕ) → IsCut kept child outs m
-cut_anywhere kept child [] m = record { n = 0; rest = []; held = take_all m [] (omega arith); part = inl refl }
-cut_anywhere kept child (out ∷ outs) m =
-    let b : List ℕ = output_bytes kept child out in
-    let bs : List ℕ = outputs_bytes kept child outs in
+pub cut_anywhere : {K : Type 0} (kept : K → List ℕ) (basis : BasisValue) (child : ℕ) (outs : List (Output K)) (m : ℕ) → IsCut kept basis child outs m
+cut_anywhere kept basis child [] m = record { n = 0; rest = []; held = take_all m [] (omega arith); part = inl refl }
+cut_anywhere kept basis child (out ∷ outs) m =
+    let b : List ℕ = output_bytes kept basis child out in
+    let bs : List ℕ = outputs_bytes kept basis child outs in
     elim (cases_lt m (length b)) [
       | inl lt ↦ record {
         n = 0;
@@ -19,12 +20,12 @@ cut_anywhere kept child (out ∷ outs) m =
         part = inr (omega (arith, lt, length-take-le m b (omega (arith, lt))), (drop m b, sym (take-append-drop m b)));
       }
       | inr ge ↦
-          let at = cut_anywhere kept child outs (m - length b) in
+          let at = cut_anywhere kept basis child outs (m - length b) in
           record {
             n = suc at.n;
             rest = at.rest;
             held = ap (λ (i : ℕ). take i (b ++ bs)) (omega (arith, ge)) ∙ take-append-add b bs (m - length b)
-                ∙ ap (λ (l : List ℕ). b ++ l) at.held ∙ sym (append_assoc b (outputs_bytes kept child (take at.n outs)) at.rest);
+                ∙ ap (λ (l : List ℕ). b ++ l) at.held ∙ sym (append_assoc b (outputs_bytes kept basis child (take at.n outs)) at.rest);
             part = at.part;
           }
     ]

@@ -16,7 +16,8 @@ use Rattle.pm_frames.specs.declared.stored.StoredAgent.{StoredAgent}
 use Rattle.pm_frames.specs.declared.parent.ParentFrame.TheVariants.{Price, Old}
 use Rattle.pm_frames.specs.declared.device.DeviceFrame.{DeviceFrame}
 use Rattle.pm_frames.specs.declared.device.DeviceFrame.TheVariants.{Hello, Offer, Leave, Parent, Resume}
-use Rattle.pm_services.specs.DeviceAnswers.{open_agent_after}
+use Rattle.pm_basis.specs.Prices.{BasisValue}
+use Rattle.pm_lives.specs.DeviceWrites.{agent_after}
 use Rattle.pm_system.specs.System.{System, price_in_channel, with_agent, with_bid_sent, with_setpoints}
 use Rattle.pm_system.specs.Calls as call
 use Rattle.pm_system.specs.Calls.{NodeCall, SystemRuns, DeviceChanges, bid_kept}
@@ -36,15 +37,15 @@ index_stays y sys new moves d index (inr at) =
     inr (at.0, there.0, ap (λ (q : PriceMessage). q.index) there.1 ∙ at.2)
 
 -- what it stores of itself may be stored
-own_kept : (sys : System) (d : ℕ) (agent : DeviceAgent) → sys.agents d ≡ agent → IsIndexOf sys d agent.index → IsAgentKept sys d (stored_agent agent)
-own_kept sys d agent is held = record {
+own_kept : (own : BasisValue) (sys : System) (d : ℕ) (agent : DeviceAgent) → sys.agents d ≡ agent → IsIndexOf sys d agent.index → IsAgentKept sys d (stored_agent own agent)
+own_kept own sys d agent is held = record {
   number = ap (λ (a : DeviceAgent). a.number) (sym is);
   newest = ap newest_demand (sym is);
   price = held;
   older = omega (arith, ap (λ (a : DeviceAgent). a.index) is);
 }
 
-module _ (lists : Lists) (p : Pricing) (numbering : Numbering) (d : ℕ) (leaf : IsLeaf lists d) where
+module _ (lists : Lists) (p : Pricing) (numbering : Numbering) (own : BasisValue) (d : ℕ) (leaf : IsLeaf lists d) where
   abbrev Does : DeviceAgent → System → List (Output StoredAgent) → Type 0
   Does after sys reply = DeviceFollows lists p numbering sys d after [] reply
 
@@ -66,7 +67,7 @@ module _ (lists : Lists) (p : Pricing) (numbering : Numbering) (d : ℕ) (leaf :
   makes : (sys mid : System) (before : List NodeCall) → SystemRuns lists p numbering sys before mid → ((x : ℕ) → AreCalm lets_none x before) → OnlyMoves d sys mid →
       mid.setpoints d ≡ sys.setpoints d →
       (after : DeviceAgent) (bid : BidMessage) → DeviceChanges lists p mid d after bid → IsIndexOf mid d after.index → AreWithin after.number after.offers →
-      bid ≡ bid_kept p after.number (newest_demand after) → Does after sys (made_outs p after)
+      bid ≡ bid_kept p after.number (newest_demand after) → Does after sys (made_outs p own after)
   makes sys mid before runs up only quiet after bid made held within bid_is =
       let new : System = with_bid_sent (with_agent mid d after) d bid in
       let moved : OnlyMoves d mid new = then_moves d mid (with_agent mid d after) new (agent_moved mid d after) (bid_pushed (with_agent mid d after) d d bid) in
@@ -81,8 +82,8 @@ module _ (lists : Lists) (p : Pricing) (numbering : Numbering) (d : ℕ) (leaf :
         up = λ x. Rattle.pm_lives.proofs.After.calm_on lets_none x before (call.Bids d ∷ []) (up x) (tt, tt);
         stands = untold sys new after (record { agent_is = sym is; held = holds; within = within }) quiet;
         sent = (tt, (subst (λ (b : BidMessage). BidWasSent p new d b) bid_is (new_in p mid.bids_sent d bid), tt));
-        kept = (own_kept new d after is holds, (tt, tt));
-        first = inr (stored_agent after, Up (bid_kept p after.number (newest_demand after)) ∷ [], refl);
+        kept = (own_kept own new d after is holds, (tt, tt));
+        first = inr (stored_agent own after, Up (bid_kept p after.number (newest_demand after)) ∷ [], refl);
       }
 
   abbrev itself : (sys : System) → OnlyMoves d sys sys
@@ -95,7 +96,7 @@ module _ (lists : Lists) (p : Pricing) (numbering : Numbering) (d : ℕ) (leaf :
     -- ---- it offers
 
     offers : (demand : List ℤ) → may_offer agent ≡ true → IsGivenOffer lists p d (agent.number + 2) demand →
-        Does (after_offer agent demand) sys (made_outs p (after_offer agent demand))
+        Does (after_offer agent demand) sys (made_outs p own (after_offer agent demand))
     offers demand may given =
         makes sys sys [] refl (λ x. tt) (itself sys) refl (after_offer agent demand) (bid_message (agent.number + 2) false demand)
         (record {
@@ -115,14 +116,14 @@ module _ (lists : Lists) (p : Pricing) (numbering : Numbering) (d : ℕ) (leaf :
 
     offer_by : (may room : Bool) → may_offer agent ≡ may → (demand : List ℤ) → (may ≡ true → room ≡ true → IsGivenOffer lists p d (agent.number + 2) demand) →
         Does (cond may (cond room (after_offer agent demand) agent) agent) sys
-        (cond may (cond room (made_outs p (after_offer agent demand)) (Says out_of_numbers_bytes ∷ [])) (Says window_full_bytes ∷ []))
+        (cond may (cond room (made_outs p own (after_offer agent demand)) (Says out_of_numbers_bytes ∷ [])) (Says window_full_bytes ∷ []))
     offer_by true true is demand given = offers demand is (given refl refl)
     offer_by true false is demand given = says_so sys out_of_numbers_bytes stands
     offer_by false room is demand given = says_so sys window_full_bytes stands
 
     -- ---- it leaves
 
-    leaves : IsGivenLeaving lists d (agent.number + 2) → Does (after_leaving agent) sys (made_outs p (after_leaving agent))
+    leaves : IsGivenLeaving lists d (agent.number + 2) → Does (after_leaving agent) sys (made_outs p own (after_leaving agent))
     leaves given =
         makes sys sys [] refl (λ x. tt) (itself sys) refl (after_leaving agent) (bid_message (agent.number + 2) true (zeros p.steps))
         (record {
@@ -133,7 +134,7 @@ module _ (lists : Lists) (p : Pricing) (numbering : Numbering) (d : ℕ) (leaf :
         stands.held tt refl
 
     leave_by : (room : Bool) → (room ≡ true → IsGivenLeaving lists d (agent.number + 2)) → Does (cond room (after_leaving agent) agent) sys
-        (cond room (made_outs p (after_leaving agent)) (Says out_of_numbers_bytes ∷ []))
+        (cond room (made_outs p own (after_leaving agent)) (Says out_of_numbers_bytes ∷ []))
     leave_by true given = leaves (given refl)
     leave_by false given = says_so sys out_of_numbers_bytes stands
 
@@ -149,7 +150,7 @@ module _ (lists : Lists) (p : Pricing) (numbering : Numbering) (d : ℕ) (leaf :
     left_is = updated_same sys.agents d left
 
     anew : (demand : List ℤ) → IsGivenLeaving lists d (agent.number + 2) → IsGivenOffer lists p d (agent.number + 2 + 2) demand →
-        Does (after_offer left demand) sys (made_outs p (after_offer left demand))
+        Does (after_offer left demand) sys (made_outs p own (after_offer left demand))
     anew demand leaving given =
         let after : DeviceAgent = after_offer left demand in
         let bid : BidMessage = bid_message (agent.number + 2 + 2) false demand in
@@ -185,7 +186,7 @@ module _ (lists : Lists) (p : Pricing) (numbering : Numbering) (d : ℕ) (leaf :
     -- ---- it takes a price
 
     told_sent : (new : System) (before given : List Setpoint) → new.setpoints d ≡ before ++ given → (after : DeviceAgent) (price : PriceMessage) →
-        WereSent lists p numbering new d (told_outs after price given)
+        WereSent lists p numbering new d (told_outs own after price given)
     told_sent new before [] is after price = (tt, tt)
     told_sent new before (setpoint ∷ more) is after price = (
       subst (λ (l : List Setpoint). Contains l setpoint) (sym is)
@@ -193,13 +194,13 @@ module _ (lists : Lists) (p : Pricing) (numbering : Numbering) (d : ℕ) (leaf :
       (tt, tt),
     )
 
-    told_kept : (new : System) (after : DeviceAgent) (price : PriceMessage) (given : List Setpoint) → IsAgentKept new d (stored_agent after) →
-        EachKept (λ (stored : StoredAgent). IsAgentKept new d stored) (told_outs after price given)
+    told_kept : (new : System) (after : DeviceAgent) (price : PriceMessage) (given : List Setpoint) → IsAgentKept new d (stored_agent own after) →
+        EachKept (λ (stored : StoredAgent). IsAgentKept new d stored) (told_outs own after price given)
     told_kept new after price [] own = (tt, tt)
     told_kept new after price (setpoint ∷ more) own = (tt, (own, tt))
 
     takes : (k : ℕ) → k < length (sys.prices_sent d) →
-        DeviceFollows lists p numbering sys d (after_price agent (price_in_channel sys d k)) (setpoints_for agent (price_in_channel sys d k)) (told_outs (after_price agent (price_in_channel sys d k)) (price_in_channel sys d k) (setpoints_for agent (price_in_channel sys d k)))
+        DeviceFollows lists p numbering sys d (after_price agent (price_in_channel sys d k)) (setpoints_for agent (price_in_channel sys d k)) (told_outs own (after_price agent (price_in_channel sys d k)) (price_in_channel sys d k) (setpoints_for agent (price_in_channel sys d k)))
     takes k inside =
         let price : PriceMessage = price_in_channel sys d k in
         let after : DeviceAgent = after_price agent price in
@@ -225,7 +226,7 @@ module _ (lists : Lists) (p : Pricing) (numbering : Numbering) (d : ℕ) (leaf :
             told = updated_same sys.setpoints d (sys.setpoints d ++ given);
           };
           sent = told_sent new (sys.setpoints d) given (updated_same sys.setpoints d (sys.setpoints d ++ given)) after price;
-          kept = told_kept new after price given (own_kept new d after is holds);
+          kept = told_kept new after price given (own_kept own new d after is holds);
           first = inl (λ stored kept. record {
             number = kept.number ∙ sym (ap (λ (a : DeviceAgent). a.number) is ∙ leaves.number);
             newest = kept.newest ∙ sym (ap newest_demand is ∙ leaves.newest);
@@ -238,7 +239,7 @@ module _ (lists : Lists) (p : Pricing) (numbering : Numbering) (d : ℕ) (leaf :
 
     -- what is given where it made its offer anew
     abbrev given_by : DeviceAgent → List (Output StoredAgent)
-    given_by after = cond (ltb agent.number after.number) (made_outs p after) []
+    given_by after = cond (ltb agent.number after.number) (made_outs p own after) []
 
     -- nothing is given
     old_same : Does agent sys (given_by agent)
@@ -246,7 +247,7 @@ module _ (lists : Lists) (p : Pricing) (numbering : Numbering) (d : ℕ) (leaf :
         follows_as lists p numbering lets_none (λ t stored. IsAgentKept t d stored) d (λ t. AgentStandsTold sys d agent [] t) sys [] (given_by agent)
         (elim (cases_Bool (ltb agent.number agent.number)) [
           | inl e ↦ absurd (omega (arith, ltb-true agent.number agent.number e))
-          | inr e ↦ cond-false (ltb agent.number agent.number) (made_outs p agent) [] e
+          | inr e ↦ cond-false (ltb agent.number agent.number) (made_outs p own agent) [] e
         ])
         (silent sys stands)
 
@@ -256,28 +257,28 @@ module _ (lists : Lists) (p : Pricing) (numbering : Numbering) (d : ℕ) (leaf :
     old_by true true (Some demand) is given =
         let after : DeviceAgent = after_offer left demand in
         let both = given refl refl demand refl in
-        follows_as lists p numbering lets_none (λ t stored. IsAgentKept t d stored) d (λ t. AgentStandsTold sys d after [] t) sys (made_outs p after) (given_by after)
-        (cond-true (ltb agent.number after.number) (made_outs p after) [] (lt-ltb agent.number after.number (omega arith)))
+        follows_as lists p numbering lets_none (λ t stored. IsAgentKept t d stored) d (λ t. AgentStandsTold sys d after [] t) sys (made_outs p own after) (given_by after)
+        (cond-true (ltb agent.number after.number) (made_outs p own after) [] (lt-ltb agent.number after.number (omega arith)))
         (anew demand both.0 both.1)
     old_by true true None is given = old_same
     old_by true false newest is given = old_same
     old_by false room newest is given = old_same
 
-    frame_follows : (frame : DeviceFrame) → DeviceMayRead lists p sys d frame →
-        DeviceFollows lists p numbering sys d (open_agent_after agent frame) (told_of agent frame) (device_outs p agent frame)
+    frame_follows : (frame : DeviceFrame) → DeviceMayRead lists p own sys d frame →
+        DeviceFollows lists p numbering sys d (agent_after agent frame) (told_of agent frame) (device_outs p own agent frame)
     frame_follows (Hello basis) may = silent sys stands
     frame_follows (Offer demand) may = offer_by (may_offer agent) (ltb (agent.number + 5) (2 ^ 32)) refl demand may
     frame_follows Leave may = leave_by (ltb (agent.number + 3) (2 ^ 32)) may
-    frame_follows (Parent (Price own number index step)) may =
-        subst (λ (q : PriceMessage). DeviceFollows lists p numbering sys d (after_price agent q) (setpoints_for agent q) (told_outs (after_price agent q) q (setpoints_for agent q))) may.2 (takes may.0 may.1)
-    frame_follows (Parent (Old own kept)) may =
+    frame_follows (Parent (Price child number index step basis)) may =
+        subst (λ (q : PriceMessage). DeviceFollows lists p numbering sys d (after_price agent q) (setpoints_for agent q) (told_outs own (after_price agent q) q (setpoints_for agent q))) may.1.2 (takes may.1.0 may.1.1)
+    frame_follows (Parent (Old child kept)) may =
         old_by (ltb agent.number kept) (ltb (agent.number + 7) (2 ^ 32)) (newest_demand agent) refl may
     frame_follows (Resume stored) may = absurd may
 
 -- What the service of a device's agent answers to a frame is some calls of the device.
-pub device_answers : (lists : Lists) (p : Pricing) (numbering : Numbering) (sys : System) (d : ℕ) → IsLeaf lists d →
-    (old : DeviceAgent) (frame : DeviceFrame) → AgentStands sys d old → DeviceMayRead lists p sys d frame →
-    DeviceFollows lists p numbering sys d (open_agent_after old frame) (told_of old frame) (device_outs p old frame)
-device_answers lists p numbering sys d leaf old frame stands may =
-    subst (λ (a : DeviceAgent). DeviceFollows lists p numbering sys d (open_agent_after a frame) (told_of a frame) (device_outs p a frame)) (sym stands.agent_is)
-    (frame_follows lists p numbering d leaf sys (subst (λ (a : DeviceAgent). AgentStands sys d a) stands.agent_is stands) frame may)
+pub device_answers : (lists : Lists) (p : Pricing) (numbering : Numbering) (sys : System) (d : ℕ) → IsLeaf lists d → (own : BasisValue)
+    (old : DeviceAgent) (frame : DeviceFrame) → AgentStands sys d old → DeviceMayRead lists p own sys d frame →
+    DeviceFollows lists p numbering sys d (agent_after old frame) (told_of old frame) (device_outs p own old frame)
+device_answers lists p numbering sys d leaf own old frame stands may =
+    subst (λ (a : DeviceAgent). DeviceFollows lists p numbering sys d (agent_after a frame) (told_of a frame) (device_outs p own a frame)) (sym stands.agent_is)
+    (frame_follows lists p numbering own d leaf sys (subst (λ (a : DeviceAgent). AgentStands sys d a) stands.agent_is stands) frame may)

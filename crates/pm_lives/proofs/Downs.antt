@@ -1,5 +1,5 @@
 -- Prices for the children of a node, as frames.
-use Rattle.std.proofs.Common.{◌≡◌, ◌∙◌, sym, ap, ℕ, suc, ◌+◌, ◌<◌, List, [], ◌∷◌, ◌++◌, length, get_or, Some, None, refl, arith}
+use Rattle.std.proofs.Common.{◌≡◌, ◌∙◌, sym, ap, ℕ, suc, ◌+◌, ◌<◌, List, [], ◌∷◌, ◌++◌, length, get_or, Some, None, refl, arith, append-nil}
 use Rattle.std.proofs.lemmas.Bool.{cond-true, cond-false}
 use Rattle.std.proofs.lemmas.Grind.{flat_map-append}
 use Rattle.pm_bid.specs.Heads.{nothing_sent}
@@ -10,39 +10,39 @@ use Rattle.pm_net.specs.Pricing.{Pricing}
 use Rattle.pm_net.specs.Messages.{PriceMessage, price_message}
 use Rattle.pm_net.proofs.Messages.{either}
 use Rattle.pm_net_plan.specs.Places.{Numbering}
-use Rattle.pm_wire.specs.Answers.{answer_bytes, reply_bytes, prices, price_for}
-use Rattle.pm_wire.specs.declared.answer.Reply.{Reply}
+use Rattle.pm_basis.specs.Prices.{BasisValue}
+use Rattle.pm_frames.specs.ParentFrames.{price_bytes, price_bytes_for, prices_bytes}
 use Rattle.pm_relay_net.specs.RelayIs.{messages_of}
 use Rattle.pm_system.specs.System.{System}
 use Rattle.pm_lives.specs.Outputs.{Output, Down, PriceWasSent, WereSent, EachKept, output_bytes, outputs_bytes}
 use Rattle.pm_lives.specs.RelayWrites.{down_of, downs}
 use Rattle.pm_lives.proofs.Staying.{both_sent, both_kept}
 
-module _ {K : Type 0} (kept : K → List ℕ) where
+module _ {K : Type 0} (kept : K → List ℕ) (basis : BasisValue) where
   abbrev bytes_of : ℕ → List (Output K) → List ℕ
-  bytes_of child outs = outputs_bytes kept child outs
+  bytes_of child outs = outputs_bytes kept basis child outs
 
   pub written_then : (child : ℕ) (first then : List (Output K)) (one two : List ℕ) → one ≡ bytes_of child first → two ≡ bytes_of child then →
       one ++ two ≡ bytes_of child (first ++ then)
   written_then child first then one two a b =
       ap (λ (l : List ℕ). l ++ two) a ∙ ap (λ (l : List ℕ). bytes_of child first ++ l) b
-      ∙ sym (flat_map-append (output_bytes kept child) first then)
+      ∙ sym (flat_map-append (output_bytes kept basis child) first then)
 
   down_one : (child index step place : ℕ) (head : BidHead) →
-      reply_bytes (price_for index step (place + 1) head) ≡ bytes_of child (down_of index step place head)
+      price_bytes_for basis index step (place + 1) head ≡ bytes_of child (down_of index step place head)
   down_one child index step place head =
-      either (λ (l : List Reply). reply_bytes l ≡ bytes_of child (down_of index step place head))
-      head.gone [] (Rattle.pm_wire.specs.declared.answer.Reply.TheVariants.Price (place + 1) head.number index step ∷ [])
+      either (λ (l : List ℕ). l ≡ bytes_of child (down_of index step place head))
+      head.gone [] (price_bytes (place + 1) head.number index step basis)
       (λ e. sym (ap (bytes_of child) (cond-true head.gone [] (Down place (price_message head.number index step) ∷ []) e)))
-      (λ e. sym (ap (bytes_of child) (cond-false head.gone [] (Down place (price_message head.number index step) ∷ []) e)))
+      (λ e. sym (append-nil (price_bytes (place + 1) head.number index step basis))
+      ∙ sym (ap (bytes_of child) (cond-false head.gone [] (Down place (price_message head.number index step) ∷ []) e)))
 
   pub downs_written : (child index step place : ℕ) (heads : List BidHead) →
-      reply_bytes (prices index step (place + 1) heads) ≡ bytes_of child (downs index step place heads)
+      prices_bytes basis index step (place + 1) heads ≡ bytes_of child (downs index step place heads)
   downs_written child index step place [] = refl
   downs_written child index step place (head ∷ heads) =
-      flat_map-append answer_bytes (price_for index step (place + 1) head) (prices index step (place + 1 + 1) heads)
-      ∙ written_then child (down_of index step place head) (downs index step (place + 1) heads)
-      (reply_bytes (price_for index step (place + 1) head)) (reply_bytes (prices index step (place + 1 + 1) heads))
+      written_then child (down_of index step place head) (downs index step (place + 1) heads)
+      (price_bytes_for basis index step (place + 1) head) (prices_bytes basis index step (place + 1 + 1) heads)
       (down_one child index step place head) (downs_written child index step (place + 1) heads)
 
 -- each of them is what goes down to its place

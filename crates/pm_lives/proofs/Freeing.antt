@@ -24,7 +24,8 @@ use Rattle.pm_frames.specs.declared.root.RootFrame.{RootFrame}
 use Rattle.pm_frames.specs.declared.root.RootFrame.TheVariants as root_frame
 use Rattle.pm_frames.specs.declared.device.DeviceFrame.{DeviceFrame}
 use Rattle.pm_frames.specs.declared.device.DeviceFrame.TheVariants.{Hello, Offer, Leave, Parent, Resume}
-use Rattle.pm_services.specs.DeviceAnswers.{open_agent_after}
+use Rattle.pm_basis.specs.Prices.{BasisValue}
+use Rattle.pm_lives.specs.DeviceWrites.{agent_after}
 use Rattle.pm_system.specs.System.{System, with_agent, with_bid_sent, with_prices_sent, with_setpoints}
 use Rattle.pm_system.specs.Calls.{bid_kept}
 use Rattle.pm_system.specs.Given.{IsDemand, IsTreeMarket}
@@ -60,7 +61,8 @@ relay_let_same tree member count numbering seen c (relay_frame.Child frame) f = 
 relay_let_same tree member count numbering seen c (relay_frame.Parent frame) f = refl
 relay_let_same tree member count numbering seen c relay_frame.Send f = refl
 relay_let_same tree member count numbering seen c (relay_frame.Expire sender) f = refl
-relay_let_same tree member count numbering seen c (relay_frame.NewLimits sender number limits) f = refl
+relay_let_same tree member count numbering seen c (relay_frame.Limits number limits) f = refl
+relay_let_same tree member count numbering seen c (relay_frame.Bound sender bound) f = refl
 relay_let_same tree member count numbering seen c (relay_frame.Resume stored) f = refl
 
 pub root_let_same : (tree : Lists) (member : ℕ → ℕ → Bool) (count : ℕ) (numbering : Numbering) (seen : System) (frame : RootFrame) (f : ℕ → ℕ) →
@@ -68,17 +70,18 @@ pub root_let_same : (tree : Lists) (member : ℕ → ℕ → Bool) (count : ℕ)
 unfolding parent
 root_let_same tree member count numbering seen (root_frame.Market frame) f = refl
 root_let_same tree member count numbering seen (root_frame.Expire sender) f = refl
+root_let_same tree member count numbering seen (root_frame.Bound sender bound) f = refl
 root_let_same tree member count numbering seen (root_frame.Resume stored) f = refl
 
-module _ (p q : Pricing) (same : q.steps ≡ p.steps) where
+module _ (p q : Pricing) (same : q.steps ≡ p.steps) (own : BasisValue) where
   kept_same : (n : ℕ) (o : Option (List ℤ)) → bid_kept q n o ≡ bid_kept p n o
   kept_same n None = ap (λ (k : ℕ). Rattle.pm_net.specs.Messages.bid_message n true (zeros k)) same
   kept_same n (Some demand) = refl
 
-  made_same : (after : DeviceAgent) → made_outs q after ≡ made_outs p after
-  made_same after = ap (λ (b : Rattle.pm_net.specs.Messages.BidMessage). Keeps (stored_agent after) ∷ Up b ∷ []) (kept_same after.number (newest_demand after))
+  made_same : (after : DeviceAgent) → made_outs q own after ≡ made_outs p own after
+  made_same after = ap (λ (b : Rattle.pm_net.specs.Messages.BidMessage). Keeps (stored_agent own after) ∷ Up b ∷ []) (kept_same after.number (newest_demand after))
 
-  pub outs_same : (agent : DeviceAgent) (frame : DeviceFrame) → device_outs q agent frame ≡ device_outs p agent frame
+  pub outs_same : (agent : DeviceAgent) (frame : DeviceFrame) → device_outs q own agent frame ≡ device_outs p own agent frame
   outs_same agent (Hello basis) = refl
   outs_same agent (Offer demand) =
       ap (λ (l : List (Output StoredAgent)). cond (may_offer agent) (cond (ltb (agent.number + 5) (2 ^ 32)) l (Says Rattle.pm_frames.specs.Answers.out_of_numbers_bytes ∷ []))
@@ -86,8 +89,8 @@ module _ (p q : Pricing) (same : q.steps ≡ p.steps) where
   outs_same agent Leave =
       ap (λ (l : List (Output StoredAgent)). cond (ltb (agent.number + 3) (2 ^ 32)) l (Says Rattle.pm_frames.specs.Answers.out_of_numbers_bytes ∷ []))
       (made_same (after_leaving agent))
-  outs_same agent (Parent (Price own number index step)) = refl
-  outs_same agent (Parent (Old own kept)) =
+  outs_same agent (Parent (Price child number index step basis)) = refl
+  outs_same agent (Parent (Old child kept)) =
       let after : DeviceAgent = Rattle.pm_control.specs.Control.after_old agent kept in
       ap (λ (l : List (Output StoredAgent)). cond (ltb agent.number after.number) l []) (made_same after)
   outs_same agent (Resume stored) = refl
@@ -98,11 +101,11 @@ module _ (p q : Pricing) (same : q.steps ≡ p.steps) where
 -- ---- the numbers of a device
 
 -- what is stored of it has its newest number
-module _ (p : Pricing) where
+module _ (p : Pricing) (own : BasisValue) where
   abbrev KeepsNumber : DeviceAgent → List (Output StoredAgent) → Type 0
   KeepsNumber after outs = (k : StoredAgent) (n : ℕ) → (outs ≡ [] → k.number ≡ after.number) → HandledSome n outs → (stored_last k (take n outs)).number ≡ after.number
 
-  made_keeps : (after : DeviceAgent) (k : StoredAgent) (n : ℕ) → HandledSome n (made_outs p after) → (stored_last k (take n (made_outs p after))).number ≡ after.number
+  made_keeps : (after : DeviceAgent) (k : StoredAgent) (n : ℕ) → HandledSome n (made_outs p own after) → (stored_last k (take n (made_outs p own after))).number ≡ after.number
   made_keeps after k zero (inl some) = absurd (omega (arith, some))
   made_keeps after k zero (inr none) = absurd (omega (arith, ap (λ l. Rattle.std.proofs.Common.length l) none))
   made_keeps after k (suc zero) handled = refl
@@ -119,7 +122,7 @@ module _ (p : Pricing) where
   none_keeps number k (suc n) is = is
 
   told_keeps : (after : DeviceAgent) (price : PriceMessage) (o : Option agents.Offer) (k : StoredAgent) (n : ℕ) → k.number ≡ after.number →
-      (stored_last k (take n (told_outs after price (setpoints_of price o)))).number ≡ after.number
+      (stored_last k (take n (told_outs own after price (setpoints_of price o)))).number ≡ after.number
   told_keeps after price None k n is = said_keeps (Rattle.pm_frames.specs.Answers.dropped_bytes price.number price.index) after.number k n is
   told_keeps after price (Some offer) k zero is = is
   told_keeps after price (Some offer) k (suc zero) is = is
@@ -127,23 +130,23 @@ module _ (p : Pricing) where
   told_keeps after price (Some offer) k (suc (suc (suc n))) is = refl
 
   price_keeps : (agent : DeviceAgent) (price : PriceMessage) (k : StoredAgent) (n : ℕ) → k.number ≡ agent.number →
-      (stored_last k (take n (told_outs (after_price agent price) price (setpoints_for agent price)))).number ≡ (after_price agent price).number
+      (stored_last k (take n (told_outs own (after_price agent price) price (setpoints_for agent price)))).number ≡ (after_price agent price).number
   price_keeps agent price k n is =
-      either (λ (l : List agents.Setpoint). (stored_last k (take n (told_outs (after_price agent price) price l))).number ≡ (after_price agent price).number)
+      either (λ (l : List agents.Setpoint). (stored_last k (take n (told_outs own (after_price agent price) price l))).number ≡ (after_price agent price).number)
       (ltb agent.index price.index) (setpoints_of price (kept_offer agent price.number)) []
       (λ e. told_keeps (after_price agent price) price (kept_offer agent price.number) k n (is ∙ sym (price_number agent price)))
       (λ e. said_keeps (Rattle.pm_frames.specs.Answers.dropped_bytes price.number price.index) (after_price agent price).number k n (is ∙ sym (price_number agent price)))
 
   offer_keeps : (may room : Bool) (agent after : DeviceAgent) (k : StoredAgent) (n : ℕ) (full out : List ℕ) → k.number ≡ agent.number →
-      HandledSome n (cond may (cond room (made_outs p after) (Says out ∷ [])) (Says full ∷ [])) →
-      (stored_last k (take n (cond may (cond room (made_outs p after) (Says out ∷ [])) (Says full ∷ [])))).number ≡ (cond may (cond room after agent) agent).number
+      HandledSome n (cond may (cond room (made_outs p own after) (Says out ∷ [])) (Says full ∷ [])) →
+      (stored_last k (take n (cond may (cond room (made_outs p own after) (Says out ∷ [])) (Says full ∷ [])))).number ≡ (cond may (cond room after agent) agent).number
   offer_keeps true true agent after k n full out is handled = made_keeps after k n handled
   offer_keeps true false agent after k n full out is handled = said_keeps out agent.number k n is
   offer_keeps false room agent after k n full out is handled = said_keeps full agent.number k n is
 
   leave_keeps : (room : Bool) (agent after : DeviceAgent) (k : StoredAgent) (n : ℕ) (out : List ℕ) → k.number ≡ agent.number →
-      HandledSome n (cond room (made_outs p after) (Says out ∷ [])) →
-      (stored_last k (take n (cond room (made_outs p after) (Says out ∷ [])))).number ≡ (cond room after agent).number
+      HandledSome n (cond room (made_outs p own after) (Says out ∷ [])) →
+      (stored_last k (take n (cond room (made_outs p own after) (Says out ∷ [])))).number ≡ (cond room after agent).number
   leave_keeps true agent after k n out is handled = made_keeps after k n handled
   leave_keeps false agent after k n out is handled = said_keeps out agent.number k n is
 
@@ -161,11 +164,11 @@ module _ (p : Pricing) where
       anew_rises (Some demand) = omega arith
 
   old_keeps : (agent after : DeviceAgent) (k : StoredAgent) (n : ℕ) → agent.number ≤ after.number → k.number ≡ agent.number →
-      HandledSome n (cond (ltb agent.number after.number) (made_outs p after) []) →
-      (stored_last k (take n (cond (ltb agent.number after.number) (made_outs p after) []))).number ≡ after.number
+      HandledSome n (cond (ltb agent.number after.number) (made_outs p own after) []) →
+      (stored_last k (take n (cond (ltb agent.number after.number) (made_outs p own after) []))).number ≡ after.number
   old_keeps agent after k n rises is =
       either (λ (l : List (Output StoredAgent)). HandledSome n l → (stored_last k (take n l)).number ≡ after.number) (ltb agent.number after.number)
-      (made_outs p after) [] (λ e handled. made_keeps after k n handled)
+      (made_outs p own after) [] (λ e handled. made_keeps after k n handled)
       (λ e handled. none_keeps after.number k n (omega (arith, is, rises, not_less e)))
     where
       not_less : ltb agent.number after.number ≡ false → after.number ≤ agent.number
@@ -175,17 +178,17 @@ module _ (p : Pricing) where
       ]
 
   -- what is stored after an answer has the number of the agent after it
-  pub answer_keeps : (seen : System) (d : ℕ) (agent : DeviceAgent) (frame : DeviceFrame) (k : StoredAgent) (n : ℕ) → DeviceIsFree p seen d frame →
-      k.number ≡ agent.number → HandledSome n (device_outs p agent frame) →
-      (stored_last k (take n (device_outs p agent frame))).number ≡ (open_agent_after agent frame).number
+  pub answer_keeps : (seen : System) (d : ℕ) (agent : DeviceAgent) (frame : DeviceFrame) (k : StoredAgent) (n : ℕ) → DeviceIsFree p own seen d frame →
+      k.number ≡ agent.number → HandledSome n (device_outs p own agent frame) →
+      (stored_last k (take n (device_outs p own agent frame))).number ≡ (agent_after agent frame).number
   answer_keeps seen d agent (Hello basis) k n free is handled = none_keeps agent.number k n is
   answer_keeps seen d agent (Offer demand) k n free is handled =
       offer_keeps (may_offer agent) (ltb (agent.number + 5) (2 ^ 32)) agent (after_offer agent demand) k n
       Rattle.pm_frames.specs.Answers.window_full_bytes Rattle.pm_frames.specs.Answers.out_of_numbers_bytes is handled
   answer_keeps seen d agent Leave k n free is handled =
       leave_keeps (ltb (agent.number + 3) (2 ^ 32)) agent (after_leaving agent) k n Rattle.pm_frames.specs.Answers.out_of_numbers_bytes is handled
-  answer_keeps seen d agent (Parent (Price own number index step)) k n free is handled = price_keeps agent (price_message number index step) k n is
-  answer_keeps seen d agent (Parent (Old own kept)) k n free is handled =
+  answer_keeps seen d agent (Parent (Price child number index step basis)) k n free is handled = price_keeps agent (price_message number index step) k n is
+  answer_keeps seen d agent (Parent (Old child kept)) k n free is handled =
       old_keeps agent (Rattle.pm_control.specs.Control.after_old agent kept) k n (old_rises agent kept) is handled
   answer_keeps seen d agent (Resume stored) k n free is handled = absurd free
 
@@ -209,8 +212,8 @@ abbrev pub asks_device : DeviceAgent → ℕ → DeviceFrame → Wanted → Want
 asks_device a d (Hello basis) w = w
 asks_device a d (Offer demand) w = cond (may_offer a) (cond (ltb (a.number + 5) (2 ^ 32)) (with_wanted w d (a.number + 2) demand) w) w
 asks_device a d Leave w = w
-asks_device a d (Parent (Price own number index step)) w = w
-asks_device a d (Parent (Old own kept)) w =
+asks_device a d (Parent (Price child number index step basis)) w = w
+asks_device a d (Parent (Old child kept)) w =
     cond (ltb a.number kept) (cond (ltb (a.number + 7) (2 ^ 32)) (asks_anew d (a.number + 2 + 2) (newest_demand a) w) w) w
 asks_device a d (Resume stored) w = w
 
@@ -253,14 +256,14 @@ old_goes true true a (Some demand) = record { by = 2; is = omega arith }
 old_goes true false a o = record { by = 0; is = omega arith }
 old_goes false room a o = record { by = 0; is = omega arith }
 
-goes : (p : Pricing) (seen : System) (d : ℕ) (a : DeviceAgent) (frame : DeviceFrame) → DeviceIsFree p seen d frame → Goes a.number (open_agent_after a frame).number
-goes p seen d a (Hello basis) free = record { by = 0; is = omega arith }
-goes p seen d a (Offer demand) free = offer_goes (may_offer a) (ltb (a.number + 5) (2 ^ 32)) a (after_offer a demand) refl
-goes p seen d a Leave free = leave_goes (ltb (a.number + 3) (2 ^ 32)) a (after_leaving a) refl
-goes p seen d a (Parent (Price own number index step)) free =
+goes : (p : Pricing) (own : BasisValue) (seen : System) (d : ℕ) (a : DeviceAgent) (frame : DeviceFrame) → DeviceIsFree p own seen d frame → Goes a.number (agent_after a frame).number
+goes p own seen d a (Hello basis) free = record { by = 0; is = omega arith }
+goes p own seen d a (Offer demand) free = offer_goes (may_offer a) (ltb (a.number + 5) (2 ^ 32)) a (after_offer a demand) refl
+goes p own seen d a Leave free = leave_goes (ltb (a.number + 3) (2 ^ 32)) a (after_leaving a) refl
+goes p own seen d a (Parent (Price child number index step basis)) free =
     record { by = 0; is = omega (arith, price_number a (price_message number index step)) }
-goes p seen d a (Parent (Old own kept)) free = old_goes (ltb a.number kept) (ltb (a.number + 7) (2 ^ 32)) a (newest_demand a)
-goes p seen d a (Resume stored) free = absurd free
+goes p own seen d a (Parent (Old child kept)) free = old_goes (ltb a.number kept) (ltb (a.number + 7) (2 ^ 32)) a (newest_demand a)
+goes p own seen d a (Resume stored) free = absurd free
 
 -- outside the numbers that it gives with a frame nothing is asked
 abbrev pub Outside : ℕ → ℕ → ℕ → Type 0
@@ -288,14 +291,14 @@ old_outside true true a (Some demand) d w x n out =
 old_outside true false a o d w x n out = same_self w x n
 old_outside false room a o d w x n out = same_self w x n
 
-asks_outside : (a : DeviceAgent) (d : ℕ) (frame : DeviceFrame) (w : Wanted) (x n : ℕ) → (x ≡ d → Outside a.number (open_agent_after a frame).number n) →
+asks_outside : (a : DeviceAgent) (d : ℕ) (frame : DeviceFrame) (w : Wanted) (x n : ℕ) → (x ≡ d → Outside a.number (agent_after a frame).number n) →
     SameAt (asks_device a d frame w) w x n
 asks_outside a d (Hello basis) w x n out = same_self w x n
 asks_outside a d (Offer demand) w x n out =
     offer_outside (may_offer a) (ltb (a.number + 5) (2 ^ 32)) a (after_offer a demand) d demand w refl x n out
 asks_outside a d Leave w x n out = same_self w x n
-asks_outside a d (Parent (Price own number index step)) w x n out = same_self w x n
-asks_outside a d (Parent (Old own kept)) w x n out = old_outside (ltb a.number kept) (ltb (a.number + 7) (2 ^ 32)) a (newest_demand a) d w x n out
+asks_outside a d (Parent (Price child number index step basis)) w x n out = same_self w x n
+asks_outside a d (Parent (Old child kept)) w x n out = old_outside (ltb a.number kept) (ltb (a.number + 7) (2 ^ 32)) a (newest_demand a) d w x n out
 asks_outside a d (Resume stored) w x n out = same_self w x n
 
 -- no odd number is asked
@@ -309,8 +312,8 @@ asks_odd a half even d (Offer demand) w x k =
     (λ e. (wanted_other w d (a.number + 2) demand x (k + k + 1) (λ e at. omega (arith, at, even))).0) (λ e. refl))
     (λ e. refl)
 asks_odd a half even d Leave w x k = refl
-asks_odd a half even d (Parent (Price own number index step)) w x k = refl
-asks_odd a half even d (Parent (Old own kept)) w x k =
+asks_odd a half even d (Parent (Price child number index step basis)) w x k = refl
+asks_odd a half even d (Parent (Old child kept)) w x k =
     either (λ (v : Wanted). v.member x (k + k + 1) ≡ w.member x (k + k + 1)) (ltb a.number kept)
     (cond (ltb (a.number + 7) (2 ^ 32)) (asks_anew d (a.number + 2 + 2) (newest_demand a) w) w) w
     (λ e. either (λ (v : Wanted). v.member x (k + k + 1) ≡ w.member x (k + k + 1)) (ltb (a.number + 7) (2 ^ 32))
@@ -332,16 +335,16 @@ wanted_demands p w d m demand were is x n =
     either (λ (f : ℕ → List ℤ). IsDemand p.steps (f n)) (eqb x d) (update (w.offer d) m demand) (w.offer x)
     (λ e. either (λ (l : List ℤ). IsDemand p.steps l) (eqb n m) demand (w.offer d n) (λ e. is) (λ e. were d n)) (λ e. were x n)
 
-asks_demands : (p : Pricing) (seen : System) (d : ℕ) (frame : DeviceFrame) (w : Wanted) → DeviceIsFree p seen d frame → AreDemands p w →
+asks_demands : (p : Pricing) (own : BasisValue) (seen : System) (d : ℕ) (frame : DeviceFrame) (w : Wanted) → DeviceIsFree p own seen d frame → AreDemands p w →
     AreDemands p (asks_device (seen.agents d) d frame w)
-asks_demands p seen d (Hello basis) w free were = were
-asks_demands p seen d (Offer demand) w free were =
+asks_demands p own seen d (Hello basis) w free were = were
+asks_demands p own seen d (Offer demand) w free were =
     either (AreDemands p) (may_offer (seen.agents d)) (cond (ltb ((seen.agents d).number + 5) (2 ^ 32)) (with_wanted w d ((seen.agents d).number + 2) demand) w) w
     (λ e. either (AreDemands p) (ltb ((seen.agents d).number + 5) (2 ^ 32)) (with_wanted w d ((seen.agents d).number + 2) demand) w
     (λ e. wanted_demands p w d ((seen.agents d).number + 2) demand were free) (λ e. were)) (λ e. were)
-asks_demands p seen d Leave w free were = were
-asks_demands p seen d (Parent (Price own number index step)) w free were = were
-asks_demands p seen d (Parent (Old own kept)) w free were =
+asks_demands p own seen d Leave w free were = were
+asks_demands p own seen d (Parent (Price child number index step basis)) w free were = were
+asks_demands p own seen d (Parent (Old child kept)) w free were =
     let a : DeviceAgent = seen.agents d in
     either (AreDemands p) (ltb a.number kept) (cond (ltb (a.number + 7) (2 ^ 32)) (asks_anew d (a.number + 2 + 2) (newest_demand a) w) w) w
     (λ e. either (AreDemands p) (ltb (a.number + 7) (2 ^ 32)) (asks_anew d (a.number + 2 + 2) (newest_demand a) w) w
@@ -351,7 +354,7 @@ asks_demands p seen d (Parent (Old own kept)) w free were =
         AreDemands p (asks_anew d ((seen.agents d).number + 2 + 2) o w)
     anew None all = were
     anew (Some demand) all = wanted_demands p w d ((seen.agents d).number + 2 + 2) demand were (all demand refl)
-asks_demands p seen d (Resume stored) w free were = absurd free
+asks_demands p own seen d (Resume stored) w free were = absurd free
 
 -- ---- the numbers of devices over a step
 
@@ -387,7 +390,7 @@ bound_root seen (root_frame.Expire sender) = root_number seen sender
 bound_root seen frame = 0
 
 abbrev pub bound_of : World → LifeStep → ℕ
-bound_of world (RelayUp c) = 0
+bound_of world (RelayUp c i) = 0
 bound_of world (Relay c frame n) = bound_relay world.seen c frame
 bound_of world RootUp = 0
 bound_of world (Root frame n) = bound_root world.seen frame
@@ -395,7 +398,7 @@ bound_of world (DeviceUp d n) = 0
 bound_of world (Device d frame n) = (world.seen.agents d).number + 4
 
 abbrev pub asks_of : World → LifeStep → Wanted → Wanted
-asks_of world (RelayUp c) w = w
+asks_of world (RelayUp c i) w = w
 asks_of world (Relay c frame n) w = w
 asks_of world RootUp w = w
 asks_of world (Root frame n) w = w
@@ -419,17 +422,19 @@ module _ (tree : Lists) (p : Pricing) (numbering : Numbering) (market : IsTreeMa
 
   -- the number that a device has after a frame is stored
   pub device_now : (world new : World) (d : ℕ) (frame : DeviceFrame) (n : ℕ) → AllFine world → (did : Rattle.pm_lives.specs.Free.DeviceReadsFree tree p numbering world d frame n new) →
-      number_now new d ≡ (open_agent_after (world.seen.agents d) frame).number
+      number_now new d ≡ (agent_after (world.seen.agents d) frame).number
   device_now world new d frame n fine did =
       ap (λ (w : World). number_now w d) did.new_is
       ∙ ap (λ (k : StoredAgent). k.number) (updated_same world.agent_kept d
-      (stored_last (world.agent_kept d) (take n (device_outs p (world.seen.agents d) frame))))
-      ∙ answer_keeps p world.seen d (world.seen.agents d) frame (world.agent_kept d) n did.may (sym ((fine d did.leaf).same did.runs)) did.handled
+      (stored_last (world.agent_kept d) (take n (device_outs p world.basis (world.seen.agents d) frame))))
+      ∙ answer_keeps p world.basis world.seen d (world.seen.agents d) frame (world.agent_kept d) n did.may (sym ((fine d did.leaf).same did.runs)) did.handled
 
   pub step_at : (world new : World) (step : LifeStep) → LivesFree1 tree p numbering world step new → AllFine world → (d : ℕ) → IsLeaf tree d → StepAt world new d
-  step_at world new (RelayUp c) did fine d leaf =
+  step_at world new (RelayUp c i) did fine d leaf =
+      let base : System = Rattle.pm_system.specs.System.with_relay world.seen c did.after.relay in
       quiet_step world new d (ap (λ (w : World). w.up d) did.new_is ∙ updated_other world.up c true d (Rattle.pm_system.proofs.Moving.relay_no_leaf tree c d did.conc leaf))
-      (ap (λ (w : World). (w.seen.agents d).number) did.new_is) (ap (λ (w : World). number_now w d) did.new_is) (fine d leaf)
+      (ap (λ (w : World). (w.seen.agents d).number) did.new_is ∙ ap (λ f. (f d).number) (handed_values tree numbering c (take i did.outs) base).2)
+      (ap (λ (w : World). number_now w d) did.new_is) (fine d leaf)
   step_at world new (Relay c frame n) did fine d leaf =
       let base : System = Rattle.pm_system.specs.System.with_relay world.seen c did.after.relay in
       quiet_step world new d (ap (λ (w : World). w.up d) did.new_is)
@@ -465,15 +470,15 @@ module _ (tree : Lists) (p : Pricing) (numbering : Numbering) (market : IsTreeMa
       ]
   step_at world new (Device e frame n) did fine d leaf =
       let a : DeviceAgent = world.seen.agents e in
-      let agent : DeviceAgent = open_agent_after a frame in
+      let agent : DeviceAgent = agent_after a frame in
       let base : System = with_agent world.seen e agent in
-      let outs : List (Output StoredAgent) = device_outs p a frame in
+      let outs : List (Output StoredAgent) = device_outs p world.basis a frame in
       let values = handed_values tree numbering e (take n outs) base in
       elim (cases_eq d e) [
         | inl here ↦
             let now = device_now world new e frame n fine did in
             let was = fine e did.leaf in
-            let on = goes p world.seen e a frame did.may in
+            let on = goes p world.basis world.seen e a frame did.may in
             subst (λ (z : ℕ). StepAt world new z) (sym here) (record {
               fine = record {
                 same = λ up. ap (λ (w : World). (w.seen.agents e).number) did.new_is ∙ ap (λ f. (f e).number) values.2
@@ -507,7 +512,7 @@ module _ (tree : Lists) (p : Pricing) (numbering : Numbering) (market : IsTreeMa
   -- a step asks nothing outside the numbers that it gives
   pub step_outside : (world new : World) (step : LifeStep) → LivesFree1 tree p numbering world step new → AllFine world → (w : Wanted) (d n : ℕ) → IsLeaf tree d →
       Outside (number_now world d) (number_now new d) n → SameAt (asks_of world step w) w d n
-  step_outside world new (RelayUp c) did fine w d n leaf out = same_self w d n
+  step_outside world new (RelayUp c i) did fine w d n leaf out = same_self w d n
   step_outside world new (Relay c frame k) did fine w d n leaf out = same_self w d n
   step_outside world new RootUp did fine w d n leaf out = same_self w d n
   step_outside world new (Root frame k) did fine w d n leaf out = same_self w d n
@@ -533,7 +538,7 @@ module _ (tree : Lists) (p : Pricing) (numbering : Numbering) (market : IsTreeMa
 
   step_odd : (world new : World) (step : LifeStep) → LivesFree1 tree p numbering world step new → AllFine world → (w : Wanted) (d k : ℕ) →
       (asks_of world step w).member d (k + k + 1) ≡ w.member d (k + k + 1)
-  step_odd world new (RelayUp c) did fine w d k = refl
+  step_odd world new (RelayUp c i) did fine w d k = refl
   step_odd world new (Relay c frame i) did fine w d k = refl
   step_odd world new RootUp did fine w d k = refl
   step_odd world new (Root frame i) did fine w d k = refl
@@ -550,12 +555,12 @@ module _ (tree : Lists) (p : Pricing) (numbering : Numbering) (market : IsTreeMa
       ∙ built_odd steps live.0 new live.2 (all_fine world live.0 step live.1 fine) d k
 
   step_demands : (world new : World) (step : LifeStep) → LivesFree1 tree p numbering world step new → (w : Wanted) → AreDemands p w → AreDemands p (asks_of world step w)
-  step_demands world new (RelayUp c) did w were = were
+  step_demands world new (RelayUp c i) did w were = were
   step_demands world new (Relay c frame i) did w were = were
   step_demands world new RootUp did w were = were
   step_demands world new (Root frame i) did w were = were
   step_demands world new (DeviceUp e i) did w were = were
-  step_demands world new (Device e frame i) did w were = asks_demands p world.seen e frame w did.may were
+  step_demands world new (Device e frame i) did w were = asks_demands p world.basis world.seen e frame w did.may were
 
   pub built_demands : (steps : List LifeStep) (world new : World) (live : LiveFree tree p numbering world steps new) → IsDemand p.steps (zeros p.steps) →
       AreDemands p (built steps world new live)

@@ -24,7 +24,12 @@ use Rattle.pm_frames.specs.declared.root.RootFrame.{RootFrame}
 use Rattle.pm_frames.specs.declared.root.RootFrame.TheVariants as root_frame
 use Rattle.pm_frames.specs.declared.device.DeviceFrame.{DeviceFrame}
 use Rattle.pm_frames.specs.declared.device.DeviceFrame.TheVariants.{Hello, Offer, Leave, Parent, Resume}
-use Rattle.pm_services.specs.DeviceAnswers.{open_agent_after}
+use Rattle.pm_basis.specs.Prices.{BasisValue}
+use Rattle.pm_services.specs.RelaySetups.{RelaySetup}
+use Rattle.pm_lives.specs.DeviceWrites.{agent_after}
+use Rattle.pm_lives.specs.Lives.{setup_of}
+use Rattle.pm_relay.specs.Numbers.{child_number}
+use Rattle.pm_services.specs.Receipts.{sender_place}
 use Rattle.pm_system.specs.System.{System, with_agent, with_relay, with_root}
 use Rattle.pm_system.specs.Given.{IsDemand, IsTreeMarket}
 use Rattle.pm_lives.specs.Outputs.{Output}
@@ -111,19 +116,20 @@ module _ (tree : Lists) (p : Pricing) (numbering : Numbering) (market : IsTreeMa
     gives = carries.gives;
   }
 
-  relay_may : (sys : System) (c : ℕ) (frame : RelayFrame) → RelayIsFree tree p numbering sys c frame →
-      Rattle.pm_lives.proofs.Freeing.bound_relay sys c frame ≤ count → RelayMayRead lists pricing numbering sys c frame
-  relay_may sys c (relay_frame.Child (market_frame.Hello basis)) free le = tt
-  relay_may sys c (relay_frame.Child (market_frame.Bid sender number demand)) free le = same_bid sys c sender number (Some demand) free
-  relay_may sys c (relay_frame.Child (market_frame.Gone sender number)) free le = same_bid sys c sender number Rattle.std.proofs.Common.None free
-  relay_may sys c (relay_frame.Child market_frame.Clear) free le = tt
-  relay_may sys c (relay_frame.Parent (Price own number index step)) free le = free
-  relay_may sys c (relay_frame.Parent (Old own kept)) free le = tt
-  relay_may sys c relay_frame.Send free le = tt
-  relay_may sys c (relay_frame.Expire sender) free le =
+  relay_may : (own : RelaySetup) (sys : System) (c : ℕ) (frame : RelayFrame) → RelayIsFree tree p numbering own sys c frame →
+      Rattle.pm_lives.proofs.Freeing.bound_relay sys c frame ≤ count → RelayMayRead lists pricing numbering own sys c frame
+  relay_may own sys c (relay_frame.Child (market_frame.Hello basis)) free le = tt
+  relay_may own sys c (relay_frame.Child (market_frame.Bid sender number demand)) free le = same_bid sys c sender number (Some demand) free
+  relay_may own sys c (relay_frame.Child (market_frame.Gone sender number)) free le = same_bid sys c sender number Rattle.std.proofs.Common.None free
+  relay_may own sys c (relay_frame.Child market_frame.Clear) free le = tt
+  relay_may own sys c (relay_frame.Parent (Price child number index step basis)) free le = free
+  relay_may own sys c (relay_frame.Parent (Old child kept)) free le = tt
+  relay_may own sys c relay_frame.Send free le = tt
+  relay_may own sys c (relay_frame.Expire sender) free le =
       given_expire c sender (Rattle.pm_relay.specs.Numbers.known_number (sys.relays c).recorded (sys.relays c).gathered.cache.heads (sender - 1)) free le
-  relay_may sys c (relay_frame.NewLimits sender number limits) free le = same_limits sys c sender number limits free
-  relay_may sys c (relay_frame.Resume stored) free le = absurd free
+  relay_may own sys c (relay_frame.Limits number limits) free le = λ giver is. same_limits sys c giver number limits (free giver is)
+  relay_may own sys c (relay_frame.Bound sender bound) free le = tt
+  relay_may own sys c (relay_frame.Resume stored) free le = absurd free
 
   root_may : (sys : System) (frame : RootFrame) → RootIsFree tree p numbering sys frame →
       Rattle.pm_lives.proofs.Freeing.bound_root sys frame ≤ count → RootMayRead lists pricing numbering sys frame
@@ -133,16 +139,17 @@ module _ (tree : Lists) (p : Pricing) (numbering : Numbering) (market : IsTreeMa
   root_may sys (root_frame.Market market_frame.Clear) free le = tt
   root_may sys (root_frame.Expire sender) free le =
       given_expire 0 sender (Rattle.pm_relay.specs.Numbers.known_number sys.root.recorded sys.root.auction.cache.heads (sender - 1)) free le
+  root_may sys (root_frame.Bound sender bound) free le = tt
   root_may sys (root_frame.Resume stored) free le = absurd free
 
   -- what a device asks for is so, where all that is wanted above its number is what is asked with the frame, and behind it
-  device_may : (sys : System) (d : ℕ) (frame : DeviceFrame) (rest : Wanted) → IsLeaf tree d → DeviceIsFree p sys d frame →
+  device_may : (own : BasisValue) (sys : System) (d : ℕ) (frame : DeviceFrame) (rest : Wanted) → IsLeaf tree d → DeviceIsFree p own sys d frame →
       (sys.agents d).number + 4 ≤ count →
       ((n : ℕ) → (sys.agents d).number < n → SameAt all (asks_device (sys.agents d) d frame rest) d n) →
-      ((n : ℕ) → n ≤ (open_agent_after (sys.agents d) frame).number → rest.member d n ≡ false) →
-      DeviceMayRead lists pricing sys d frame
-  device_may sys d (Hello basis) rest leaf free le agree low = tt
-  device_may sys d (Offer demand) rest leaf free le agree low = λ may room.
+      ((n : ℕ) → n ≤ (agent_after (sys.agents d) frame).number → rest.member d n ≡ false) →
+      DeviceMayRead lists pricing own sys d frame
+  device_may own sys d (Hello basis) rest leaf free le agree low = tt
+  device_may own sys d (Offer demand) rest leaf free le agree low = λ may room.
       let a : DeviceAgent = sys.agents d in
       let n : ℕ = a.number + 2 in
       let asked : asks_device a d (Offer demand) rest ≡ with_wanted rest d n demand =
@@ -152,20 +159,20 @@ module _ (tree : Lists) (p : Pricing) (numbering : Numbering) (market : IsTreeMa
       let same = wanted_same rest d n demand in
       given_offer d n demand leaf (omega arith) (omega (arith, le)) (at.0 ∙ ap (λ (w : Wanted). w.member d n) asked ∙ same.0)
       (at.1 ∙ ap (λ (w : Wanted). w.offer d n) asked ∙ same.1)
-  device_may sys d Leave rest leaf free le agree low = λ room.
+  device_may own sys d Leave rest leaf free le agree low = λ room.
       let a : DeviceAgent = sys.agents d in
-      let after : open_agent_after a Leave ≡ after_leaving a = cond-true (ltb (a.number + 3) (2 ^ 32)) (after_leaving a) a room in
+      let after : agent_after a Leave ≡ after_leaving a = cond-true (ltb (a.number + 3) (2 ^ 32)) (after_leaving a) a room in
       given_leaving d (a.number + 2) leaf (omega arith) (omega (arith, le))
       ((agree (a.number + 2) (omega arith)).0 ∙ low (a.number + 2) (omega (arith, ap (λ (b : DeviceAgent). b.number) after)))
-  device_may sys d (Parent (Price own number index step)) rest leaf free le agree low = free
-  device_may sys d (Parent (Old own kept)) rest leaf free le agree low = λ newer room demand is.
+  device_may own sys d (Parent (Price child number index step basis)) rest leaf free le agree low = free
+  device_may own sys d (Parent (Old child kept)) rest leaf free le agree low = λ newer room demand is.
       let a : DeviceAgent = sys.agents d in
       let n : ℕ = a.number + 2 + 2 in
-      let asked : asks_device a d (Parent (Old own kept)) rest ≡ with_wanted rest d n demand =
+      let asked : asks_device a d (Parent (Old child kept)) rest ≡ with_wanted rest d n demand =
       cond-true (ltb a.number kept) (cond (ltb (a.number + 7) (2 ^ 32)) (asks_anew d n (newest_demand a) rest) rest) rest newer
       ∙ cond-true (ltb (a.number + 7) (2 ^ 32)) (asks_anew d n (newest_demand a) rest) rest room
       ∙ ap (λ o. asks_anew d n o rest) is in
-      let after : open_agent_after a (Parent (Old own kept)) ≡ after_offer (after_leaving a) demand =
+      let after : agent_after a (Parent (Old child kept)) ≡ after_offer (after_leaving a) demand =
       cond-true (ltb a.number kept) (cond (ltb (a.number + 7) (2 ^ 32)) (control.offered_anew a (newest_demand a)) a) a newer
       ∙ cond-true (ltb (a.number + 7) (2 ^ 32)) (control.offered_anew a (newest_demand a)) a room
       ∙ ap (control.offered_anew a) is in
@@ -178,7 +185,7 @@ module _ (tree : Lists) (p : Pricing) (numbering : Numbering) (market : IsTreeMa
         given_offer d n demand leaf (omega arith) (omega (arith, le)) (at.0 ∙ ap (λ (w : Wanted). w.member d n) asked ∙ same.0)
             (at.1 ∙ ap (λ (w : Wanted). w.offer d n) asked ∙ same.1),
       )
-  device_may sys d (Resume stored) rest leaf free le agree low = absurd free
+  device_may own sys d (Resume stored) rest leaf free le agree low = absurd free
 
   abbrev Agrees : World → Wanted → Type 0
   Agrees world w = (d n : ℕ) → IsLeaf tree d → number_now world d < n → SameAt all w d n
@@ -188,8 +195,26 @@ module _ (tree : Lists) (p : Pricing) (numbering : Numbering) (market : IsTreeMa
       Agrees world (asks_of world step rest) → ((d n : ℕ) → IsLeaf tree d → n ≤ number_now new d → rest.member d n ≡ false) → bound_of world step ≤ count →
       Lives1 lists pricing numbering world step new
   unfolding is_leaf
-  step_live world new (RelayUp c) did fine rest agree low le =
-      record { conc = did.conc; limits = did.limits; limited = did.limited; relay = did.relay; back = did.back; new_is = did.new_is }
+  step_live world new (RelayUp c n) did fine rest agree low le =
+      let base : System = with_relay world.seen c did.after.relay in
+      let outs = take n did.outs in
+      let world_of : System → World = λ seen'. record world {
+        seen = seen';
+        up = update world.up c true;
+        waiting = update world.waiting c did.after.waiting;
+      } in
+      record {
+        conc = did.conc;
+        limited = did.limited;
+        relay = did.relay;
+        may = λ giver is some. same_limits world.seen c giver (child_number (world.relay_kept c).numbers (sender_place giver)) (world.relay_kept c).limits
+            (did.may giver is some);
+        after = did.after;
+        outs = did.outs;
+        learns = did.learns;
+        back = did.back;
+        new_is = did.new_is ∙ ap world_of (sym (handed_same tree all.member count numbering c outs base));
+      }
   step_live world new (Relay c frame n) did fine rest agree low le =
       let base : System = with_relay world.seen c did.after.relay in
       let outs = take n did.outs in
@@ -202,7 +227,7 @@ module _ (tree : Lists) (p : Pricing) (numbering : Numbering) (market : IsTreeMa
       record {
         conc = did.conc;
         runs = did.runs;
-        may = relay_may world.seen c frame did.may le;
+        may = relay_may (setup_of numbering world c) world.seen c frame did.may le;
         after = did.after;
         outs = did.outs;
         writes = did.writes;
@@ -238,11 +263,11 @@ module _ (tree : Lists) (p : Pricing) (numbering : Numbering) (market : IsTreeMa
       record {
         leaf = did.leaf;
         new_is = did.new_is ∙ ap world_of (sym (handed_same tree all.member count numbering d (take n (restart_outs p k)) base))
-            ∙ ap (λ (l : List (Output StoredAgent)). world_of (handed_out lists numbering base d (take n l))) (sym (restart_same p pricing refl k));
+            ∙ ap (λ (l : List (Output StoredAgent)). world_of (handed_out lists numbering base d (take n l))) (sym (restart_same p pricing refl world.basis k));
       }
   step_live world new (Device d frame n) did fine rest agree low le =
       let a : DeviceAgent = world.seen.agents d in
-      let base : System = with_agent world.seen d (open_agent_after a frame) in
+      let base : System = with_agent world.seen d (agent_after a frame) in
       let world_of : System → List (Output StoredAgent) → World = λ seen' l. record world {
         seen = seen';
         agent_kept = update world.agent_kept d (stored_last (world.agent_kept d) (take n l));
@@ -252,12 +277,12 @@ module _ (tree : Lists) (p : Pricing) (numbering : Numbering) (market : IsTreeMa
       record {
         leaf = did.leaf;
         runs = did.runs;
-        may = device_may world.seen d frame rest did.leaf did.may le (λ i above. agree d i did.leaf (omega (arith, above, was)))
+        may = device_may world.basis world.seen d frame rest did.leaf did.may le (λ i above. agree d i did.leaf (omega (arith, above, was)))
             (λ i within. low d i did.leaf (omega (arith, within, now)));
-        handled = subst (λ (l : List (Output StoredAgent)). HandledSome n l) (sym (outs_same p pricing refl a frame)) did.handled;
+        handled = subst (λ (l : List (Output StoredAgent)). HandledSome n l) (sym (outs_same p pricing refl world.basis a frame)) did.handled;
         new_is = did.new_is
-            ∙ ap (λ (s : System). world_of s (device_outs p a frame)) (sym (handed_same tree all.member count numbering d (take n (device_outs p a frame)) base))
-            ∙ ap (λ (l : List (Output StoredAgent)). world_of (handed_out lists numbering base d (take n l)) l) (sym (outs_same p pricing refl a frame));
+            ∙ ap (λ (s : System). world_of s (device_outs p world.basis a frame)) (sym (handed_same tree all.member count numbering d (take n (device_outs p world.basis a frame)) base))
+            ∙ ap (λ (l : List (Output StoredAgent)). world_of (handed_out lists numbering base d (take n l)) l) (sym (outs_same p pricing refl world.basis a frame));
       }
 
   -- and all
@@ -291,7 +316,7 @@ no_power steps = record {
 -- for lives of any controls there are lists
 pub has_lists : (tree : Lists) (p : Pricing) (numbering : Numbering) → IsTreeMarket tree p numbering →
     ((x : ℕ) (cut : Cut) (l : Limits) → p.limits x cut ≡ Some l → AreLimits l) → (world new : World) (steps : List LifeStep) →
-    IsNewWorld p world → LiveFree tree p numbering world steps new → HasLists tree p numbering world steps new
+    IsNewWorld p numbering world → LiveFree tree p numbering world steps new → HasLists tree p numbering world steps new
 unfolding Rattle.pm_lives.proofs.Freeing.AreDemands is_leaf
 has_lists tree p numbering market around world new steps none live =
     let nothing : IsDemand p.steps (zeros p.steps) = no_power p.steps in

@@ -23,12 +23,16 @@ use Rattle.pm_frames.specs.Stored.{StoredRelay, StoredRoot}
 use Rattle.pm_frames.specs.declared.stored.StoredAgent.{StoredAgent}
 use Rattle.pm_frames.specs.declared.parent.ParentFrame.TheVariants.{Price, Old}
 use Rattle.pm_frames.specs.declared.relay.RelayFrame.{RelayFrame}
-use Rattle.pm_frames.specs.declared.relay.RelayFrame.TheVariants.{Child, Parent, Send, Expire, NewLimits, Resume}
+use Rattle.pm_frames.specs.declared.relay.RelayFrame.TheVariants.{Child, Parent, Send, Expire, Bound, Resume}
+use Rattle.pm_frames.specs.declared.relay.RelayFrame.TheVariants as given
 use Rattle.pm_frames.specs.declared.root.RootFrame.{RootFrame}
 use Rattle.pm_frames.specs.declared.root.RootFrame.TheVariants as root_frame
 use Rattle.pm_frames.specs.declared.device.DeviceFrame.{DeviceFrame}
 use Rattle.pm_frames.specs.declared.device.DeviceFrame.TheVariants as device_frame
-use Rattle.pm_services.specs.DeviceAnswers.{open_agent_after}
+use Rattle.pm_basis.specs.Prices.{BasisValue}
+use Rattle.pm_services.specs.RelaySetups.{RelaySetup}
+use Rattle.pm_lives.specs.DeviceWrites.{agent_after}
+use Rattle.pm_lives.specs.Lives.{setup_of}
 use Rattle.pm_system.specs.System.{System, with_relay, with_root, with_agent}
 use Rattle.pm_system.specs.Calls.{NodeCall, SystemRuns, StaysUp}
 use Rattle.pm_system.specs.Given.{IsTreeMarket, IsStarted}
@@ -50,11 +54,12 @@ use Rattle.pm_lives.specs.Lives.{let_go_by_relay, let_go_by_root}
 use Rattle.pm_lives.proofs.Giving.{calm_gives, known_run}
 use Rattle.pm_lives.proofs.Telling.{BidsKnown, known_next, restart_silent, answer_told, relay_rises, relay_lets, root_rises, root_lets}
 use Rattle.pm_lives.proofs.Handing.{handed_told, handed_untold}
-use Rattle.pm_lives.proofs.Staying.{still}
+use Rattle.pm_lives.proofs.Staying.{still, then_moves}
 use Rattle.pm_lives.specs.Lives.{World, AllIn, LivesAreCalls, handed_out, stored_last, RelayBegins, RelayReads, RootBegins, RootReads, DeviceBegins, DeviceReads, LifeStep, Lives1, Live, IsNewWorld, LivesKeepTheLaw, restart_outs}
 use Rattle.pm_lives.specs.Lives.{RelayUp, Relay, RootUp, Root, DeviceUp, Device}
 use Rattle.pm_lives.proofs.After.{runs_on, up_on, calm_up}
-use Rattle.pm_lives.proofs.RelayMoves.{GoesOn, ExpiringIsTwoCalls, relay_answers, of_price_stays, update_stays}
+use Rattle.pm_services.specs.Receipts.{sender_place}
+use Rattle.pm_lives.proofs.RelayMoves.{GoesOn, ExpiringIsTwoCalls, relay_answers, relay_learns_kept, of_price_stays, update_stays}
 use Rattle.pm_lives.proofs.RootMoves.{RootExpiringIsTwoCalls, root_answers}
 use Rattle.pm_lives.proofs.DeviceMoves.{device_answers, index_stays}
 use Rattle.pm_lives.proofs.Handing.{all_in_then, handed_in, handed_values, stored_may}
@@ -74,7 +79,7 @@ pub record AgentOk (sys : System) (d : ℕ) (up : Bool) (agent : DeviceAgent) (s
   pub kept : IsAgentKept sys d stored
   pub stands : up ≡ true → AgentStands sys d agent
   -- no process of it ran yet
-  pub fresh : up ≡ false → (sys.agents d ≡ new_agent) × (stored ≡ no_agent_stored)
+  pub fresh : up ≡ false → (sys.agents d ≡ new_agent) × (basis : BasisValue) × (stored ≡ no_agent_stored basis)
 
 abbrev pub RelayOkIn : Pricing → Numbering → System → World → ℕ → Type 0
 RelayOkIn p numbering sys world c = RelayOk p numbering sys c (world.up c) (world.seen.relays c) (world.waiting c) (world.relay_kept c)
@@ -168,7 +173,7 @@ agent_elsewhere y d sys new moves ne up r k ok =
       stands = λ e.
           let was = ok.stands e in
           record { agent_is = was.agent_is ∙ sym same; held = index_stays y sys new moves d r.index was.held; within = was.within };
-      fresh = λ e. (same ∙ (ok.fresh e).0, (ok.fresh e).1);
+      fresh = λ e. (same ∙ (ok.fresh e).0, (ok.fresh e).1, (ok.fresh e).2);
     }
 
 -- two worlds are the same but for node y and what was handed out
@@ -249,20 +254,22 @@ module _ (lists : Lists) (p : Pricing) (numbering : Numbering) (seen sys : Syste
       let there = all.prices x at.0 node at.1 in
       (there.0, there.1, there.2 ∙ at.2)
 
-  relay_may : (c : ℕ) → IsConcentrator lists c → seen.relays c ≡ sys.relays c → (frame : RelayFrame) → RelayMayRead lists p numbering seen c frame →
-      RelayMayRead lists p numbering sys c frame
-  relay_may c conc same (Child (Hello basis)) may = tt
-  relay_may c conc same (Child (Bid sender number demand)) may = bid_carried c sender number (Some demand) may
-  relay_may c conc same (Child (Gone sender number)) may = bid_carried c sender number None may
-  relay_may c conc same (Child Clear) may = tt
-  relay_may c conc same (Parent (Price own number index step)) may = price_carried c (price_message number index step) (conc.0, conc.1) may
-  relay_may c conc same (Parent (Old own kept)) may = tt
-  relay_may c conc same Send may = tt
-  relay_may c conc same (Expire sender) may =
+  relay_may : (own : RelaySetup) (c : ℕ) → IsConcentrator lists c → seen.relays c ≡ sys.relays c → (frame : RelayFrame) →
+      RelayMayRead lists p numbering own seen c frame → RelayMayRead lists p numbering own sys c frame
+  relay_may own c conc same (Child (Hello basis)) may = tt
+  relay_may own c conc same (Child (Bid sender number demand)) may = bid_carried c sender number (Some demand) may
+  relay_may own c conc same (Child (Gone sender number)) may = bid_carried c sender number None may
+  relay_may own c conc same (Child Clear) may = tt
+  relay_may own c conc same (Parent (Price child number index step basis)) may =
+      (may.0, price_carried c (price_message number index step) (conc.0, conc.1) may.1)
+  relay_may own c conc same (Parent (Old child kept)) may = tt
+  relay_may own c conc same Send may = tt
+  relay_may own c conc same (Expire sender) may =
       subst (λ (r : RelayValue). CarriesExpire lists p numbering c sender
       (parents_number (known_number r.recorded r.gathered.cache.heads (sender - 1)))) same may
-  relay_may c conc same (NewLimits sender number limits) may = limits_carried c sender number limits may
-  relay_may c conc same (Resume stored) may = may
+  relay_may own c conc same (given.Limits number limits) may = λ giver is. limits_carried c giver number limits (may giver is)
+  relay_may own c conc same (Bound sender bound) may = tt
+  relay_may own c conc same (Resume stored) may = may
 
   root_may : seen.root ≡ sys.root → (frame : RootFrame) → RootMayRead lists p numbering seen frame → RootMayRead lists p numbering sys frame
   root_may same (root_frame.Market (Hello basis)) may = tt
@@ -272,22 +279,24 @@ module _ (lists : Lists) (p : Pricing) (numbering : Numbering) (seen sys : Syste
   root_may same (root_frame.Expire sender) may =
       subst (λ (r : RootValue). CarriesExpire lists p numbering 0 sender
       (parents_number (known_number r.recorded r.auction.cache.heads (sender - 1)))) same may
+  root_may same (root_frame.Bound sender bound) may = tt
   root_may same (root_frame.Resume stored) may = may
 
-  device_may : (d : ℕ) → IsNode lists d → seen.agents d ≡ sys.agents d → (frame : DeviceFrame) → DeviceMayRead lists p seen d frame →
-      DeviceMayRead lists p sys d frame
-  device_may d node same (device_frame.Hello basis) may = tt
-  device_may d node same (device_frame.Offer demand) may =
+  device_may : (own : BasisValue) (d : ℕ) → IsNode lists d → seen.agents d ≡ sys.agents d → (frame : DeviceFrame) →
+      DeviceMayRead lists p own seen d frame → DeviceMayRead lists p own sys d frame
+  device_may own d node same (device_frame.Hello basis) may = tt
+  device_may own d node same (device_frame.Offer demand) may =
       subst (λ (a : DeviceAgent). may_offer a ≡ true → Rattle.std.specs.Prelude.nat_lt (a.number + 5) (2 ^ 32) ≡ true →
       IsGivenOffer lists p d (a.number + 2) demand) same may
-  device_may d node same device_frame.Leave may =
+  device_may own d node same device_frame.Leave may =
       subst (λ (a : DeviceAgent). Rattle.std.specs.Prelude.nat_lt (a.number + 3) (2 ^ 32) ≡ true → IsGivenLeaving lists d (a.number + 2)) same may
-  device_may d node same (device_frame.Parent (Price own number index step)) may = price_carried d (price_message number index step) node may
-  device_may d node same (device_frame.Parent (Old own kept)) may =
+  device_may own d node same (device_frame.Parent (Price child number index step basis)) may =
+      (may.0, price_carried d (price_message number index step) node may.1)
+  device_may own d node same (device_frame.Parent (Old child kept)) may =
       subst (λ (a : DeviceAgent). Rattle.std.specs.Prelude.nat_lt a.number kept ≡ true → Rattle.std.specs.Prelude.nat_lt (a.number + 7) (2 ^ 32) ≡ true → (demand : List Rattle.std.proofs.Common.ℤ) →
       newest_demand a ≡ Some demand → IsGivenLeaving lists d (a.number + 2)
       × IsGivenOffer lists p d (a.number + 2 + 2) demand) same may
-  device_may d node same (device_frame.Resume stored) may = may
+  device_may own d node same (device_frame.Resume stored) may = may
 
 -- ---- one step
 
@@ -321,42 +330,60 @@ module _ (lists : Lists) (p : Pricing) (numbering : Numbering) (market : IsTreeM
   Does step new = Done lists p numbering sys (UpsOf step) new
 
   -- a relay begins
-  relay_up : (before : List NodeCall) → RunsTheMarket lists p numbering before sys → (c : ℕ) (new : World) → RelayBegins p lists world c new →
-      Does (RelayUp c) new
-  relay_up before has c new did =
+  relay_up : (before : List NodeCall) → RunsTheMarket lists p numbering before sys → (c n : ℕ) (new : World) →
+      RelayBegins lists p numbering world c n new → Does (RelayUp c n) new
+  relay_up before has c n new did =
       let ok = stands.relays c did.conc in
-      let began = relay_begins lists p numbering market before sys has c did.conc did.limits did.limited (world.relay_kept c) ok.kept did.relay did.back in
+      let stored : StoredRelay = world.relay_kept c in
+      let began = relay_begins lists p numbering market before sys has c did.conc (world.terms c).limits did.limited stored ok.kept did.relay did.back in
+      let began_sent : AllIn lists p world.seen began.new = all_in_then lists p c world.seen sys began.new began.only stands.sent in
+      let began_has : RunsTheMarket lists p numbering (before ++ began.calls) began.new =
+      goes lists p numbering before began.calls sys began.new market has began.runs in
+      let l = relay_learns_kept goes lists p numbering (before ++ began.calls) began.new c market began_has did.conc (setup_of numbering world c) did.relay
+      began.stands (world.terms c).giver stored did.after did.outs
+      (λ giver is some. limits_carried lists p numbering world.seen began.new began_sent c giver (child_number stored.numbers (sender_place giver)) stored.limits
+      (did.may giver is some)) did.learns in
+      let f = l.follows in
+      let first : List (Output StoredRelay) = take n did.outs in
+      let base : System = with_relay world.seen c did.after.relay in
+      let only : OnlyMoves c sys f.new = then_moves c sys began.new f.new began.only f.only in
       let after : World = record world {
-        seen = with_relay world.seen c did.relay;
+        seen = handed_out lists numbering base c first;
         up = update world.up c true;
-        waiting = update world.waiting c None;
+        waiting = update world.waiting c did.after.waiting;
       } in
+      let values = handed_values lists numbering c first base in
       let agrees : AgreesBut c world after = record {
         up = λ z ne. updated_other world.up c true z ne;
-        relays = λ z ne. updated_other world.seen.relays c did.relay z ne;
-        agents = λ z ne. refl;
-        root = λ ne. refl;
-        waiting = λ z ne. updated_other world.waiting c None z ne;
+        relays = λ z ne. ap (λ f. f z) values.0 ∙ updated_other world.seen.relays c did.after.relay z ne;
+        agents = λ z ne. ap (λ f. f z) values.2;
+        root = λ ne. values.1;
+        waiting = λ z ne. updated_other world.waiting c did.after.waiting z ne;
         relay_kept = λ z ne. refl;
         agent_kept = λ z ne. refl;
         root_kept = λ ne. refl;
       } in
-      subst (Does (RelayUp c)) (sym did.new_is) (record {
-        ups = λ x leaf first. began.up x (relay_no_leaf lists c x did.conc leaf);
-        calls = began.calls;
-        new = began.new;
-        runs = began.runs;
-        stands = stands_but lists p numbering c world after sys began.new agrees began.only stands
-            (repack_relay lists p world.seen began.new c did.relay (all_in_then lists p c world.seen sys began.new began.only stands.sent))
-            (λ conc. relay_ok_as p numbering began.new c true (update world.up c true c) did.relay (update world.seen.relays c did.relay c) None
-            (update world.waiting c None c) (world.relay_kept c) (world.relay_kept c) (updated_same world.up c true)
-            (updated_same world.seen.relays c did.relay) (updated_same world.waiting c None) refl
-            (record { kept = began.kept; stands = λ e. began.stands }))
+      subst (Does (RelayUp c n)) (sym did.new_is) (record {
+        ups = λ x leaf first. up_on x began.calls f.calls (began.up x (relay_no_leaf lists c x did.conc leaf)) (calm_up lets_none x f.calls (f.up x));
+        calls = began.calls ++ f.calls;
+        new = f.new;
+        runs = runs_on lists p numbering began.calls f.calls sys began.new f.new began.runs f.runs;
+        stands = stands_but lists p numbering c world after sys f.new agrees only stands
+            (handed_in lists p numbering f.new c n did.outs base f.sent
+            (repack_relay lists p world.seen f.new c did.after.relay (all_in_then lists p c world.seen began.new f.new f.only began_sent)))
+            (λ conc. relay_ok_as p numbering f.new c true (update world.up c true c) did.after.relay (after.seen.relays c) did.after.waiting
+            (update world.waiting c did.after.waiting c) stored stored (updated_same world.up c true)
+            (ap (λ f. f c) values.0 ∙ updated_same world.seen.relays c did.after.relay) (updated_same world.waiting c did.after.waiting) refl
+            (record { kept = l.keeps stored began.kept; stands = λ e. f.stands }))
             (λ e. absurd (relay_no_root lists c did.conc (sym e)))
             (λ leaf. absurd (relay_no_leaf lists c c did.conc leaf refl))
-            (λ d leaf. stands.told d leaf ∙ sym (began.silent d))
-            (λ d leaf. known_next lets_none sys began.new world.let_go world.let_go d (stands.known d leaf) (omega arith)
-            (known_run lets_none lists p numbering d leaf began.calls sys began.new began.runs began.gives) (λ n lets. absurd lets));
+            (λ d leaf. handed_untold lists numbering c first base d (relay_no_leaf lists c d did.conc leaf) ∙ stands.told d leaf
+            ∙ sym (began.silent d) ∙ sym (f.only.untold d (relay_no_leaf lists c d did.conc leaf)))
+            (λ d leaf. known_next lets_none began.new f.new world.let_go world.let_go d
+            (known_next lets_none sys began.new world.let_go world.let_go d (stands.known d leaf) (omega arith)
+            (known_run lets_none lists p numbering d leaf began.calls sys began.new began.runs began.gives) (λ n lets. absurd lets)) (omega arith)
+            (known_run lets_none lists p numbering d leaf f.calls began.new f.new f.runs (calm_gives lets_none d f.calls (f.up d)))
+            (λ n lets. absurd lets));
       })
 
   -- a relay reads a frame
@@ -365,8 +392,8 @@ module _ (lists : Lists) (p : Pricing) (numbering : Numbering) (market : IsTreeM
   relay_reads before has c frame n new did =
       let ok = stands.relays c did.conc in
       let here = ok.stands did.runs in
-      let f = relay_answers goes two lists p numbering before sys c market has did.conc (record { relay = world.seen.relays c; waiting = world.waiting c })
-      did.after frame did.outs here (relay_may lists p numbering world.seen sys stands.sent c did.conc here.relay_is frame did.may) did.writes in
+      let f = relay_answers goes two lists p numbering before sys c market has did.conc (setup_of numbering world c) (record { relay = world.seen.relays c; waiting = world.waiting c })
+      did.after frame did.outs here (relay_may lists p numbering world.seen sys stands.sent (setup_of numbering world c) c did.conc here.relay_is frame did.may) did.writes in
       let first : List (Output StoredRelay) = take n did.outs in
       let base : System = with_relay world.seen c did.after.relay in
       let kept : StoredRelay = stored_last (world.relay_kept c) first in
@@ -458,7 +485,7 @@ module _ (lists : Lists) (p : Pricing) (numbering : Numbering) (market : IsTreeM
       RootReads lists p numbering world frame n new → Does (Root frame n) new
   root_reads before has frame n new did =
       let here = stands.root.stands did.runs in
-      let f = root_answers root_two lists p numbering before sys market has world.seen.root did.after frame did.outs here
+      let f = root_answers root_two lists p numbering before sys market has world.basis world.seen.root did.after frame did.outs here
       (root_may lists p numbering world.seen sys stands.sent (sym here) frame did.may) did.writes in
       let first : List (Output StoredRoot) = take n did.outs in
       let base : System = with_root world.seen did.after in
@@ -540,7 +567,7 @@ module _ (lists : Lists) (p : Pricing) (numbering : Numbering) (market : IsTreeM
             (record { kept = began.kept; stands = λ e. began.stands; fresh = λ e. absurd (both_ways true e refl) }))
             (λ e leaf. elim (cases_eq e d) [
               | inl same ↦ subst (λ (z : ℕ). after.seen.setpoints z ≡ began.new.setpoints z) (sym same) (handed_told lists numbering d (take n outs) base
-                  ∙ ap (λ (l : List Setpoint). world.seen.setpoints d ++ l) (restart_silent p stored n) ∙ append-nil (world.seen.setpoints d)
+                  ∙ ap (λ (l : List Setpoint). world.seen.setpoints d ++ l) (restart_silent p world.basis stored n) ∙ append-nil (world.seen.setpoints d)
                   ∙ stands.told d did.leaf ∙ sym (began.silent d))
               | inr ne ↦ handed_untold lists numbering d (take n outs) base e ne ∙ stands.told e leaf ∙ sym (began.silent e)
             ])
@@ -555,9 +582,9 @@ module _ (lists : Lists) (p : Pricing) (numbering : Numbering) (market : IsTreeM
       let ok = stands.agents d did.leaf in
       let fresh = ok.fresh none in
       let outs : List (Output StoredAgent) = restart_outs p stored in
-      let outs_are : outs ≡ [] = ap (restart_outs p) fresh.1 in
+      let outs_are : outs ≡ [] = ap (restart_outs p) fresh.2 in
       let agent : DeviceAgent = agent_stored stored.number stored.newest stored.index in
-      let agent_is : agent ≡ sys.agents d = ap (λ (k : StoredAgent). agent_stored k.number k.newest k.index) fresh.1 ∙ sym fresh.0 in
+      let agent_is : agent ≡ sys.agents d = ap (λ (k : StoredAgent). agent_stored k.number k.newest k.index) fresh.2 ∙ sym fresh.0 in
       let base : System = with_agent world.seen d agent in
       let after : World = record world { seen = handed_out lists numbering base d (take n outs); up = update world.up d true } in
       let values = handed_values lists numbering d (take n outs) base in
@@ -595,7 +622,7 @@ module _ (lists : Lists) (p : Pricing) (numbering : Numbering) (market : IsTreeM
             }))
             (λ e leaf. elim (cases_eq e d) [
               | inl same ↦ subst (λ (z : ℕ). after.seen.setpoints z ≡ sys.setpoints z) (sym same) (handed_told lists numbering d (take n outs) base
-                  ∙ ap (λ (l : List Setpoint). world.seen.setpoints d ++ l) (restart_silent p stored n) ∙ append-nil (world.seen.setpoints d)
+                  ∙ ap (λ (l : List Setpoint). world.seen.setpoints d ++ l) (restart_silent p world.basis stored n) ∙ append-nil (world.seen.setpoints d)
                   ∙ stands.told d did.leaf)
               | inr ne ↦ handed_untold lists numbering d (take n outs) base e ne ∙ stands.told e leaf
             ])
@@ -614,10 +641,10 @@ module _ (lists : Lists) (p : Pricing) (numbering : Numbering) (market : IsTreeM
       let ok = stands.agents d did.leaf in
       let here = ok.stands did.runs in
       let old : DeviceAgent = world.seen.agents d in
-      let outs : List (Output StoredAgent) = device_outs p old frame in
-      let agent : DeviceAgent = open_agent_after old frame in
-      let f = device_answers lists p numbering sys d did.leaf old frame here
-      (device_may lists p numbering world.seen sys stands.sent d (leaf_node lists market.law d did.leaf) here.agent_is frame did.may) in
+      let outs : List (Output StoredAgent) = device_outs p world.basis old frame in
+      let agent : DeviceAgent = agent_after old frame in
+      let f = device_answers lists p numbering sys d did.leaf world.basis old frame here
+      (device_may lists p numbering world.seen sys stands.sent world.basis d (leaf_node lists market.law d did.leaf) here.agent_is frame did.may) in
       let base : System = with_agent world.seen d agent in
       let kept : StoredAgent = stored_last (world.agent_kept d) (take n outs) in
       let after : World = record world {
@@ -654,7 +681,7 @@ module _ (lists : Lists) (p : Pricing) (numbering : Numbering) (market : IsTreeM
             }))
             (λ e leaf. elim (cases_eq e d) [
               | inl same ↦ subst (λ (z : ℕ). after.seen.setpoints z ≡ f.new.setpoints z) (sym same) (handed_told lists numbering d (take n outs) base
-                  ∙ ap (λ (l : List Setpoint). world.seen.setpoints d ++ l) (answer_told p old frame n did.handled)
+                  ∙ ap (λ (l : List Setpoint). world.seen.setpoints d ++ l) (answer_told p world.basis old frame n did.handled)
                   ∙ ap (λ (l : List Setpoint). l ++ told_of old frame) (stands.told d did.leaf) ∙ sym f.stands.told)
               | inr ne ↦ handed_untold lists numbering d (take n outs) base e ne ∙ stands.told e leaf ∙ sym (f.only.untold e ne)
             ])
@@ -665,7 +692,7 @@ module _ (lists : Lists) (p : Pricing) (numbering : Numbering) (market : IsTreeM
 
   step_done : (before : List NodeCall) → RunsTheMarket lists p numbering before sys → (step : LifeStep) (new : World) →
       Lives1 lists p numbering world step new → Does step new
-  step_done before has (RelayUp c) new did = relay_up before has c new did
+  step_done before has (RelayUp c n) new did = relay_up before has c n new did
   step_done before has (Relay c frame n) new did = relay_reads before has c frame n new did
   step_done before has RootUp new did = root_up new did
   step_done before has (Root frame n) new did = root_reads before has frame n new did
@@ -678,17 +705,17 @@ no_number : (k : ℕ) → k < most_nodes → child_number (replicate most_nodes 
 no_number k inside = get_or-replicate most_nodes k 0 0 inside
 
 new_stands : (lists : Lists) (p : Pricing) (numbering : Numbering) → IsTreeMarket lists p numbering → (world : World) (sys : System) →
-    IsNewWorld p world → IsStarted lists p sys → WorldStands lists p numbering world sys
+    IsNewWorld p numbering world → IsStarted lists p sys → WorldStands lists p numbering world sys
 new_stands lists p numbering market world sys none started = record {
   relays = λ c conc.
       let up = started.relays c conc in
       let at = up.2 in
       record {
-        kept = subst (λ (k : StoredRelay). IsKept p numbering sys c k) (sym (none.relay_kept c up.0 up.1)) (record {
+        kept = subst (λ (k : StoredRelay). IsKept p numbering sys c k) (sym (none.relay_kept c)) (record {
           last = omega (arith, at.base, at.gathered.window.last);
           numbers = sym at.recorded;
           limits = market.by_nodes.limits_alike c (numbers_in_places numbering (replicate most_nodes 0)) no_changes
-              (λ d node leaf above. no_number (numbering.place d) (market.places.inside d node)) ∙ up.1;
+              (λ d node leaf above. no_number (numbering.place d) (market.places.inside d node)) ∙ up.1 ∙ ap Some (sym (none.limits c up.0 up.1));
           price = inl (refl, refl);
           older = omega arith;
         });
@@ -711,7 +738,7 @@ new_stands lists p numbering market world sys none started = record {
           older = omega arith;
         });
         stands = λ e. absurd (both_ways (world.up d) (none.up d) e);
-        fresh = λ e. (at, none.agent_kept d);
+        fresh = λ e. (at, world.basis, none.agent_kept d);
       };
   sent = record {
     bids = λ x k node inside. absurd (omega (arith, inside, ap (λ (l : List BidMessage). length l) (none.bids_sent x)));
@@ -747,7 +774,7 @@ module _ (lists : Lists) (p : Pricing) (numbering : Numbering) (market : IsTreeM
 
   up_same : (world new : World) (step : LifeStep) → Lives1 lists p numbering world step new → (d : ℕ) → IsLeaf lists d → (lives.IsUpOf d step → ⊥) →
       new.up d ≡ world.up d
-  up_same world new (RelayUp c) did d leaf other =
+  up_same world new (RelayUp c n) did d leaf other =
       ap (λ (w : World). w.up d) did.new_is ∙ updated_other world.up c true d (relay_no_leaf lists c d did.conc leaf)
   up_same world new (Relay c frame n) did d leaf other = ap (λ (w : World). w.up d) did.new_is
   up_same world new RootUp did d leaf other =
@@ -795,7 +822,7 @@ module _ (lists : Lists) (p : Pricing) (numbering : Numbering) (market : IsTreeM
       }
 
   -- lives are calls
-  pub lives_are_calls : (world new : World) (steps : List LifeStep) → IsNewWorld p world → Live lists p numbering world steps new →
+  pub lives_are_calls : (world new : World) (steps : List LifeStep) → IsNewWorld p numbering world → Live lists p numbering world steps new →
       LivesAreCalls lists p numbering start steps new
   lives_are_calls world new steps none live =
       let all = lives_from steps world [] start refl (new_stands lists p numbering market world start none started) new live in
@@ -808,7 +835,7 @@ module _ (lists : Lists) (p : Pricing) (numbering : Numbering) (market : IsTreeM
       }
 
   -- and so they keep the law
-  pub lives_keep_the_law : SystemsKeepTheLaw → (world new : World) (steps : List LifeStep) → IsNewWorld p world →
+  pub lives_keep_the_law : SystemsKeepTheLaw → (world new : World) (steps : List LifeStep) → IsNewWorld p numbering world →
       Live lists p numbering world steps new → LivesKeepTheLaw lists p new
   lives_keep_the_law keeps world new steps none live =
       let are = lives_are_calls world new steps none live in
@@ -833,7 +860,7 @@ module _ (lists : Lists) (p : Pricing) (numbering : Numbering) (market : IsTreeM
     pub stands : WorldStands lists p numbering new sys
     pub up : (d : ℕ) → IsLeaf lists d → lives.BeginsOnce d steps → StaysUp d calls
 
-  pub lives_stand : (world new : World) (steps : List LifeStep) → IsNewWorld p world → Live lists p numbering world steps new → LivesStand steps new
+  pub lives_stand : (world new : World) (steps : List LifeStep) → IsNewWorld p numbering world → Live lists p numbering world steps new → LivesStand steps new
   lives_stand world new steps none live =
       let all = lives_from steps world [] start refl (new_stands lists p numbering market world start none started) new live in
       record { calls = all.calls; sys = all.sys; runs = all.runs; stands = all.stands; up = λ d leaf once. all.ups d leaf (inr (none.up d, once)) }

@@ -1,5 +1,5 @@
 -- What the service of a relay answers to a frame is some calls of the relay.
-use Rattle.std.proofs.Common.{◌≡◌, ◌⊎◌, ◌∙◌, sym, ap, subst, ℕ, ◌≤◌, Bool, true, false, cond, not, ◌&&◌, eqb, leb, ltb, ℤ, List, [], ◌∷◌, ◌++◌, length, get_or, Option, Some, None, refl, inl, inr, arith, append_assoc, subst₂}
+use Rattle.std.proofs.Common.{◌≡◌, ◌⊎◌, ◌∙◌, sym, ap, subst, ℕ, ◌≤◌, Bool, true, false, cond, not, ◌&&◌, eqb, leb, ltb, ℤ, List, [], ◌∷◌, ◌++◌, length, get_or, Option, Some, None, refl, inl, inr, arith, append-nil, append_assoc, subst₂, ◌<◌}
 use Rattle.std.specs.Prelude.{IfSome}
 use Rattle.std.proofs.lemmas.Bool.{cases_Bool, cond-true, eq-eqb, both_ways, and_parts}
 use Rattle.std.proofs.lemmas.List.{get_or_push, length_push}
@@ -29,22 +29,28 @@ use Rattle.pm_relay_net.specs.RelayIs.{LimitsPassBy, GivesLimits, told_demand, u
 use Rattle.pm_frames.specs.Stored.{StoredRelay}
 use Rattle.pm_services.specs.Receipts.{sender_place}
 use Rattle.pm_services.specs.RelayAnswers as answers
-use Rattle.pm_services.specs.RelayAnswers.{OpenRelay, stored_relay, waiting_with, waiting_after}
+use Rattle.pm_basis.specs.Prices.{BasisValue}
+use Rattle.pm_frames.specs.Answers.{too_much_bytes, other_basis_bytes, out_of_limits_bytes}
+use Rattle.pm_services.specs.RelaySetups.{RelaySetup}
+use Rattle.pm_services.specs.RelayAnswers.{WaitingRelay, stored_relay, has_step_within, waiting_with, waiting_after}
 use Rattle.pm_system.specs.System.{System, bid_in_channel, price_in_channel, with_relay, with_bid_sent, with_prices_sent}
 use Rattle.pm_system.specs.Calls as call
 use Rattle.pm_system.specs.Expiry.{RelayExpires, AreTwoCalls}
 use Rattle.pm_system.specs.Given.{IsTreeMarket}
 use Rattle.pm_system.specs.Market.{RunsTheMarket}
 use Rattle.pm_bid.specs.Bids.{zeros}
-use Rattle.pm_relay.specs.Numbers.{known_number, parents_number}
+use Rattle.pm_relay.specs.Numbers.{child_number, known_number, parents_number}
 use Rattle.pm_wire.specs.declared.frame.Frame.TheVariants.{Hello, Bid, Gone, Clear}
 use Rattle.pm_frames.specs.declared.parent.ParentFrame.TheVariants.{Price, Old}
 use Rattle.pm_frames.specs.declared.relay.RelayFrame.{RelayFrame}
-use Rattle.pm_frames.specs.declared.relay.RelayFrame.TheVariants.{Child, Parent, Send, Expire, NewLimits, Resume}
+use Rattle.pm_frames.specs.declared.relay.RelayFrame.TheVariants.{Child, Parent, Send, Expire, Bound, Resume}
+use Rattle.pm_frames.specs.declared.relay.RelayFrame.TheVariants as given
 use Rattle.pm_system.specs.Calls.{NodeCall, SystemRuns}
 use Rattle.pm_system.proofs.Moving.{relay_no_root, new_in}
 use Rattle.pm_lives.specs.Outputs.{Output, Up, Keeps, Says, PriceWasSent, WereSent, EachKept, BeginsWithResume}
 use Rattle.pm_lives.specs.Moves.{OnlyMoves, AreCalm}
+use Rattle.pm_lives.specs.RelayWrites.{WritesBounded, WritesTold, WritesGiven, WritesKept, bid_outs}
+use Rattle.pm_lives.specs.Moves.{lets_none}
 use Rattle.pm_lives.specs.RelayWrites.{receipt_outs, downs, own_bid, again_outs, drop_outs, price_outs, WritesPrice, WritesWaiting, WritesBid, WritesLimits, WritesExpire, WritesSend, WritesRelay}
 use Rattle.pm_lives.specs.RelayLife.{IsOfPrice, UpdateWasSent, RelayStands, IsKept, numbers_in_places, CarriesBid, CarriesLimits, CarriesExpire, RelayMayRead, RelayFollows, RelayLets}
 use Rattle.pm_lives.proofs.Staying.{still, then_moves, relay_moved, bid_pushed, prices_pushed, price_stays, were_sent, both_sent, kept_to, both_kept}
@@ -139,10 +145,10 @@ are_kept p numbering c sys new moves same outs kept =
     (kept_stays p numbering c sys new moves same) outs kept
 
 -- what it stores of itself may be stored
-own_kept : (p : Pricing) (numbering : Numbering) (sys : System) (c : ℕ) (r : RelayValue) → sys.relays c ≡ r →
+own_kept : (own : RelaySetup) (p : Pricing) (numbering : Numbering) (sys : System) (c : ℕ) (r : RelayValue) → sys.relays c ≡ r →
     p.limits c (numbers_in_places numbering r.recorded) ≡ limits_of_number r (newest_bid_number r) → IsOfPrice sys c r.answered r.index →
-    IsKept p numbering sys c (stored_relay r)
-own_kept p numbering sys c r is under held = record {
+    IsKept p numbering sys c (stored_relay own r)
+own_kept own p numbering sys c r is under held = record {
   last = ap newest_bid_number (sym is);
   numbers = ap (λ (q : RelayValue). q.recorded) (sym is);
   limits = under;
@@ -230,8 +236,14 @@ sent_last old new number sent = omega (arith, sent.number, sent.base, sent.made.
 abbrev Outs : Type 0
 Outs = List (Output StoredRelay)
 
+-- what a relay makes of what is stored when a life begins: what is stored may stay
+pub record LearnsKept (lists : Lists) (p : Pricing) (numbering : Numbering) (Lets : ℕ → ℕ → Type 0) (sys : System) (c : ℕ) (after : WaitingRelay)
+    (outs : List (Output StoredRelay)) : Type 0 where
+  pub follows : RelayFollows lists p numbering Lets sys c after outs
+  pub keeps : (stored : StoredRelay) → IsKept p numbering sys c stored → IsKept p numbering follows.new c stored
+
 module _ (Lets : ℕ → ℕ → Type 0) (lists : Lists) (p : Pricing) (numbering : Numbering) (c : ℕ) (conc : IsConcentrator lists c)
-    (market : IsTreeMarket lists p numbering) (goes : GoesOn) where
+    (market : IsTreeMarket lists p numbering) (goes : GoesOn) (own : RelaySetup) where
   -- the system runs the market, and goes on to
   abbrev Has : System → Type 0
   Has sys = (before : List NodeCall) × RunsTheMarket lists p numbering before sys
@@ -406,9 +418,20 @@ module _ (Lets : ℕ → ℕ → Type 0) (lists : Lists) (p : Pricing) (numberin
         kept = tt;
       }
 
+  -- what stands behind a bid is no message
+  beyond_sent : (new : System) (r : RelayValue) →
+      WereSent {K = StoredRelay} lists p numbering new c (cond (has_step_within r) [] (Says (out_of_limits_bytes (newest_bid_number r)) ∷ []))
+  beyond_sent new r = either (λ (l : Outs). WereSent {K = StoredRelay} lists p numbering new c l) (has_step_within r) [] (Says (out_of_limits_bytes (newest_bid_number r)) ∷ [])
+      (λ e. tt) (λ e. (tt, tt))
+
+  beyond_kept : (new : System) (r : RelayValue) →
+      AreKept p numbering new c (cond (has_step_within r) [] (Says (out_of_limits_bytes (newest_bid_number r)) ∷ []))
+  beyond_kept new r = either (λ (l : Outs). AreKept p numbering new c l) (has_step_within r) [] (Says (out_of_limits_bytes (newest_bid_number r)) ∷ [])
+      (λ e. tt) (λ e. (tt, tt))
+
   -- it sends its newest bid again
   again : (sys : System) → Ready sys → 1 ≤ (sys.relays c).gathered.window.last →
-      Moves sys (sys.relays c) (Up (own_bid (sys.relays c)) ∷ [])
+      Moves sys (sys.relays c) (bid_outs (sys.relays c))
   again sys ready some =
       let bid : BidMessage = bid_message (newest_bid_number (sys.relays c)) false (own_demand (sys.relays c).gathered) in
       let new : System = with_bid_sent sys c bid in
@@ -421,13 +444,13 @@ module _ (Lets : ℕ → ℕ → Type 0) (lists : Lists) (p : Pricing) (numberin
         only = bid_pushed sys c c bid;
         is = refl;
         held = of_price_stays c sys new (bid_pushed sys c c bid) c (sys.relays c).answered (sys.relays c).index ready.price;
-        sent = (new_in p sys.bids_sent c bid, tt);
-        kept = (tt, tt);
+        sent = (new_in p sys.bids_sent c bid, beyond_sent new (sys.relays c));
+        kept = (tt, beyond_kept new (sys.relays c));
       }
 
   -- it sends its next bid
   sends : (sys : System) (relay : RelayValue) (number : ℕ) → BidSent (sys.relays c) relay number →
-      Ready sys → Moves sys relay (Keeps (stored_relay relay) ∷ Up (own_bid relay) ∷ [])
+      Ready sys → Moves sys relay (Keeps (stored_relay own relay) ∷ bid_outs relay)
   sends sys relay number sent ready =
       let bid : BidMessage = own_bid relay in
       let new : System = with_bid_sent (with_relay sys c relay) c bid in
@@ -457,8 +480,8 @@ module _ (Lets : ℕ → ℕ → Type 0) (lists : Lists) (p : Pricing) (numberin
         only = moved;
         is = is;
         held = holds;
-        sent = (tt, (new_in p sys.bids_sent c bid, tt));
-        kept = (own_kept p numbering new c relay is (own_under new relay is has) holds, (tt, tt));
+        sent = (tt, (new_in p sys.bids_sent c bid, beyond_sent new relay));
+        kept = (own_kept own p numbering new c relay is (own_under new relay is has) holds, (tt, beyond_kept new relay));
       }
 
   begins_more : (outs more : Outs) → BeginsWithResume outs → BeginsWithResume (outs ++ more)
@@ -497,11 +520,11 @@ module _ (Lets : ℕ → ℕ → Type 0) (lists : Lists) (p : Pricing) (numberin
               ∙ get_or_push (sys.prices_sent x) sent no_price (length (sys.prices_sent x)) refl,
         )
 
-    price_sent : (outcome : PriceOutcome) → WereSent lists p numbering (after_price outcome) c (price_outs waiting relay price outcome)
+    price_sent : (outcome : PriceOutcome) → WereSent lists p numbering (after_price outcome) c (price_outs own waiting relay price outcome)
     price_sent PassedOn =
         let sent : Rattle.pm_session.specs.Windows.Sent = record_at relay price.number in
         let step : ℕ = settled_step_of_record (limits_of_number relay price.number) price.step sent.sum in
-        both_sent lists p numbering (after_price PassedOn) c (downs price.index step 0 sent.heads) (Keeps (stored_relay relay) ∷ [])
+        both_sent lists p numbering (after_price PassedOn) c (downs price.index step 0 sent.heads) (Keeps (stored_relay own relay) ∷ [])
         (downs_sent StoredRelay lists p numbering (after_price PassedOn) c price.index step sent.heads told 0 sent.heads
         (λ k inside. ap (λ (j : ℕ). get_or sent.heads j nothing_sent) (omega arith)))
         (tt, tt)
@@ -513,19 +536,19 @@ module _ (Lets : ℕ → ℕ → Type 0) (lists : Lists) (p : Pricing) (numberin
     moved_price outcome = then_moves c sys (with_relay sys c relay) (after_price outcome) (relay_moved sys c relay)
         (prices_pushed lists numbering (with_relay sys c relay) c (prices_down relay (update_of message) outcome))
 
-    price_kept : (outcome : PriceOutcome) → IsKept p numbering (after_price outcome) c (stored_relay relay) →
-        AreKept p numbering (after_price outcome) c (price_outs waiting relay price outcome)
-    price_kept PassedOn own =
+    price_kept : (outcome : PriceOutcome) → IsKept p numbering (after_price outcome) c (stored_relay own relay) →
+        AreKept p numbering (after_price outcome) c (price_outs own waiting relay price outcome)
+    price_kept PassedOn mine =
         let sent : Rattle.pm_session.specs.Windows.Sent = record_at relay price.number in
         let step : ℕ = settled_step_of_record (limits_of_number relay price.number) price.step sent.sum in
-        both_kept (λ (k : StoredRelay). IsKept p numbering (after_price PassedOn) c k) (downs price.index step 0 sent.heads) (Keeps (stored_relay relay) ∷ [])
-        (downs_keep_none (λ (k : StoredRelay). IsKept p numbering (after_price PassedOn) c k) price.index step 0 sent.heads) (own, tt)
-    price_kept Alone own = (own, tt)
-    price_kept Waits own = drops_kept (after_price Waits) waiting price
-    price_kept Dropped own = (tt, tt)
+        both_kept (λ (k : StoredRelay). IsKept p numbering (after_price PassedOn) c k) (downs price.index step 0 sent.heads) (Keeps (stored_relay own relay) ∷ [])
+        (downs_keep_none (λ (k : StoredRelay). IsKept p numbering (after_price PassedOn) c k) price.index step 0 sent.heads) (mine, tt)
+    price_kept Alone mine = (mine, tt)
+    price_kept Waits mine = drops_kept (after_price Waits) waiting price
+    price_kept Dropped mine = (tt, tt)
 
     takes : (outcome : PriceOutcome) → relays.TakesPrice (sys.relays c) relay price outcome →
-        Ready sys → Moves sys relay (price_outs waiting relay price outcome)
+        Ready sys → Moves sys relay (price_outs own waiting relay price outcome)
     takes outcome did ready =
         let new : System = after_price outcome in
         let is : new.relays c ≡ relay = updated_same sys.relays c relay in
@@ -554,7 +577,7 @@ module _ (Lets : ℕ → ℕ → Type 0) (lists : Lists) (p : Pricing) (numberin
           is = is;
           held = holds;
           sent = price_sent outcome;
-          kept = price_kept outcome (own_kept p numbering new c relay is (own_under new relay is has) holds);
+          kept = price_kept outcome (own_kept own p numbering new c relay is (own_under new relay is has) holds);
         }
 
   still_waits : (y : ℕ) (sys new : System) → OnlyMoves y sys new → (waiting : Option PriceUpdate) → IfSome waiting (UpdateWasSent sys c) →
@@ -572,16 +595,16 @@ module _ (Lets : ℕ → ℕ → Type 0) (lists : Lists) (p : Pricing) (numberin
   waits_after sys waiting price Dropped is at = is
 
   -- what is known after it took a price, or tried the one that waits
-  record Tried (sys : System) (new : OpenRelay) (reply : Outs) : Type 0 where
+  record Tried (sys : System) (new : WaitingRelay) (reply : Outs) : Type 0 where
     moves : Moves sys new.relay reply
     waiting : IfSome new.waiting (UpdateWasSent moves.new c)
     same : SameNumbers (sys.relays c) new.relay
 
-  answers_price : (sys : System) (waiting : Option PriceUpdate) (price : PriceUpdate) (new : OpenRelay) (reply : Outs) →
+  answers_price : (sys : System) (waiting : Option PriceUpdate) (price : PriceUpdate) (new : WaitingRelay) (reply : Outs) →
       IfSome waiting (UpdateWasSent sys c) → UpdateWasSent sys c price → Ready sys →
-      WritesPrice (record { relay = sys.relays c; waiting = waiting }) price new reply → Tried sys new reply
+      WritesPrice own (record { relay = sys.relays c; waiting = waiting }) price new reply → Tried sys new reply
   answers_price sys waiting price new reply waits at ready did =
-      let took : Moves sys new.relay (price_outs waiting new.relay price did.outcome) =
+      let took : Moves sys new.relay (price_outs own waiting new.relay price did.outcome) =
       takes sys waiting price at new.relay did.outcome did.takes ready in
       let moves : Moves sys new.relay reply = subst (λ (l : Outs). Moves sys new.relay l) (sym did.replied) took in
       record {
@@ -591,10 +614,10 @@ module _ (Lets : ℕ → ℕ → Type 0) (lists : Lists) (p : Pricing) (numberin
         same = takes_same (sys.relays c) new.relay price did.outcome did.takes;
       }
 
-  tries : (sys : System) (waiting : Option PriceUpdate) (new : OpenRelay) (reply : Outs) → IfSome waiting (UpdateWasSent sys c) →
-      Ready sys → WritesWaiting waiting (sys.relays c) new reply → Tried sys new reply
+  tries : (sys : System) (waiting : Option PriceUpdate) (new : WaitingRelay) (reply : Outs) → IfSome waiting (UpdateWasSent sys c) →
+      Ready sys → WritesWaiting own waiting (sys.relays c) new reply → Tried sys new reply
   tries sys None new reply waits ready did =
-      subst₂ (λ (n : OpenRelay) (l : Outs). Tried sys n l) (sym did.0) (sym did.1)
+      subst₂ (λ (n : WaitingRelay) (l : Outs). Tried sys n l) (sym did.0) (sym did.1)
       (record { moves = stays sys ready; waiting = tt; same = same_self (sys.relays c) })
   tries sys (Some price) new reply waits ready did = answers_price sys None price new reply tt waits ready did
 
@@ -614,9 +637,9 @@ module _ (Lets : ℕ → ℕ → Type 0) (lists : Lists) (p : Pricing) (numberin
   ]
 
   again_if : (sys : System) (test : Bool) → Ready sys →
-      Moves sys (sys.relays c) (cond (test && not (eqb (sys.relays c).gathered.window.last 0)) (Up (own_bid (sys.relays c)) ∷ []) [])
+      Moves sys (sys.relays c) (cond (test && not (eqb (sys.relays c).gathered.window.last 0)) (bid_outs (sys.relays c)) [])
   again_if sys test ready =
-      either (λ (l : Outs). Moves sys (sys.relays c) l) (test && not (eqb (sys.relays c).gathered.window.last 0)) (Up (own_bid (sys.relays c)) ∷ []) []
+      either (λ (l : Outs). Moves sys (sys.relays c) l) (test && not (eqb (sys.relays c).gathered.window.last 0)) (bid_outs (sys.relays c)) []
       (λ e. again sys ready (some_last (sys.relays c).gathered.window.last (and_parts test (not (eqb (sys.relays c).gathered.window.last 0)) e).1))
       (λ e. stays sys ready)
 
@@ -639,14 +662,14 @@ module _ (Lets : ℕ → ℕ → Type 0) (lists : Lists) (p : Pricing) (numberin
       kept_stays p numbering c sys m.new m.only (subst (λ (q : RelayValue). SameNumbers (sys.relays c) q) (sym m.is) same) stored kept
 
   -- what follows of moves and of the price that waits after them
-  ends : (sys : System) (r : RelayValue) (first : Outs) (m : Moves sys r first) (waiting : Option PriceUpdate) (after : OpenRelay) (more : Outs) →
-      IfSome waiting (UpdateWasSent sys c) → WritesWaiting waiting r after more → (reply : Outs) → reply ≡ first ++ more →
+  ends : (sys : System) (r : RelayValue) (first : Outs) (m : Moves sys r first) (waiting : Option PriceUpdate) (after : WaitingRelay) (more : Outs) →
+      IfSome waiting (UpdateWasSent sys c) → WritesWaiting own waiting r after more → (reply : Outs) → reply ≡ first ++ more →
       ((stored : StoredRelay) → IsKept p numbering sys c stored → IsKept p numbering m.new c stored) ⊎ BeginsWithResume first →
       RelayFollows lists p numbering Lets sys c after reply
   unfolding then_both
   ends sys r first m waiting after more waits did reply is begins =
       let tried : Tried m.new after more = tries m.new waiting after more (still_waits c sys m.new m.only waiting waits) (ready_by sys r first m)
-      (subst (λ (q : RelayValue). WritesWaiting waiting q after more) (sym m.is) did) in
+      (subst (λ (q : RelayValue). WritesWaiting own waiting q after more) (sym m.is) did) in
       let same : SameNumbers r after.relay = subst (λ (q : RelayValue). SameNumbers q after.relay) m.is tried.same in
       let all : Moves sys after.relay (first ++ more) = then_both sys r after.relay first more m tried.moves same in
       subst (λ (l : Outs). RelayFollows lists p numbering Lets sys c after l) (sym is) (record {
@@ -664,15 +687,72 @@ module _ (Lets : ℕ → ℕ → Type 0) (lists : Lists) (p : Pricing) (numberin
         ];
       })
 
+  -- ---- the start of a life
+
+  -- a relay that came back, and learnt the limits that it was given last
+  record Learnt (sys : System) (after : WaitingRelay) (reply : Outs) : Type 0 where
+    moves : Moves sys after.relay reply
+    waiting : after.waiting ≡ None
+    same : SameNumbers (sys.relays c) after.relay
+
+  kept_learnt : (giver : Option ℕ) (sys : System) → Ready sys → (stored : StoredRelay) (after : WaitingRelay) (reply : Outs) →
+      ((place : ℕ) → giver ≡ Some place → 0 < child_number stored.numbers (sender_place place) →
+      CarriesLimits lists p numbering sys c place (child_number stored.numbers (sender_place place)) stored.limits) →
+      WritesKept giver own (record { relay = sys.relays c; waiting = None }) stored after reply → Learnt sys after reply
+  kept_learnt None sys ready stored after reply carries did =
+      subst₂ (λ (a : WaitingRelay) (l : Outs). Learnt sys a l) (sym did.0) (sym did.1)
+      (record { moves = stays sys ready; waiting = refl; same = same_self (sys.relays c) })
+  kept_learnt (Some giver) sys ready stored after reply carries (inl none) =
+      subst₂ (λ (a : WaitingRelay) (l : Outs). Learnt sys a l) (sym none.1.0) (sym none.1.1)
+      (record { moves = stays sys ready; waiting = refl; same = same_self (sys.relays c) })
+  kept_learnt (Some giver) sys ready stored after reply carries (inr some) =
+      let did = some.1 in
+      let number : ℕ = child_number stored.numbers (sender_place giver) in
+      let kept : ℕ = kept_number (sys.relays c).gathered.cache (sender_place giver) in
+      let learnt : Moves sys did.learnt [] = learns_limits sys giver number stored.limits (carries giver refl some.0) did.learnt did.looks ready in
+      let said : Moves sys did.learnt (receipt_outs kept giver number) = goes_on sys did.learnt [] learnt (λ r. receipt_outs kept giver number)
+      (says_if learnt.new (leb number kept) (answer_bytes (Rattle.pm_wire.specs.declared.answer.Reply.TheVariants.Old giver kept))
+      (ready_by sys did.learnt [] learnt)) in
+      let first : Outs = receipt_outs kept giver number ++ again_outs (sys.relays c) did.learnt in
+      let told : Moves sys did.learnt first = goes_on sys did.learnt (receipt_outs kept giver number) said (λ r. again_outs (sys.relays c) r)
+      (again_if said.new (eqb (sys.relays c).gathered.window.last 0) (ready_by sys did.learnt (receipt_outs kept giver number) said)) in
+      let is : reply ≡ first = did.replied ∙ ap (λ (l : Outs). receipt_outs kept giver number ++ (again_outs (sys.relays c) did.learnt ++ l)) did.tries.1
+      ∙ ap (λ (l : Outs). receipt_outs kept giver number ++ l) (append-nil (again_outs (sys.relays c) did.learnt)) in
+      subst₂ (λ (a : WaitingRelay) (l : Outs). Learnt sys a l) (sym did.tries.0) (sym is) (record {
+        moves = told;
+        waiting = refl;
+        same = (limits_same (sys.relays c) did.learnt (sender_place giver) number stored.limits did.looks).0;
+      })
+
+  learnt_keeps : (sys : System) (after : WaitingRelay) (reply : Outs) → Learnt sys after reply → LearnsKept lists p numbering Lets sys c after reply
+  learnt_keeps sys after reply l = record {
+    follows = record {
+      calls = l.moves.calls;
+      new = l.moves.new;
+      runs = l.moves.runs;
+      only = l.moves.only;
+      up = l.moves.up;
+      stands = record {
+        relay_is = sym l.moves.is;
+        waiting = subst (λ (w : Option PriceUpdate). IfSome w (UpdateWasSent l.moves.new c)) (sym l.waiting) tt;
+        held = l.moves.held;
+      };
+      sent = l.moves.sent;
+      kept = l.moves.kept;
+      first = inl (kept_over sys after.relay reply l.moves l.same);
+    };
+    keeps = kept_over sys after.relay reply l.moves l.same;
+  }
+
   -- ---- each frame
 
-  module _ (sys : System) (waiting : Option PriceUpdate) (after : OpenRelay) (reply : Outs) (waits : IfSome waiting (UpdateWasSent sys c))
+  module _ (sys : System) (waiting : Option PriceUpdate) (after : WaitingRelay) (reply : Outs) (waits : IfSome waiting (UpdateWasSent sys c))
       (ready : Ready sys) where
-    abbrev old : OpenRelay
+    abbrev old : WaitingRelay
     old = record { relay = sys.relays c; waiting = waiting }
 
     bid_follows : (sender number : ℕ) (demand : Option (List ℤ)) → CarriesBid lists p numbering sys c sender number demand →
-        WritesBid old sender number demand after reply → RelayFollows lists p numbering Lets sys c after reply
+        WritesBid own old sender number demand after reply → RelayFollows lists p numbering Lets sys c after reply
     bid_follows sender number demand carries did =
         let kept : ℕ = kept_number (sys.relays c).gathered.cache (sender_place sender) in
         let learnt : Moves sys did.learnt [] = learns sys sender number demand carries did.learnt did.looks ready in
@@ -687,7 +767,7 @@ module _ (Lets : ℕ → ℕ → Type 0) (lists : Lists) (p : Pricing) (numberin
         (inl (kept_over sys did.learnt first told (looks_learnt (sys.relays c) did.learnt (sender_place sender) number demand did.looks)))
 
     limits_follow : (sender number : ℕ) (limits : Limits) → CarriesLimits lists p numbering sys c sender number limits →
-        WritesLimits old sender number limits after reply → RelayFollows lists p numbering Lets sys c after reply
+        WritesLimits own old sender number limits after reply → RelayFollows lists p numbering Lets sys c after reply
     limits_follow sender number limits carries did =
         let kept : ℕ = kept_number (sys.relays c).gathered.cache (sender_place sender) in
         let learnt : Moves sys did.learnt [] = learns_limits sys sender number limits carries did.learnt did.looks ready in
@@ -702,12 +782,12 @@ module _ (Lets : ℕ → ℕ → Type 0) (lists : Lists) (p : Pricing) (numberin
         (inl (kept_over sys did.learnt first told
         (limits_same (sys.relays c) did.learnt (sender_place sender) number limits did.looks).0))
 
-    send_follows : WritesSend old after reply → RelayFollows lists p numbering Lets sys c after reply
+    send_follows : WritesSend own old after reply → RelayFollows lists p numbering Lets sys c after reply
     send_follows did = elim did.answers [
       | inl sent ↦
-          let first : Outs = Keeps (stored_relay did.asked) ∷ Up (own_bid did.asked) ∷ [] in
+          let first : Outs = Keeps (stored_relay own did.asked) ∷ bid_outs did.asked in
           ends sys did.asked first (sends sys did.asked sent.0 sent.1 ready) waiting after did.waiting_reply waits did.tries reply
-          (did.replied ∙ ap (λ (l : Outs). l ++ did.waiting_reply) sent.2) (inr (stored_relay did.asked, Up (own_bid did.asked) ∷ [], refl))
+          (did.replied ∙ ap (λ (l : Outs). l ++ did.waiting_reply) sent.2) (inr (stored_relay own did.asked, bid_outs did.asked, refl))
       | inr refused ↦
           let first : Outs = Says (answers.not_sent_reply refused.0) ∷ [] in
           let m : Moves sys did.asked first = subst (λ (r : RelayValue). Moves sys r first) (sym refused.2) (says sys (answers.not_sent_reply refused.0) ready) in
@@ -717,7 +797,7 @@ module _ (Lets : ℕ → ℕ → Type 0) (lists : Lists) (p : Pricing) (numberin
           (subst (λ (r : RelayValue). SameNumbers (sys.relays c) r) (sym refused.2) (same_self (sys.relays c)))))
     ]
 
-    price_follows : (price : PriceUpdate) → UpdateWasSent sys c price → WritesPrice old price after reply →
+    price_follows : (price : PriceUpdate) → UpdateWasSent sys c price → WritesPrice own old price after reply →
         RelayFollows lists p numbering Lets sys c after reply
     price_follows price at did =
         let t : Tried sys after reply = answers_price sys waiting price after reply waits at ready did in
@@ -740,11 +820,41 @@ module _ (Lets : ℕ → ℕ → Type 0) (lists : Lists) (p : Pricing) (numberin
       runs = refl;
       only = still c sys;
       up = λ x. tt;
-      stands = subst (λ (r : OpenRelay). RelayStands sys c r) (sym same) (record { relay_is = refl; waiting = waits; held = ready.price });
+      stands = subst (λ (r : WaitingRelay). RelayStands sys c r) (sym same) (record { relay_is = refl; waiting = waits; held = ready.price });
       sent = tt;
       kept = tt;
       first = inl (λ stored kept. kept);
     })
+
+    -- it says something alone
+    says_follows : (said : List ℕ) → after ≡ old → reply ≡ Says said ∷ [] → RelayFollows lists p numbering Lets sys c after reply
+    says_follows said same is = subst (λ (l : Outs). RelayFollows lists p numbering Lets sys c after l) (sym is) (record {
+      calls = [];
+      new = sys;
+      runs = refl;
+      only = still c sys;
+      up = λ x. tt;
+      stands = subst (λ (r : WaitingRelay). RelayStands sys c r) (sym same) (record { relay_is = refl; waiting = waits; held = ready.price });
+      sent = (tt, tt);
+      kept = (tt, tt);
+      first = inl (λ stored kept. kept);
+    })
+
+    bounded_follows : (sender number : ℕ) (demand : List ℤ) → CarriesBid lists p numbering sys c sender number (Some demand) →
+        WritesBounded own old sender number demand after reply → RelayFollows lists p numbering Lets sys c after reply
+    bounded_follows sender number demand carries (inl did) = bid_follows sender number (Some demand) carries did
+    bounded_follows sender number demand carries (inr did) = says_follows (too_much_bytes sender number) did.0 did.1
+
+    told_follows : (price : PriceUpdate) (basis : BasisValue) → UpdateWasSent sys c price → WritesTold own old price basis after reply →
+        RelayFollows lists p numbering Lets sys c after reply
+    told_follows price basis at (inl did) = price_follows price at did.1
+    told_follows price basis at (inr did) = says_follows (other_basis_bytes price.number price.index) did.1.0 did.1.1
+
+    given_follows : (giver : Option ℕ) (number : ℕ) (limits : Limits) →
+        ((place : ℕ) → giver ≡ Some place → CarriesLimits lists p numbering sys c place number limits) →
+        WritesGiven giver own old number limits after reply → RelayFollows lists p numbering Lets sys c after reply
+    given_follows None number limits carries did = silent_follows did.0 did.1
+    given_follows (Some giver) number limits carries did = limits_follow giver number limits (carries giver refl) did
 
     -- a child is let go: two calls of the system, as a law of systems says
     module _ (two_calls : ExpiringIsTwoCalls) where
@@ -789,7 +899,7 @@ module _ (Lets : ℕ → ℕ → Type 0) (lists : Lists) (p : Pricing) (numberin
           }
 
       expire_follows : (sender : ℕ) → (carries : CarriesExpire lists p numbering c sender (number_at c (sender_place sender))) →
-          Lets carries.x (number_at c (sender_place sender)) → WritesExpire old sender after
+          Lets carries.x (number_at c (sender_place sender)) → WritesExpire own old sender after
           reply → RelayFollows lists p numbering Lets sys c after reply
       expire_follows sender carries lets did =
           let learnt : Moves sys did.learnt [] = lets_go sender carries lets did.learnt did.looks in
@@ -801,27 +911,42 @@ module _ (Lets : ℕ → ℕ → Type 0) (lists : Lists) (p : Pricing) (numberin
           (looks_learnt (sys.relays c) did.learnt (sender_place sender) (number_at c (sender_place sender)) None did.looks)))
 
       -- all frames of a relay that runs
-      frame_follows : (frame : RelayFrame) → ((d n : ℕ) → RelayLets lists numbering sys c frame d n → Lets d n) → RelayMayRead lists p numbering sys c frame → WritesRelay old frame after reply →
+      frame_follows : (frame : RelayFrame) → ((d n : ℕ) → RelayLets lists numbering sys c frame d n → Lets d n) → RelayMayRead lists p numbering own sys c frame → WritesRelay own old frame after reply →
           RelayFollows lists p numbering Lets sys c after reply
       frame_follows (Child (Hello basis)) allows may did = silent_follows did.0 did.1
-      frame_follows (Child (Bid sender number demand)) allows may did = bid_follows sender number (Some demand) may did
+      frame_follows (Child (Bid sender number demand)) allows may did = bounded_follows sender number demand may did
       frame_follows (Child (Gone sender number)) allows may did = bid_follows sender number None may did
       frame_follows (Child Clear) allows may did = silent_follows did.0 did.1
-      frame_follows (Parent (Price own number index step)) allows may did =
-          price_follows (record { step = step; number = number; index = index }) (may.0, may.1, ap update_of may.2) did
-      frame_follows (Parent (Old own kept)) allows may did = silent_follows did.0 did.1
+      frame_follows (Parent (Price child number index step basis)) allows may did =
+          told_follows (record { step = step; number = number; index = index }) basis (may.1.0, may.1.1, ap update_of may.1.2) did
+      frame_follows (Parent (Old child kept)) allows may did = silent_follows did.0 did.1
       frame_follows Send allows may did = send_follows did
       frame_follows (Expire sender) allows may did = expire_follows sender may (allows may.x (number_at c (sender_place sender)) (may.up, may.sender_is, refl)) did
-      frame_follows (NewLimits sender number limits) allows may did = limits_follow sender number limits may did
+      frame_follows (given.Limits number limits) allows may did = given_follows own.terms.giver number limits may did
+      frame_follows (Bound sender bound) allows may did = silent_follows did.0 did.1
       frame_follows (Resume stored) allows may did = absurd may
 
 -- What a relay's service answers to a frame is some calls of its node.
 pub relay_answers : GoesOn → ExpiringIsTwoCalls → (lists : Lists) (p : Pricing) (numbering : Numbering) (before : List NodeCall) (sys : System) (c : ℕ) →
-    IsTreeMarket lists p numbering → RunsTheMarket lists p numbering before sys → IsConcentrator lists c →
-    (old after : OpenRelay) (frame : RelayFrame) (outs : List (Output StoredRelay)) →
-    RelayStands sys c old → RelayMayRead lists p numbering sys c frame → WritesRelay old frame after outs →
+    IsTreeMarket lists p numbering → RunsTheMarket lists p numbering before sys → IsConcentrator lists c → (own : RelaySetup)
+    (old after : WaitingRelay) (frame : RelayFrame) (outs : List (Output StoredRelay)) →
+    RelayStands sys c old → RelayMayRead lists p numbering own sys c frame → WritesRelay own old frame after outs →
     RelayFollows lists p numbering (RelayLets lists numbering sys c frame) sys c after outs
-relay_answers goes two lists p numbering before sys c market has conc old after frame outs stands may did =
-    frame_follows (RelayLets lists numbering sys c frame) lists p numbering c conc market goes sys old.waiting after outs stands.waiting
+relay_answers goes two lists p numbering before sys c market has conc own old after frame outs stands may did =
+    frame_follows (RelayLets lists numbering sys c frame) lists p numbering c conc market goes own sys old.waiting after outs stands.waiting
     (record { price = subst (λ (r : RelayValue). IsOfPrice sys c r.answered r.index) stands.relay_is stands.held; has = (before, has) }) two frame (λ d n lets. lets) may
-    (subst (λ (r : RelayValue). WritesRelay (record { relay = r; waiting = old.waiting }) frame after outs) stands.relay_is did)
+    (subst (λ (r : RelayValue). WritesRelay own (record { relay = r; waiting = old.waiting }) frame after outs) stands.relay_is did)
+
+-- A relay that came back learns the limits that it was given.
+pub relay_learns_kept : GoesOn → (lists : Lists) (p : Pricing) (numbering : Numbering) (before : List NodeCall) (sys : System) (c : ℕ) →
+    IsTreeMarket lists p numbering → RunsTheMarket lists p numbering before sys → IsConcentrator lists c → (own : RelaySetup) (relay : RelayValue) →
+    RelayStands sys c (record { relay = relay; waiting = None }) → (giver : Option ℕ) (stored : StoredRelay) (after : WaitingRelay) (outs : List (Output StoredRelay)) →
+    ((place : ℕ) → giver ≡ Some place → 0 < child_number stored.numbers (sender_place place) →
+    CarriesLimits lists p numbering sys c place (child_number stored.numbers (sender_place place)) stored.limits) →
+    WritesKept giver own (record { relay = relay; waiting = None }) stored after outs → LearnsKept lists p numbering lets_none sys c after outs
+relay_learns_kept goes lists p numbering before sys c market has conc own relay stands giver stored after outs carries did =
+    learnt_keeps lets_none lists p numbering c conc market goes own sys after outs
+    (kept_learnt lets_none lists p numbering c conc market goes own giver sys
+    (record { price = subst (λ (r : RelayValue). IsOfPrice sys c r.answered r.index) stands.relay_is stands.held; has = (before, has) })
+    stored after outs carries
+    (subst (λ (r : RelayValue). WritesKept giver own (record { relay = r; waiting = None }) stored after outs) stands.relay_is did))

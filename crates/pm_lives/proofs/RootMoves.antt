@@ -19,8 +19,10 @@ use Rattle.pm_relay.specs.Roots.{RootValue, newest_index, with_root_bid, LooksFo
 use Rattle.pm_relay_net.specs.RootIs.{root_prices}
 use Rattle.pm_frames.specs.Stored.{StoredRoot}
 use Rattle.pm_frames.specs.declared.root.RootFrame.{RootFrame}
-use Rattle.pm_frames.specs.declared.root.RootFrame.TheVariants.{Market, Expire, Resume}
+use Rattle.pm_frames.specs.declared.root.RootFrame.TheVariants.{Market, Expire, Bound, Resume}
 use Rattle.pm_services.specs.Receipts.{sender_place}
+use Rattle.pm_basis.specs.Prices.{BasisValue}
+use Rattle.pm_frames.specs.Answers.{too_much_bytes}
 use Rattle.pm_services.specs.RootAnswers.{stored_root, not_cleared_reply}
 use Rattle.pm_system.specs.System.{System, bid_in_channel, with_root, with_bid_sent, with_prices_sent, with_prices_told}
 use Rattle.pm_system.specs.Calls as call
@@ -30,7 +32,7 @@ use Rattle.pm_system.specs.Given.{IsTreeMarket}
 use Rattle.pm_system.specs.Market.{RunsTheMarket}
 use Rattle.pm_lives.specs.Outputs.{Output, Keeps, Says, PriceWasSent}
 use Rattle.pm_lives.specs.RelayWrites.{receipt_outs}
-use Rattle.pm_lives.specs.RootWrites.{clearing_outs, clearing_again_outs, WritesRootBid, WritesRootExpire, WritesClear, WritesRoot}
+use Rattle.pm_lives.specs.RootWrites.{clearing_outs, clearing_again_outs, WritesRootBid, WritesRootExpire, WritesRootBounded, WritesClear, WritesRoot}
 use Rattle.pm_lives.specs.Moves.{OnlyMoves, Follows, AreCalm}
 use Rattle.pm_lives.specs.RelayLife.{CarriesBid, CarriesExpire}
 use Rattle.pm_lives.specs.RootLife.{IsRootKept, RootLets, RootMayRead, RootFollows}
@@ -75,7 +77,7 @@ root_kept sys new same stored kept = record { last = kept.last ∙ sym same.last
 abbrev Outs : Type 0
 Outs = List (Output StoredRoot)
 
-module _ (Lets : ℕ → ℕ → Type 0) (lists : Lists) (p : Pricing) (numbering : Numbering) where
+module _ (Lets : ℕ → ℕ → Type 0) (lists : Lists) (p : Pricing) (numbering : Numbering) (basis : BasisValue) where
   abbrev Does : RootValue → System → Outs → Type 0
   Does r sys reply = Follows lists p numbering Lets IsRootKept (λ t. t.root ≡ r) sys 0 reply
 
@@ -268,10 +270,10 @@ module _ (Lets : ℕ → ℕ → Type 0) (lists : Lists) (p : Pricing) (numberin
               ∙ get_or_push (sys.prices_sent x) price no_price (length (sys.prices_sent x)) refl,
         )
 
-    clear_follows : WritesClear sys.root after reply → RootFollows lists p numbering Lets sys after reply
+    clear_follows : WritesClear basis sys.root after reply → RootFollows lists p numbering Lets sys after reply
     clear_follows (inl cleared) =
         let new : System = with_prices_sent lists numbering (with_root sys after) 0 (root_prices after) in
-        follows_as lists p numbering Lets IsRootKept 0 (λ t. t.root ≡ after) sys (Keeps (stored_root after) ∷ clearing_outs after) reply cleared.3 (record {
+        follows_as lists p numbering Lets IsRootKept 0 (λ t. t.root ≡ after) sys (Keeps (stored_root basis after) ∷ clearing_outs after) reply cleared.3 (record {
           calls = call.Clears ∷ [];
           new = new;
           runs = (new, record { root = after; index = cleared.0; step = cleared.1; cleared = cleared.2; new_is = refl }, refl);
@@ -287,11 +289,21 @@ module _ (Lets : ℕ → ℕ → Type 0) (lists : Lists) (p : Pricing) (numberin
             record { last = refl; numbers = refl },
             downs_keep_none (IsRootKept new) (newest_index after) after.auction.step 0 after.auction.cache.heads,
           );
-          first = inr (stored_root after, clearing_outs after, refl);
+          first = inr (stored_root basis after, clearing_outs after, refl);
         })
     clear_follows (inr refused) =
         follows_as lists p numbering Lets IsRootKept 0 (λ t. t.root ≡ after) sys (Says (not_cleared_reply refused.0) ∷ []) reply refused.3
         (says lists p numbering Lets IsRootKept 0 (λ t. t.root ≡ after) sys (not_cleared_reply refused.0) (sym refused.2))
+
+    says_follows : (said : List ℕ) → after ≡ sys.root → reply ≡ Says said ∷ [] → RootFollows lists p numbering Lets sys after reply
+    says_follows said same is =
+        follows_as lists p numbering Lets IsRootKept 0 (λ t. t.root ≡ after) sys (Says said ∷ []) reply is
+        (says lists p numbering Lets IsRootKept 0 (λ t. t.root ≡ after) sys said (sym same))
+
+    bounded_follows : (sender number : ℕ) (demand : List ℤ) → CarriesBid lists p numbering sys 0 sender number (Some demand) →
+        WritesRootBounded sys.root sender number demand after reply → RootFollows lists p numbering Lets sys after reply
+    bounded_follows sender number demand carries (inl did) = bid_follows sender number (Some demand) carries did
+    bounded_follows sender number demand carries (inr did) = says_follows (too_much_bytes sender number) did.0 did.1
 
     silent_follows : after ≡ sys.root → reply ≡ [] → RootFollows lists p numbering Lets sys after reply
     silent_follows same none =
@@ -342,20 +354,21 @@ module _ (Lets : ℕ → ℕ → Type 0) (lists : Lists) (p : Pricing) (numberin
           (told_again after [] (lets_go sender carries lets did.looks) (eqb sys.root.auction.index 0 && not (eqb after.auction.index 0))
           (looks_again sys.root after (sender_place sender) (number_at (sender_place sender)) None did.looks))
 
-      frame_follows : (frame : RootFrame) → ((d n : ℕ) → RootLets lists numbering sys frame d n → Lets d n) → RootMayRead lists p numbering sys frame → WritesRoot sys.root frame after reply →
+      frame_follows : (frame : RootFrame) → ((d n : ℕ) → RootLets lists numbering sys frame d n → Lets d n) → RootMayRead lists p numbering sys frame → WritesRoot basis sys.root frame after reply →
           RootFollows lists p numbering Lets sys after reply
       frame_follows (Market (Hello basis)) allows may did = silent_follows did.0 did.1
-      frame_follows (Market (Bid sender number demand)) allows may did = bid_follows sender number (Some demand) may did
+      frame_follows (Market (Bid sender number demand)) allows may did = bounded_follows sender number demand may did
       frame_follows (Market (Gone sender number)) allows may did = bid_follows sender number None may did
       frame_follows (Market Clear) allows may did = clear_follows did
       frame_follows (Expire sender) allows may did = expire_follows sender may (allows may.x (number_at (sender_place sender)) (may.up, may.sender_is, refl)) did
+      frame_follows (Bound sender bound) allows may did = silent_follows did.0 did.1
       frame_follows (Resume stored) allows may did = absurd may
 
 -- What an auctioneer's service answers to a frame is some calls of the root.
 pub root_answers : RootExpiringIsTwoCalls → (lists : Lists) (p : Pricing) (numbering : Numbering) (before : List NodeCall) (sys : System) →
-    IsTreeMarket lists p numbering → RunsTheMarket lists p numbering before sys →
+    IsTreeMarket lists p numbering → RunsTheMarket lists p numbering before sys → (basis : BasisValue)
     (old after : RootValue) (frame : RootFrame) (outs : List (Output StoredRoot)) → sys.root ≡ old → RootMayRead lists p numbering sys frame →
-    WritesRoot old frame after outs → RootFollows lists p numbering (RootLets lists numbering sys frame) sys after outs
-root_answers two lists p numbering before sys market has old after frame outs is may did =
-    frame_follows (RootLets lists numbering sys frame) lists p numbering sys after outs two market before has frame (λ d n lets. lets) may
-    (subst (λ (r : RootValue). WritesRoot r frame after outs) (sym is) did)
+    WritesRoot basis old frame after outs → RootFollows lists p numbering (RootLets lists numbering sys frame) sys after outs
+root_answers two lists p numbering before sys market has basis old after frame outs is may did =
+    frame_follows (RootLets lists numbering sys frame) lists p numbering basis sys after outs two market before has frame (λ d n lets. lets) may
+    (subst (λ (r : RootValue). WritesRoot basis r frame after outs) (sym is) did)

@@ -10,6 +10,7 @@ use Rattle.pm_net.specs.Agents as agents
 use Rattle.pm_net.proofs.Messages.{either}
 use Rattle.pm_net_plan.specs.Places.{Numbering}
 use Rattle.pm_control.specs.Control.{after_old}
+use Rattle.pm_basis.specs.Prices.{BasisValue}
 use Rattle.pm_frames.specs.Answers.{window_full_bytes, out_of_numbers_bytes}
 use Rattle.pm_frames.specs.declared.stored.StoredAgent.{StoredAgent}
 use Rattle.pm_frames.specs.declared.parent.ParentFrame.TheVariants.{Price, Old}
@@ -29,7 +30,7 @@ use Rattle.pm_lives.specs.Lives.{HandledSome, restart_outs, let_go_by, let_go_by
 use Rattle.pm_lives.proofs.Handing.{told_by}
 use Rattle.pm_lives.proofs.Giving.{Known}
 
-module _ (p : Pricing) where
+module _ (p : Pricing) (own : BasisValue) where
   -- no setpoint is among these
   abbrev TellsNone : List (Output StoredAgent) → Type 0
   TellsNone outs = (n : ℕ) → told_by (take n outs) ≡ []
@@ -48,7 +49,7 @@ module _ (p : Pricing) where
   up_silent bid (suc zero) = refl
   up_silent bid (suc (suc n)) = refl
 
-  made_silent : (after : DeviceAgent) → TellsNone (made_outs p after)
+  made_silent : (after : DeviceAgent) → TellsNone (made_outs p own after)
   made_silent after zero = refl
   made_silent after (suc zero) = refl
   made_silent after (suc (suc zero)) = refl
@@ -60,8 +61,8 @@ module _ (p : Pricing) where
       (Up (Rattle.pm_system.specs.Calls.bid_kept p stored.number stored.newest) ∷ []) (λ e. none_silent n)
       (λ e. up_silent (Rattle.pm_system.specs.Calls.bid_kept p stored.number stored.newest) n)
 
-  none_or_one : (after : DeviceAgent) (price : PriceMessage) (o : Option agents.Offer) (n : ℕ) → HandledSome n (told_outs after price (setpoints_of price o)) →
-      told_by (take n (told_outs after price (setpoints_of price o))) ≡ setpoints_of price o
+  none_or_one : (after : DeviceAgent) (price : PriceMessage) (o : Option agents.Offer) (n : ℕ) → HandledSome n (told_outs own after price (setpoints_of price o)) →
+      told_by (take n (told_outs own after price (setpoints_of price o))) ≡ setpoints_of price o
   none_or_one after price None n handled = said_silent (Rattle.pm_frames.specs.Answers.dropped_bytes price.number price.index) n
   none_or_one after price (Some offer) zero (inl some) = absurd (omega (arith, some))
   none_or_one after price (Some offer) zero (inr none) = absurd (omega (arith, ap (λ l. length l) none))
@@ -69,33 +70,33 @@ module _ (p : Pricing) where
   none_or_one after price (Some offer) (suc (suc zero)) handled = refl
   none_or_one after price (Some offer) (suc (suc (suc n))) handled = refl
 
-  price_told : (agent : DeviceAgent) (price : PriceMessage) (n : ℕ) → HandledSome n (told_outs (after_price agent price) price (setpoints_for agent price)) →
-      told_by (take n (told_outs (after_price agent price) price (setpoints_for agent price))) ≡ setpoints_for agent price
+  price_told : (agent : DeviceAgent) (price : PriceMessage) (n : ℕ) → HandledSome n (told_outs own (after_price agent price) price (setpoints_for agent price)) →
+      told_by (take n (told_outs own (after_price agent price) price (setpoints_for agent price))) ≡ setpoints_for agent price
   price_told agent price n =
-      either (λ (l : List Setpoint). HandledSome n (told_outs (after_price agent price) price l) → told_by (take n (told_outs (after_price agent price) price l)) ≡ l)
+      either (λ (l : List Setpoint). HandledSome n (told_outs own (after_price agent price) price l) → told_by (take n (told_outs own (after_price agent price) price l)) ≡ l)
       (ltb agent.index price.index) (setpoints_of price (kept_offer agent price.number)) []
       (λ e handled. none_or_one (after_price agent price) price (kept_offer agent price.number) n handled)
       (λ e handled. said_silent (Rattle.pm_frames.specs.Answers.dropped_bytes price.number price.index) n)
 
   -- what was handled of an answer has its setpoints
-  pub answer_told : (agent : DeviceAgent) (frame : DeviceFrame) (n : ℕ) → HandledSome n (device_outs p agent frame) →
-      told_by (take n (device_outs p agent frame)) ≡ told_of agent frame
+  pub answer_told : (agent : DeviceAgent) (frame : DeviceFrame) (n : ℕ) → HandledSome n (device_outs p own agent frame) →
+      told_by (take n (device_outs p own agent frame)) ≡ told_of agent frame
   answer_told agent (Hello basis) n handled = none_silent n
   answer_told agent (Offer demand) n handled =
       either (λ (l : List (Output StoredAgent)). told_by (take n l) ≡ []) (may_offer agent)
-      (cond (ltb (agent.number + 5) (2 ^ 32)) (made_outs p (after_offer agent demand)) (Says out_of_numbers_bytes ∷ [])) (Says window_full_bytes ∷ [])
+      (cond (ltb (agent.number + 5) (2 ^ 32)) (made_outs p own (after_offer agent demand)) (Says out_of_numbers_bytes ∷ [])) (Says window_full_bytes ∷ [])
       (λ e. either (λ (l : List (Output StoredAgent)). told_by (take n l) ≡ []) (ltb (agent.number + 5) (2 ^ 32))
-      (made_outs p (after_offer agent demand)) (Says out_of_numbers_bytes ∷ [])
+      (made_outs p own (after_offer agent demand)) (Says out_of_numbers_bytes ∷ [])
       (λ e. made_silent (after_offer agent demand) n) (λ e. said_silent out_of_numbers_bytes n))
       (λ e. said_silent window_full_bytes n)
   answer_told agent Leave n handled =
       either (λ (l : List (Output StoredAgent)). told_by (take n l) ≡ []) (ltb (agent.number + 3) (2 ^ 32))
-      (made_outs p (after_leaving agent)) (Says out_of_numbers_bytes ∷ [])
+      (made_outs p own (after_leaving agent)) (Says out_of_numbers_bytes ∷ [])
       (λ e. made_silent (after_leaving agent) n) (λ e. said_silent out_of_numbers_bytes n)
-  answer_told agent (Parent (Price own number index step)) n handled = price_told agent (price_message number index step) n handled
-  answer_told agent (Parent (Old own kept)) n handled =
+  answer_told agent (Parent (Price child number index step basis)) n handled = price_told agent (price_message number index step) n handled
+  answer_told agent (Parent (Old child kept)) n handled =
       either (λ (l : List (Output StoredAgent)). told_by (take n l) ≡ []) (ltb agent.number (after_old agent kept).number)
-      (made_outs p (after_old agent kept)) []
+      (made_outs p own (after_old agent kept)) []
       (λ e. made_silent (after_old agent kept) n) (λ e. none_silent n)
   answer_told agent (Resume stored) n handled = none_silent n
 
@@ -127,7 +128,8 @@ relay_rises lists numbering seen c (relay_frame.Child frame) let_go d = omega ar
 relay_rises lists numbering seen c (relay_frame.Parent frame) let_go d = omega arith
 relay_rises lists numbering seen c relay_frame.Send let_go d = omega arith
 relay_rises lists numbering seen c (relay_frame.Expire sender) let_go d = rises_by lists numbering c sender (relay_number seen c sender) let_go d
-relay_rises lists numbering seen c (relay_frame.NewLimits sender number limits) let_go d = omega arith
+relay_rises lists numbering seen c (relay_frame.Limits number limits) let_go d = omega arith
+relay_rises lists numbering seen c (relay_frame.Bound sender bound) let_go d = omega arith
 relay_rises lists numbering seen c (relay_frame.Resume stored) let_go d = omega arith
 
 pub relay_lets : (lists : Lists) (numbering : Numbering) (seen sys : System) (c : ℕ) → seen.relays c ≡ sys.relays c → (frame : RelayFrame) (let_go : ℕ → ℕ) (d n : ℕ) →
@@ -142,13 +144,15 @@ relay_lets lists numbering seen sys c same (relay_frame.Expire sender) let_go d 
       lets.2 ∙ ap
           (λ (r : Rattle.pm_relay.specs.Relays.RelayValue). Rattle.pm_relay.specs.Numbers.parents_number (Rattle.pm_relay.specs.Numbers.known_number r.recorded r.gathered.cache.heads (sender - 1))) (sym same),
     )
-relay_lets lists numbering seen sys c same (relay_frame.NewLimits sender number limits) let_go d n lets = absurd lets
+relay_lets lists numbering seen sys c same (relay_frame.Limits number limits) let_go d n lets = absurd lets
+relay_lets lists numbering seen sys c same (relay_frame.Bound sender bound) let_go d n lets = absurd lets
 relay_lets lists numbering seen sys c same (relay_frame.Resume stored) let_go d n lets = absurd lets
 
 pub root_rises : (lists : Lists) (numbering : Numbering) (seen : System) (frame : RootFrame) (let_go : ℕ → ℕ) (d : ℕ) →
     let_go d ≤ let_go_by_root lists numbering seen frame let_go d
 root_rises lists numbering seen (root_frame.Market frame) let_go d = omega arith
 root_rises lists numbering seen (root_frame.Expire sender) let_go d = rises_by lists numbering 0 sender (root_number seen sender) let_go d
+root_rises lists numbering seen (root_frame.Bound sender bound) let_go d = omega arith
 root_rises lists numbering seen (root_frame.Resume stored) let_go d = omega arith
 
 pub root_lets : (lists : Lists) (numbering : Numbering) (seen sys : System) → seen.root ≡ sys.root → (frame : RootFrame) (let_go : ℕ → ℕ) (d n : ℕ) →
@@ -161,6 +165,7 @@ root_lets lists numbering seen sys same (root_frame.Expire sender) let_go d n le
       lets.2 ∙ ap
           (λ (r : Rattle.pm_relay.specs.Roots.RootValue). Rattle.pm_relay.specs.Numbers.parents_number (Rattle.pm_relay.specs.Numbers.known_number r.recorded r.auction.cache.heads (sender - 1))) (sym same),
     )
+root_lets lists numbering seen sys same (root_frame.Bound sender bound) let_go d n lets = absurd lets
 root_lets lists numbering seen sys same (root_frame.Resume stored) let_go d n lets = absurd lets
 
 -- each bid in the channel of d is of a number that it gave, or of one under which it was let go

@@ -1,5 +1,5 @@
 -- A worked life.
-use Rattle.std.proofs.Common.{◌≡◌, ap, ℕ, ℤ, true, List, take, Some, refl, inl, arith}
+use Rattle.std.proofs.Common.{◌≡◌, ℕ, ℤ, true, List, take, Some, refl, inl, arith}
 use Rattle.pm_base.specs.declared.limits.Limits.{Limits}
 use Rattle.pm_market.specs.Lists.{Lists, IsLeaf}
 use Rattle.pm_market.specs.State.{update, no_changes}
@@ -10,9 +10,10 @@ use Rattle.pm_relay.specs.Relays.{RelayValue}
 use Rattle.pm_relay.specs.Roots.{RootValue}
 use Rattle.pm_frames.specs.declared.device.DeviceFrame.{DeviceFrame}
 use Rattle.pm_frames.specs.declared.device.DeviceFrame.TheVariants.{Offer}
-use Rattle.pm_services.specs.DeviceAnswers.{open_agent_after}
+use Rattle.pm_basis.specs.Prices.{BasisValue}
+use Rattle.pm_frames.specs.declared.terms.RelayTerms.{RelayTerms}
+use Rattle.pm_lives.specs.DeviceWrites.{agent_after}
 use Rattle.pm_system.specs.System.{with_agent}
-use Rattle.pm_lives.specs.RelayLife.{nothing_stored}
 use Rattle.pm_lives.specs.DeviceLife.{IsGivenOffer}
 use Rattle.pm_lives.specs.DeviceWrites.{device_outs}
 use Rattle.pm_lives.specs.Lives.{World, handed_out, stored_last, restart_outs}
@@ -27,23 +28,24 @@ up_after lists p numbering world d n = record world {
 
 abbrev read_after : Lists → Pricing → Numbering → World → ℕ → DeviceFrame → ℕ → World
 read_after lists p numbering world d frame n = record world {
-  seen = handed_out lists numbering (with_agent world.seen d (open_agent_after (world.seen.agents d) frame)) d
-      (take n (device_outs p (world.seen.agents d) frame));
-  agent_kept = update world.agent_kept d (stored_last (world.agent_kept d) (take n (device_outs p (world.seen.agents d) frame)));
+  seen = handed_out lists numbering (with_agent world.seen d (agent_after (world.seen.agents d) frame)) d
+      (take n (device_outs p world.basis (world.seen.agents d) frame));
+  agent_kept = update world.agent_kept d (stored_last (world.agent_kept d) (take n (device_outs p world.basis (world.seen.agents d) frame)));
 }
 
-pub goes_on : (lists : Lists) (p : Pricing) (numbering : Numbering) (root : RootValue) (relays : ℕ → RelayValue) (limits : ℕ → Limits) (demand : List ℤ) →
-    ((c : ℕ) (l : Limits) → p.limits c no_changes ≡ Some l → limits c ≡ l) → IsLeaf lists 1 → IsGivenOffer lists p 1 2 demand →
-    GoesOn lists p numbering (new_world root relays limits) demand
+pub goes_on : (lists : Lists) (p : Pricing) (numbering : Numbering) (basis : BasisValue) (terms : ℕ → RelayTerms) (root : RootValue)
+    (relays : ℕ → RelayValue) (demand : List ℤ) → ((c : ℕ) (l : Limits) → p.limits c no_changes ≡ Some l → (terms c).limits ≡ l) → IsLeaf lists 1 → IsGivenOffer lists p 1 2 demand →
+    GoesOn lists p numbering (new_world numbering basis terms root relays) demand
 unfolding update
-goes_on lists p numbering root relays limits demand are leaf given =
-    let one : World = up_after lists p numbering (new_world root relays limits) 1 0 in
+goes_on lists p numbering basis terms root relays demand are leaf given =
+    let one : World = up_after lists p numbering (new_world numbering basis terms root relays) 1 0 in
     let two : World = read_after lists p numbering one 1 (Offer demand) 1 in
     let three : World = up_after lists p numbering two 1 1 in
     record {
       none = record {
         up = λ y. refl;
-        relay_kept = λ c l e. ap nothing_stored (are c l e);
+        limits = are;
+        relay_kept = λ c. refl;
         root_kept = refl;
         agent_kept = λ d. refl;
         bids_sent = λ x. refl;

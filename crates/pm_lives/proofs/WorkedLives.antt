@@ -28,21 +28,29 @@ use Rattle.pm_frames.specs.declared.device.DeviceFrame.{DeviceFrame}
 use Rattle.pm_frames.specs.declared.device.DeviceFrame.TheVariants as device_frame
 use Rattle.pm_services.specs.RelayAnswers.{stored_relay}
 use Rattle.pm_services.specs.RootAnswers.{stored_root}
-use Rattle.pm_services.specs.DeviceAnswers.{open_agent_after}
+use Rattle.pm_frames.specs.declared.terms.RelayTerms.{RelayTerms}
+use Rattle.pm_services.specs.RelaySetups.{RelaySetup}
+use Rattle.pm_lives.specs.DeviceWrites.{agent_after}
+use Rattle.pm_lives.specs.Lives.{setup_of}
 use Rattle.pm_system.specs.System.{System, price_in_channel, with_root, with_relay, with_agent}
 use Rattle.pm_system.specs.Settled.{number_made, number_held, index_of_held, CountsAtParent, HasNothingToSend}
 use Rattle.pm_system.specs.Worked.{small_tree, small_places, small_limits, small_demand, small_pricing}
 use Rattle.pm_system.proofs.Worked.{reaches, reached, suffices, enough, noted, one_kept, relay_back, new_root, sent_relay, rebuilt_relay, cleared_root, passed_relay}
 use Rattle.pm_system.proofs.WorkedGiven.{each_node, each_leaf}
 use Rattle.pm_lives.specs.Outputs.{Output, Up, Keeps}
-use Rattle.pm_lives.specs.RelayWrites.{own_bid, again_outs, price_outs}
+use Rattle.pm_lives.specs.RelayWrites.{bid_outs, price_outs}
 use Rattle.pm_lives.specs.RootWrites.{clearing_outs}
 use Rattle.pm_lives.specs.DeviceWrites.{device_outs}
 use Rattle.pm_lives.specs.Lives.{World, LifeStep, Lives1, Live, RelayUp, Relay, RootUp, Root, DeviceUp, Device, handed_out, stored_last, restart_outs, RelayReads, RootReads, DeviceReads, RelayBegins}
-use Rattle.pm_lives.specs.RelayLife.{nothing_stored}
 use Rattle.pm_lives.specs.Worked.{new_world}
 use Rattle.pm_lives.specs.Settled.{index_above, IsSettledWorld}
-use Rattle.pm_lives.specs.WorkedLives.{bid_to_relay, small_steps, LivesSettle}
+use Rattle.pm_lives.specs.WorkedLives.{small_basis, bid_to_relay, small_steps, LivesSettle}
+
+abbrev small_terms : RelayTerms
+small_terms = record { limits = small_limits; giver = None }
+
+abbrev small_setup : RelaySetup
+small_setup = record { child = small_places.place 1 + 1; terms = small_terms; basis = small_basis }
 
 abbrev root_read : World → RootValue → List (Output StoredRoot) → ℕ → World
 root_read world after outs n = record world {
@@ -69,9 +77,9 @@ device_begun world d = record world {
 
 abbrev device_read : World → ℕ → DeviceFrame → World
 device_read world d frame = record world {
-  seen = handed_out small_tree small_places (with_agent world.seen d (open_agent_after (world.seen.agents d) frame)) d
-      (take 2 (device_outs small_pricing (world.seen.agents d) frame));
-  agent_kept = update world.agent_kept d (stored_last (world.agent_kept d) (take 2 (device_outs small_pricing (world.seen.agents d) frame)));
+  seen = handed_out small_tree small_places (with_agent world.seen d (agent_after (world.seen.agents d) frame)) d
+      (take 2 (device_outs small_pricing small_basis (world.seen.agents d) frame));
+  agent_kept = update world.agent_kept d (stored_last (world.agent_kept d) (take 2 (device_outs small_pricing small_basis (world.seen.agents d) frame)));
 }
 
 abbrev heard : World → ℕ → ℕ → ℕ → RelayValue
@@ -81,13 +89,13 @@ abbrev heard_root : World → ℕ → List ℤ → RootValue
 heard_root world number demand = with_root_bid world.seen.root 0 number (Some demand)
 
 abbrev sent_outs : RelayValue → List (Output StoredRelay)
-sent_outs r = Keeps (stored_relay r) ∷ Up (own_bid r) ∷ []
+sent_outs r = Keeps (stored_relay small_setup r) ∷ bid_outs r
 
 abbrev cleared_outs : RootValue → List (Output StoredRoot)
-cleared_outs r = Keeps (stored_root r) ∷ clearing_outs r
+cleared_outs r = Keeps (stored_root small_basis r) ∷ clearing_outs r
 
 abbrev w0 : World
-w0 = new_world new_root (λ c. relay_back 0 0 0 (replicate most_nodes 0)) (λ c. small_limits)
+w0 = new_world small_places small_basis (λ c. small_terms) new_root (λ c. relay_back 0 0 0 (replicate most_nodes 0))
 
 abbrev w1 : World
 w1 = record w0 { seen = with_root w0.seen new_root; up = update w0.up 0 true }
@@ -138,7 +146,7 @@ abbrev w16 : World
 w16 = relay_read w15 (heard w15 1 2 3) [] 0
 
 abbrev w17 : World
-w17 = relay_read w16 (rebuilt_relay (heard w16 0 4 2)) (Up (own_bid (rebuilt_relay (heard w16 0 4 2))) ∷ []) 1
+w17 = relay_read w16 (rebuilt_relay (heard w16 0 4 2)) (bid_outs (rebuilt_relay (heard w16 0 4 2))) 1
 
 abbrev w18 : World
 w18 = root_read w17 (heard_root w17 2 (negsuc 0 ∷ negsuc 0 ∷ negsuc 0 ∷ [])) [] 0
@@ -147,25 +155,28 @@ abbrev w19 : World
 w19 = root_read w18 (cleared_root w18.seen.root) (cleared_outs (cleared_root w18.seen.root)) 2
 
 abbrev w20 : World
-w20 = relay_read w19 (passed_relay (w19.seen.relays 1)) (price_outs None (passed_relay (w19.seen.relays 1)) (record { step = 0; number = 2; index = 2 }) PassedOn) 3
+w20 = relay_read w19 (passed_relay (w19.seen.relays 1)) (price_outs small_setup None (passed_relay (w19.seen.relays 1)) (record { step = 0; number = 2; index = 2 }) PassedOn) 3
 
 abbrev w21 : World
-w21 = device_read w20 2 (device_frame.Parent (Price 1 4 2 1))
+w21 = device_read w20 2 (device_frame.Parent (Price 1 4 2 1 small_basis))
 
 abbrev w22 : World
-w22 = device_read w21 3 (device_frame.Parent (Price 2 2 2 1))
+w22 = device_read w21 3 (device_frame.Parent (Price 2 2 2 1 small_basis))
 
 does_1 : Lives1 small_tree small_pricing small_places w0 (RootUp) w1
 unfolding parent is_leaf is_member changes update place_in children_to said_between reaches suffices
 does_1 = record { root = new_root; back = record { auction = refl; base = refl; recorded = refl }; new_is = refl }
 
-does_2 : Lives1 small_tree small_pricing small_places w1 (RelayUp 1) w2
+does_2 : Lives1 small_tree small_pricing small_places w1 (RelayUp 1 0) w2
 unfolding parent is_leaf is_member changes update place_in children_to said_between reaches suffices
 does_2 = record {
   conc = (omega arith, omega arith, refl);
-  limits = small_limits;
   limited = refl;
-  relay = _;
+  relay = (relay_back 0 0 0 (replicate most_nodes 0));
+  may = λ giver is some. absurd cc;
+  after = record { relay = (relay_back 0 0 0 (replicate most_nodes 0)); waiting = None };
+  outs = [];
+  learns = (refl, refl);
   back = record {
     gathered = record { cache = refl; window = record { children = refl; steps = refl; answered = refl; last = refl; opening = refl }; limits = refl; announced = refl };
     base = refl;
@@ -201,7 +212,7 @@ does_7 = record {
   may = record { x = 2; node = (omega arith, omega arith); up = refl; sender_is = refl; place = 0; inside = omega arith; number_is = refl; demand_is = refl; passes = λ ne a b same. refl };
   after = record { relay = heard w6 0 2 2; waiting = None };
   outs = [];
-  writes = record { learnt = heard w6 0 2 2; looks = inr ((λ h. omega (arith, h.came_back)), refl); waiting_reply = []; tries = (refl, refl); replied = refl };
+  writes = inl (record { learnt = heard w6 0 2 2; looks = inr ((λ h. omega (arith, h.came_back)), refl); waiting_reply = []; tries = (refl, refl); replied = refl });
   handled = inr refl;
   new_is = refl;
 }
@@ -214,7 +225,7 @@ does_8 = record {
   may = record { x = 3; node = (omega arith, omega arith); up = refl; sender_is = refl; place = 0; inside = omega arith; number_is = refl; demand_is = refl; passes = λ ne a b same. refl };
   after = record { relay = heard w7 1 2 3; waiting = None };
   outs = [];
-  writes = record { learnt = heard w7 1 2 3; looks = inr ((λ h. omega (arith, h.came_back)), refl); waiting_reply = []; tries = (refl, refl); replied = refl };
+  writes = inl (record { learnt = heard w7 1 2 3; looks = inr ((λ h. omega (arith, h.came_back)), refl); waiting_reply = []; tries = (refl, refl); replied = refl });
   handled = inr refl;
   new_is = refl;
 }
@@ -266,7 +277,7 @@ does_9 = record {
 
 does_10 : Lives1 small_tree small_pricing small_places w9 (Root (root_frame.Market (market_frame.Bid 1 1 (pos 5 ∷ pos 5 ∷ negsuc 2 ∷ []))) 0) w10
 unfolding parent is_leaf is_member changes update place_in children_to said_between reaches suffices
-does_10 = record { runs = refl; may = record { x = 1; node = (omega arith, omega arith); up = refl; sender_is = refl; place = 0; inside = omega arith; number_is = refl; demand_is = refl; passes = λ ne. absurd (ne refl) }; after = heard_root w9 1 (pos 5 ∷ pos 5 ∷ negsuc 2 ∷ []); outs = []; writes = record { looks = inr ((λ h. omega (arith, h.came_back)), refl); replied = refl }; handled = inr refl; new_is = refl }
+does_10 = record { runs = refl; may = record { x = 1; node = (omega arith, omega arith); up = refl; sender_is = refl; place = 0; inside = omega arith; number_is = refl; demand_is = refl; passes = λ ne. absurd (ne refl) }; after = heard_root w9 1 (pos 5 ∷ pos 5 ∷ negsuc 2 ∷ []); outs = []; writes = inl (record { looks = inr ((λ h. omega (arith, h.came_back)), refl); replied = refl }); handled = inr refl; new_is = refl }
 
 does_11 : Lives1 small_tree small_pricing small_places w10 (Root (root_frame.Market market_frame.Clear) 1) w11
 unfolding parent is_leaf is_member changes update place_in children_to said_between reaches suffices
@@ -304,7 +315,7 @@ does_13 = record {
   may = record { x = 2; node = (omega arith, omega arith); up = refl; sender_is = refl; place = 1; inside = omega arith; number_is = refl; demand_is = refl; passes = λ ne a b same. refl };
   after = record { relay = heard w12 0 4 2; waiting = None };
   outs = [];
-  writes = record { learnt = heard w12 0 4 2; looks = inr ((λ h. omega (arith, h.came_back)), refl); waiting_reply = []; tries = (refl, refl); replied = refl };
+  writes = inl (record { learnt = heard w12 0 4 2; looks = inr ((λ h. omega (arith, h.came_back)), refl); waiting_reply = []; tries = (refl, refl); replied = refl });
   handled = inr refl;
   new_is = refl;
 }
@@ -354,13 +365,16 @@ does_14 = record {
   new_is = refl;
 }
 
-does_15 : Lives1 small_tree small_pricing small_places w14 (RelayUp 1) w15
+does_15 : Lives1 small_tree small_pricing small_places w14 (RelayUp 1 0) w15
 unfolding parent is_leaf is_member changes update place_in children_to said_between reaches suffices
 does_15 = record {
   conc = (omega arith, omega arith, refl);
-  limits = small_limits;
   limited = refl;
-  relay = _;
+  relay = (relay_back 2 0 0 (w14.relay_kept 1).numbers);
+  may = λ giver is some. absurd cc;
+  after = record { relay = (relay_back 2 0 0 (w14.relay_kept 1).numbers); waiting = None };
+  outs = [];
+  learns = (refl, refl);
   back = record {
     gathered = record { cache = refl; window = record { children = refl; steps = refl; answered = refl; last = refl; opening = refl }; limits = refl; announced = refl };
     base = refl;
@@ -380,7 +394,7 @@ does_16 = record {
   may = record { x = 3; node = (omega arith, omega arith); up = refl; sender_is = refl; place = 0; inside = omega arith; number_is = refl; demand_is = refl; passes = λ ne a b same. refl };
   after = record { relay = heard w15 1 2 3; waiting = None };
   outs = [];
-  writes = record { learnt = heard w15 1 2 3; looks = inr ((λ h. omega (arith, h.caught_up 0 (omega arith))), refl); waiting_reply = []; tries = (refl, refl); replied = refl };
+  writes = inl (record { learnt = heard w15 1 2 3; looks = inr ((λ h. omega (arith, h.caught_up 0 (omega arith))), refl); waiting_reply = []; tries = (refl, refl); replied = refl });
   handled = inr refl;
   new_is = refl;
 }
@@ -392,8 +406,8 @@ does_17 = record {
   runs = refl;
   may = record { x = 2; node = (omega arith, omega arith); up = refl; sender_is = refl; place = 1; inside = omega arith; number_is = refl; demand_is = refl; passes = λ ne a b same. refl };
   after = record { relay = rebuilt_relay (heard w16 0 4 2); waiting = None };
-  outs = Up (own_bid (rebuilt_relay (heard w16 0 4 2))) ∷ [];
-  writes = record {
+  outs = bid_outs (rebuilt_relay (heard w16 0 4 2));
+  writes = inl (record {
     learnt = rebuilt_relay (heard w16 0 4 2);
     looks = inl (
       record {
@@ -408,14 +422,14 @@ does_17 = record {
     waiting_reply = [];
     tries = (refl, refl);
     replied = refl;
-  };
+  });
   handled = inl (omega arith);
   new_is = refl;
 }
 
 does_18 : Lives1 small_tree small_pricing small_places w17 (Root (root_frame.Market (market_frame.Bid 1 2 (negsuc 0 ∷ negsuc 0 ∷ negsuc 0 ∷ []))) 0) w18
 unfolding parent is_leaf is_member changes update place_in children_to said_between reaches suffices
-does_18 = record { runs = refl; may = record { x = 1; node = (omega arith, omega arith); up = refl; sender_is = refl; place = 1; inside = omega arith; number_is = refl; demand_is = refl; passes = λ ne. absurd (ne refl) }; after = heard_root w17 2 (negsuc 0 ∷ negsuc 0 ∷ negsuc 0 ∷ []); outs = []; writes = record { looks = inr ((λ h. omega (arith, h.came_back)), refl); replied = refl }; handled = inr refl; new_is = refl }
+does_18 = record { runs = refl; may = record { x = 1; node = (omega arith, omega arith); up = refl; sender_is = refl; place = 1; inside = omega arith; number_is = refl; demand_is = refl; passes = λ ne. absurd (ne refl) }; after = heard_root w17 2 (negsuc 0 ∷ negsuc 0 ∷ negsuc 0 ∷ []); outs = []; writes = inl (record { looks = inr ((λ h. omega (arith, h.came_back)), refl); replied = refl }); handled = inr refl; new_is = refl }
 
 does_19 : Lives1 small_tree small_pricing small_places w18 (Root (root_frame.Market market_frame.Clear) 2) w19
 unfolding parent is_leaf is_member changes update place_in children_to said_between reaches suffices
@@ -441,15 +455,15 @@ does_19 = record {
   new_is = refl;
 }
 
-does_20 : Lives1 small_tree small_pricing small_places w19 (Relay 1 (relay_frame.Parent (Price 1 2 2 0)) 3) w20
+does_20 : Lives1 small_tree small_pricing small_places w19 (Relay 1 (relay_frame.Parent (Price 1 2 2 0 small_basis)) 3) w20
 unfolding parent is_leaf is_member changes update place_in children_to said_between reaches suffices
 does_20 = record {
   conc = (omega arith, omega arith, refl);
   runs = refl;
-  may = (0, omega arith, refl);
+  may = (refl, (0, omega arith, refl));
   after = record { relay = passed_relay (w19.seen.relays 1); waiting = None };
-  outs = price_outs None (passed_relay (w19.seen.relays 1)) (record { step = 0; number = 2; index = 2 }) PassedOn;
-  writes = record {
+  outs = price_outs small_setup None (passed_relay (w19.seen.relays 1)) (record { step = 0; number = 2; index = 2 }) PassedOn;
+  writes = inl (refl, record {
     outcome = PassedOn;
     takes = (
       record { newer = omega arith; one = omega arith; from = omega arith; to = omega arith },
@@ -477,18 +491,18 @@ does_20 = record {
     );
     waits = refl;
     replied = refl;
-  };
+  });
   handled = inl (omega arith);
   new_is = refl;
 }
 
-does_21 : Lives1 small_tree small_pricing small_places w20 (Device 2 (device_frame.Parent (Price 1 4 2 1)) 2) w21
+does_21 : Lives1 small_tree small_pricing small_places w20 (Device 2 (device_frame.Parent (Price 1 4 2 1 small_basis)) 2) w21
 unfolding parent is_leaf is_member changes update place_in children_to said_between reaches suffices
-does_21 = record { leaf = refl; runs = refl; may = (0, omega arith, refl); handled = inl (omega arith); new_is = refl }
+does_21 = record { leaf = refl; runs = refl; may = (refl, (0, omega arith, refl)); handled = inl (omega arith); new_is = refl }
 
-does_22 : Lives1 small_tree small_pricing small_places w21 (Device 3 (device_frame.Parent (Price 2 2 2 1)) 2) w22
+does_22 : Lives1 small_tree small_pricing small_places w21 (Device 3 (device_frame.Parent (Price 2 2 2 1 small_basis)) 2) w22
 unfolding parent is_leaf is_member changes update place_in children_to said_between reaches suffices
-does_22 = record { leaf = refl; runs = refl; may = (0, omega arith, refl); handled = inl (omega arith); new_is = refl }
+does_22 = record { leaf = refl; runs = refl; may = (refl, (0, omega arith, refl)); handled = inl (omega arith); new_is = refl }
 
 some_same : (l k : Limits) → Some l ≡ Some k → l ≡ k
 some_same l k e = cc
@@ -522,7 +536,7 @@ pub settles : LivesSettle
 unfolding parent is_leaf is_member changes update place_in children_to said_between reaches suffices
 settles = record {
   world = w0;
-  none = record { up = λ y. refl; relay_kept = λ c limits e. ap nothing_stored (some_same small_limits limits e); root_kept = refl; agent_kept = λ d. refl; bids_sent = λ x. refl; prices_sent = λ x. refl; setpoints = λ d. refl; let_go = λ d. refl };
+  none = record { up = λ y. refl; limits = λ c limits e. some_same small_limits limits e; relay_kept = λ c. refl; root_kept = refl; agent_kept = λ d. refl; bids_sent = λ x. refl; prices_sent = λ x. refl; setpoints = λ d. refl; let_go = λ d. refl };
   new = w22;
   live = (w1, does_1, (w2, does_2, (w3, does_3, (w4, does_4, (w5, does_5, (w6, does_6, (w7, does_7, (w8, does_8, (w9, does_9, (w10, does_10, (w11, does_11, (w12, does_12, (w13, does_13, (w14, does_14, (w15, does_15, (w16, does_16, (w17, does_17, (w18, does_18, (w19, does_19, (w20, does_20, (w21, does_21, (w22, does_22, refl))))))))))))))))))))));
   settled = settled;

@@ -1,5 +1,5 @@
 -- That the bytes with which a service answers are the frames of which the laws over lives speak.
-use Rattle.std.specs.Prelude.{◌≡◌, ℕ, List, Option, Some, ⊤}
+use Rattle.std.specs.Prelude.{◌≡◌, ℕ, List, Option, Some, ⊤, true, false}
 use Rattle.pm_relay.specs.Roots.{RootValue}
 use Rattle.pm_frames.specs.Stored.{StoredRelay, StoredRoot, relay_resume_bytes, root_resume_bytes}
 use Rattle.pm_frames.specs.declared.relay.RelayFrame.{RelayFrame}
@@ -8,7 +8,12 @@ use Rattle.pm_frames.specs.declared.root.RootFrame.{RootFrame}
 use Rattle.pm_frames.specs.declared.root.RootFrame.TheVariants as root_frame
 use Rattle.pm_frames.specs.declared.device.DeviceFrame.{DeviceFrame}
 use Rattle.pm_frames.specs.declared.device.DeviceFrame.TheVariants as device_frame
+use Rattle.pm_basis.specs.Prices.{BasisValue}
+use Rattle.pm_frames.specs.Answers.{other_basis_bytes}
+use Rattle.pm_frames.specs.declared.parent.ParentFrame.TheVariants.{Price}
+use Rattle.pm_services.specs.DeviceAnswers.{same_basis}
 use Rattle.pm_services.specs.RelayAnswers.{OpenRelay}
+use Rattle.pm_services.specs.RootAnswers.{OpenRoot}
 use Rattle.pm_lives.specs.Outputs.{Output, outputs_bytes}
 use Rattle.pm_lives.specs.RelayWrites.{WritesRelay}
 use Rattle.pm_lives.specs.RootWrites.{WritesRoot}
@@ -19,12 +24,14 @@ IsNoResume (relay_frame.Child frame) = ⊤
 IsNoResume (relay_frame.Parent frame) = ⊤
 IsNoResume relay_frame.Send = ⊤
 IsNoResume (relay_frame.Expire sender) = ⊤
-IsNoResume (relay_frame.NewLimits sender number limits) = ⊤
+IsNoResume (relay_frame.Limits number limits) = ⊤
+IsNoResume (relay_frame.Bound sender bound) = ⊤
 IsNoResume (relay_frame.Resume stored) = ⊥
 
 abbrev pub IsNoRootResume : RootFrame → Type 0
 IsNoRootResume (root_frame.Market frame) = ⊤
 IsNoRootResume (root_frame.Expire sender) = ⊤
+IsNoRootResume (root_frame.Bound sender bound) = ⊤
 IsNoRootResume (root_frame.Resume stored) = ⊥
 
 abbrev pub IsNoDeviceResume : DeviceFrame → Type 0
@@ -34,17 +41,29 @@ IsNoDeviceResume device_frame.Leave = ⊤
 IsNoDeviceResume (device_frame.Parent frame) = ⊤
 IsNoDeviceResume (device_frame.Resume stored) = ⊥
 
--- the bytes are the frames that a relay writes in answer to this one
-pub record AnswersInFrames (child : ℕ) (old : OpenRelay) (frame : RelayFrame) (new : Option OpenRelay) (reply : List ℕ) : Type 0 where
-  pub after : OpenRelay
-  pub new_is : new ≡ Some after
-  pub outs : List (Output StoredRelay)
-  pub writes : WritesRelay old frame after outs
-  pub written : reply ≡ outputs_bytes relay_resume_bytes child outs
+-- a price in it is of this basis, or of another one
+abbrev pub IsOfBasis : BasisValue → DeviceFrame → Type 0
+IsOfBasis own (device_frame.Parent (Price child number index step basis)) = same_basis basis own ≡ true
+IsOfBasis own frame = ⊤
 
-pub record RootAnswersInFrames (old : RootValue) (frame : RootFrame) (new : Option RootValue) (reply : List ℕ) : Type 0 where
-  pub after : RootValue
-  pub new_is : new ≡ Some after
+abbrev pub IsOfOtherBasis : BasisValue → DeviceFrame → Type 0
+IsOfOtherBasis own (device_frame.Parent (Price child number index step basis)) = same_basis basis own ≡ false
+IsOfOtherBasis own frame = ⊥
+
+-- the answer is that the price is of another basis
+abbrev pub SaysOtherBasis : List ℕ → DeviceFrame → Type 0
+SaysOtherBasis reply (device_frame.Parent (Price child number index step basis)) = reply ≡ other_basis_bytes number index
+SaysOtherBasis reply frame = ⊥
+
+-- the bytes are the frames that a relay writes in answer to this one
+pub record AnswersInFrames (old : OpenRelay) (frame : RelayFrame) (new : OpenRelay) (reply : List ℕ) : Type 0 where
+  pub setup : new.setup ≡ old.setup
+  pub outs : List (Output StoredRelay)
+  pub writes : WritesRelay old.setup old.held frame new.held outs
+  pub written : reply ≡ outputs_bytes relay_resume_bytes old.setup.basis old.setup.child outs
+
+pub record RootAnswersInFrames (old : OpenRoot) (frame : RootFrame) (new : OpenRoot) (reply : List ℕ) : Type 0 where
+  pub basis : new.basis ≡ old.basis
   pub outs : List (Output StoredRoot)
-  pub writes : WritesRoot old frame after outs
-  pub written : reply ≡ outputs_bytes root_resume_bytes 0 outs
+  pub writes : WritesRoot old.basis old.root frame new.root outs
+  pub written : reply ≡ outputs_bytes root_resume_bytes old.basis 0 outs

@@ -8,6 +8,8 @@ use Rattle.pm_net.specs.Agents as agents
 use Rattle.pm_net.specs.Agents.{DeviceAgent, may_offer, setpoints_for}
 use Rattle.pm_net_plan.specs.Places.{Numbering}
 use Rattle.pm_control.specs.Control.{newest_demand}
+use Rattle.pm_basis.specs.Prices.{BasisValue}
+use Rattle.pm_services.specs.DeviceAnswers.{same_basis}
 use Rattle.pm_frames.specs.declared.stored.StoredAgent.{StoredAgent}
 use Rattle.pm_frames.specs.declared.parent.ParentFrame.TheVariants.{Price, Old}
 use Rattle.pm_frames.specs.declared.device.DeviceFrame.{DeviceFrame}
@@ -46,22 +48,24 @@ pub record IsGivenLeaving (lists : Lists) (d number : ℕ) : Type 0 where
   pub has : number ≤ changes lists d
   pub absent : is_member lists d number ≡ false
 
--- What the control asks for is what the lists have under the number that it gets, if it gets one. A price was sent to d. After an Old
+-- What the control asks for is what the lists have under the number that it gets, if it gets one. A price, of the device's basis, was
+-- sent to d. After an Old
 -- by which its parent let it go, the lists have that it leaves and offers anew.
-abbrev pub DeviceMayRead : Lists → Pricing → System → ℕ → DeviceFrame → Type 0
-DeviceMayRead lists p sys d (Hello basis) = ⊤
-DeviceMayRead lists p sys d (Offer demand) =
+abbrev pub DeviceMayRead : Lists → Pricing → BasisValue → System → ℕ → DeviceFrame → Type 0
+DeviceMayRead lists p own sys d (Hello basis) = ⊤
+DeviceMayRead lists p own sys d (Offer demand) =
     may_offer (sys.agents d) ≡ true → nat_lt ((sys.agents d).number + 5) (2 ^ 32) ≡ true → IsGivenOffer lists p d ((sys.agents d).number + 2) demand
-DeviceMayRead lists p sys d Leave = nat_lt ((sys.agents d).number + 3) (2 ^ 32) ≡ true → IsGivenLeaving lists d ((sys.agents d).number + 2)
-DeviceMayRead lists p sys d (Parent (Price own number index step)) = PriceWasSent sys d (price_message number index step)
-DeviceMayRead lists p sys d (Parent (Old own kept)) =
+DeviceMayRead lists p own sys d Leave = nat_lt ((sys.agents d).number + 3) (2 ^ 32) ≡ true → IsGivenLeaving lists d ((sys.agents d).number + 2)
+DeviceMayRead lists p own sys d (Parent (Price child number index step basis)) =
+    (same_basis basis own ≡ true) × PriceWasSent sys d (price_message number index step)
+DeviceMayRead lists p own sys d (Parent (Old child kept)) =
     nat_lt (sys.agents d).number kept ≡ true → nat_lt ((sys.agents d).number + 7) (2 ^ 32) ≡ true → (demand : List ℤ) → newest_demand (sys.agents d) ≡ Some demand →
     IsGivenLeaving lists d ((sys.agents d).number + 2) × IsGivenOffer lists p d ((sys.agents d).number + 2 + 2) demand
-DeviceMayRead lists p sys d (Resume stored) = ⊥
+DeviceMayRead lists p own sys d (Resume stored) = ⊥
 
 -- the setpoints that a frame gives
 abbrev pub told_of : DeviceAgent → DeviceFrame → List agents.Setpoint
-told_of agent (Parent (Price own number index step)) = setpoints_for agent (price_message number index step)
+told_of agent (Parent (Price child number index step basis)) = setpoints_for agent (price_message number index step)
 told_of agent frame = []
 
 -- its service stands for it again, and its control was given these setpoints

@@ -17,8 +17,10 @@ use Rattle.pm_frames.specs.declared.root.RootFrame.{RootFrame}
 use Rattle.pm_frames.specs.declared.root.RootFrame.TheVariants as root_frame
 use Rattle.pm_frames.specs.declared.device.DeviceFrame.{DeviceFrame}
 use Rattle.pm_frames.specs.declared.device.DeviceFrame.TheVariants.{Hello, Offer, Leave, Parent, Resume}
-use Rattle.pm_services.specs.RelayAnswers.{OpenRelay}
-use Rattle.pm_services.specs.DeviceAnswers.{open_agent_after}
+use Rattle.pm_services.specs.RelayAnswers.{WaitingRelay}
+use Rattle.pm_basis.specs.Prices.{BasisValue}
+use Rattle.pm_services.specs.DeviceAnswers.{same_basis}
+use Rattle.pm_services.specs.RelaySetups.{RelaySetup}
 use Rattle.pm_system.specs.System.{System, with_root, with_relay, with_agent}
 use Rattle.pm_system.specs.Given.{IsDemand, IsTreeMarket, IsStarted}
 use Rattle.pm_lives.specs.Outputs.{Output, PriceWasSent}
@@ -26,9 +28,9 @@ use Rattle.pm_lives.specs.RelayLife.{RelayMayRead}
 use Rattle.pm_lives.specs.RelayWrites.{WritesRelay}
 use Rattle.pm_lives.specs.RootLife.{RootMayRead}
 use Rattle.pm_lives.specs.RootWrites.{WritesRoot}
-use Rattle.pm_lives.specs.DeviceWrites.{device_outs}
+use Rattle.pm_lives.specs.DeviceWrites.{device_outs, agent_after}
 use Rattle.pm_lives.specs.Lives.{World, LifeStep, RelayUp, Relay, RootUp, Root, DeviceUp, Device, RelayBegins, RootBegins, DeviceBegins}
-use Rattle.pm_lives.specs.Lives.{HandledSome, handed_out, stored_last, let_go_by_relay, let_go_by_root, Live}
+use Rattle.pm_lives.specs.Lives.{HandledSome, setup_of, handed_out, stored_last, let_go_by_relay, let_go_by_root, Live}
 
 -- the child that is let go is a device; to a relay it is none that gives the relay its limits
 pub record CarriesLetGo (lists : Lists) (p : Pricing) (numbering : Numbering) (y sender : ℕ) : Type 0 where
@@ -38,36 +40,40 @@ pub record CarriesLetGo (lists : Lists) (p : Pricing) (numbering : Numbering) (y
   pub sender_is : sender ≡ numbering.place x + 1
   pub passes : (y ≡ 0 → ⊥) → LimitsPassBy p y x
 
-abbrev pub RelayIsFree : Lists → Pricing → Numbering → System → ℕ → RelayFrame → Type 0
-RelayIsFree lists p numbering sys c (relay_frame.Child frame) = RelayMayRead lists p numbering sys c (relay_frame.Child frame)
-RelayIsFree lists p numbering sys c (relay_frame.Parent frame) = RelayMayRead lists p numbering sys c (relay_frame.Parent frame)
-RelayIsFree lists p numbering sys c relay_frame.Send = ⊤
-RelayIsFree lists p numbering sys c (relay_frame.Expire sender) = CarriesLetGo lists p numbering c sender
-RelayIsFree lists p numbering sys c (relay_frame.NewLimits sender number limits) = RelayMayRead lists p numbering sys c (relay_frame.NewLimits sender number limits)
-RelayIsFree lists p numbering sys c (relay_frame.Resume stored) = ⊥
+abbrev pub RelayIsFree : Lists → Pricing → Numbering → RelaySetup → System → ℕ → RelayFrame → Type 0
+RelayIsFree lists p numbering setup sys c (relay_frame.Child frame) = RelayMayRead lists p numbering setup sys c (relay_frame.Child frame)
+RelayIsFree lists p numbering setup sys c (relay_frame.Parent frame) = RelayMayRead lists p numbering setup sys c (relay_frame.Parent frame)
+RelayIsFree lists p numbering setup sys c relay_frame.Send = ⊤
+RelayIsFree lists p numbering setup sys c (relay_frame.Expire sender) = CarriesLetGo lists p numbering c sender
+RelayIsFree lists p numbering setup sys c (relay_frame.Limits number limits) =
+    RelayMayRead lists p numbering setup sys c (relay_frame.Limits number limits)
+RelayIsFree lists p numbering setup sys c (relay_frame.Bound sender bound) = ⊤
+RelayIsFree lists p numbering setup sys c (relay_frame.Resume stored) = ⊥
 
 abbrev pub RootIsFree : Lists → Pricing → Numbering → System → RootFrame → Type 0
 RootIsFree lists p numbering sys (root_frame.Market frame) = RootMayRead lists p numbering sys (root_frame.Market frame)
 RootIsFree lists p numbering sys (root_frame.Expire sender) = CarriesLetGo lists p numbering 0 sender
+RootIsFree lists p numbering sys (root_frame.Bound sender bound) = ⊤
 RootIsFree lists p numbering sys (root_frame.Resume stored) = ⊥
 
 -- an offer is a demand; so is the one that a device offers anew
-abbrev pub DeviceIsFree : Pricing → System → ℕ → DeviceFrame → Type 0
-DeviceIsFree p sys d (Hello basis) = ⊤
-DeviceIsFree p sys d (Offer demand) = IsDemand p.steps demand
-DeviceIsFree p sys d Leave = ⊤
-DeviceIsFree p sys d (Parent (Price own number index step)) = PriceWasSent sys d (price_message number index step)
-DeviceIsFree p sys d (Parent (Old own kept)) = (demand : List ℤ) → newest_demand (sys.agents d) ≡ Some demand → IsDemand p.steps demand
-DeviceIsFree p sys d (Resume stored) = ⊥
+abbrev pub DeviceIsFree : Pricing → BasisValue → System → ℕ → DeviceFrame → Type 0
+DeviceIsFree p own sys d (Hello basis) = ⊤
+DeviceIsFree p own sys d (Offer demand) = IsDemand p.steps demand
+DeviceIsFree p own sys d Leave = ⊤
+DeviceIsFree p own sys d (Parent (Price child number index step basis)) =
+    (same_basis basis own ≡ true) × PriceWasSent sys d (price_message number index step)
+DeviceIsFree p own sys d (Parent (Old child kept)) = (demand : List ℤ) → newest_demand (sys.agents d) ≡ Some demand → IsDemand p.steps demand
+DeviceIsFree p own sys d (Resume stored) = ⊥
 
 pub record RelayReadsFree (lists : Lists) (p : Pricing) (numbering : Numbering) (world : World) (c : ℕ) (frame : RelayFrame) (n : ℕ) (new : World) :
     Type 0 where
   pub conc : IsConcentrator lists c
   pub runs : world.up c ≡ true
-  pub may : RelayIsFree lists p numbering world.seen c frame
-  pub after : OpenRelay
+  pub may : RelayIsFree lists p numbering (setup_of numbering world c) world.seen c frame
+  pub after : WaitingRelay
   pub outs : List (Output StoredRelay)
-  pub writes : WritesRelay (record { relay = world.seen.relays c; waiting = world.waiting c }) frame after outs
+  pub writes : WritesRelay (setup_of numbering world c) (record { relay = world.seen.relays c; waiting = world.waiting c }) frame after outs
   pub handled : HandledSome n outs
   pub new_is : new ≡ record world {
     seen = handed_out lists numbering (with_relay world.seen c after.relay) c (take n outs);
@@ -81,7 +87,7 @@ pub record RootReadsFree (lists : Lists) (p : Pricing) (numbering : Numbering) (
   pub may : RootIsFree lists p numbering world.seen frame
   pub after : RootValue
   pub outs : List (Output StoredRoot)
-  pub writes : WritesRoot world.seen.root frame after outs
+  pub writes : WritesRoot world.basis world.seen.root frame after outs
   pub handled : HandledSome n outs
   pub new_is : new ≡ record world {
     seen = handed_out lists numbering (with_root world.seen after) 0 (take n outs);
@@ -93,16 +99,16 @@ pub record DeviceReadsFree (lists : Lists) (p : Pricing) (numbering : Numbering)
     Type 0 where
   pub leaf : IsLeaf lists d
   pub runs : world.up d ≡ true
-  pub may : DeviceIsFree p world.seen d frame
-  pub handled : HandledSome n (device_outs p (world.seen.agents d) frame)
+  pub may : DeviceIsFree p world.basis world.seen d frame
+  pub handled : HandledSome n (device_outs p world.basis (world.seen.agents d) frame)
   pub new_is : new ≡ record world {
-    seen = handed_out lists numbering (with_agent world.seen d (open_agent_after (world.seen.agents d) frame)) d
-        (take n (device_outs p (world.seen.agents d) frame));
-    agent_kept = update world.agent_kept d (stored_last (world.agent_kept d) (take n (device_outs p (world.seen.agents d) frame)));
+    seen = handed_out lists numbering (with_agent world.seen d (agent_after (world.seen.agents d) frame)) d
+        (take n (device_outs p world.basis (world.seen.agents d) frame));
+    agent_kept = update world.agent_kept d (stored_last (world.agent_kept d) (take n (device_outs p world.basis (world.seen.agents d) frame)));
   }
 
 abbrev pub LivesFree1 : Lists → Pricing → Numbering → World → LifeStep → World → Type 0
-LivesFree1 lists p numbering world (RelayUp c) new = RelayBegins p lists world c new
+LivesFree1 lists p numbering world (RelayUp c n) new = RelayBegins lists p numbering world c n new
 LivesFree1 lists p numbering world (Relay c frame n) new = RelayReadsFree lists p numbering world c frame n new
 LivesFree1 lists p numbering world RootUp new = RootBegins p world new
 LivesFree1 lists p numbering world (Root frame n) new = RootReadsFree lists p numbering world frame n new

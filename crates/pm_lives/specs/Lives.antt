@@ -23,23 +23,30 @@ use Rattle.pm_frames.specs.declared.relay.RelayFrame.TheVariants as relay_frame
 use Rattle.pm_frames.specs.declared.root.RootFrame.{RootFrame}
 use Rattle.pm_frames.specs.declared.root.RootFrame.TheVariants as root_frame
 use Rattle.pm_frames.specs.declared.device.DeviceFrame.{DeviceFrame}
-use Rattle.pm_services.specs.RelayAnswers.{OpenRelay}
-use Rattle.pm_services.specs.DeviceAnswers.{open_agent_after}
+use Rattle.pm_services.specs.RelayAnswers.{WaitingRelay}
+use Rattle.pm_basis.specs.Prices.{BasisValue}
+use Rattle.pm_frames.specs.declared.terms.RelayTerms.{RelayTerms}
+use Rattle.pm_relay.specs.Numbers.{child_number}
+use Rattle.pm_services.specs.Receipts.{sender_place}
+use Rattle.pm_services.specs.RelaySetups.{RelaySetup}
 use Rattle.pm_system.specs.System.{System, bid_in_channel, price_in_channel, with_root, with_relay, with_agent, with_setpoints, with_bid_sent, with_prices_sent}
 use Rattle.pm_system.specs.Calls.{NodeCall, SystemRuns, StaysUp, bid_kept}
 use Rattle.pm_lives.specs.Outputs.{Output, Up, Down, Keeps, Tells, Says, BidWasSent, PriceWasSent}
-use Rattle.pm_lives.specs.RelayLife.{RelayMayRead, relay_number, nothing_stored}
-use Rattle.pm_lives.specs.RelayWrites.{WritesRelay}
+use Rattle.pm_lives.specs.RelayLife.{CarriesLimits, RelayMayRead, relay_number, nothing_stored}
+use Rattle.pm_lives.specs.RelayWrites.{WritesRelay, WritesKept}
 use Rattle.pm_lives.specs.RootLife.{RootMayRead, root_number}
 use Rattle.pm_lives.specs.RootWrites.{WritesRoot}
 use Rattle.pm_lives.specs.DeviceLife.{DeviceMayRead}
-use Rattle.pm_lives.specs.DeviceWrites.{device_outs}
+use Rattle.pm_lives.specs.DeviceWrites.{device_outs, agent_after}
 
 -- ---- the world
 
 -- What there is at a moment: the value of the process of each node, if one runs, with the price that waits at a relay; the bids, prices
 -- and setpoints that the carriers handed out; and what is stored of each node. A value of no process says nothing.
 pub record World : Type 0 where
+  -- the basis that every Hello has, and the arguments of each relay; no step changes these
+  pub basis : BasisValue
+  pub terms : ℕ → RelayTerms
   pub seen : System
   pub up : ℕ → Bool
   pub waiting : ℕ → Option PriceUpdate
@@ -48,6 +55,10 @@ pub record World : Type 0 where
   pub agent_kept : ℕ → StoredAgent
   -- the newest number under which the parent of each device was told to let it go, 0 if it never was
   pub let_go : ℕ → ℕ
+
+-- what relay c knows of itself
+abbrev pub setup_of : Numbering → World → ℕ → RelaySetup
+setup_of numbering world c = record { child = numbering.place c + 1; terms = world.terms c; basis = world.basis }
 
 -- ---- what the carriers do with frames that y wrote, in their order
 
@@ -91,19 +102,28 @@ let_go_by_root lists numbering seen frame let_go' = let_go'
 
 -- ---- one step of a life
 
--- A process of relay c begins, with Hello, the limits of its first start and what is stored. One that ran before has ended, at any
--- byte.
-pub record RelayBegins (p : Pricing) (lists : Lists) (world : World) (c : ℕ) (new : World) : Type 0 where
+-- the limits in a Resume, if there is a place in which the relay is given some, are those of a message that was handed out
+abbrev pub KeptMayBeLearnt : Lists → Pricing → Numbering → World → ℕ → Type 0
+KeptMayBeLearnt lists p numbering world c =
+    (giver : ℕ) → (world.terms c).giver ≡ Some giver → 0 < child_number (world.relay_kept c).numbers (sender_place giver) →
+    CarriesLimits lists p numbering world.seen c giver (child_number (world.relay_kept c).numbers (sender_place giver)) (world.relay_kept c).limits
+
+-- A process of relay c begins, with Hello, the limits of its arguments and what is stored, by which it learns the limits that it was
+-- given last. Of its answer the first n frames are handled. One that ran before has ended, at any byte.
+pub record RelayBegins (lists : Lists) (p : Pricing) (numbering : Numbering) (world : World) (c n : ℕ) (new : World) : Type 0 where
   pub conc : IsConcentrator lists c
-  pub limits : Limits
-  pub limited : p.limits c no_changes ≡ Some limits
+  pub limited : p.limits c no_changes ≡ Some (world.terms c).limits
   pub relay : RelayValue
-  pub back : ComesBack p.steps limits (world.relay_kept c).last (world.relay_kept c).answered (world.relay_kept c).index
+  pub may : KeptMayBeLearnt lists p numbering world c
+  pub after : WaitingRelay
+  pub outs : List (Output StoredRelay)
+  pub learns : WritesKept (world.terms c).giver (setup_of numbering world c) (record { relay = relay; waiting = None }) (world.relay_kept c) after outs
+  pub back : ComesBack p.steps (world.terms c).limits (world.relay_kept c).last (world.relay_kept c).answered (world.relay_kept c).index
       (world.relay_kept c).numbers (world.relay_kept c).limits relay
   pub new_is : new ≡ record world {
-    seen = with_relay world.seen c relay;
+    seen = handed_out lists numbering (with_relay world.seen c after.relay) c (take n outs);
     up = update world.up c true;
-    waiting = update world.waiting c None;
+    waiting = update world.waiting c after.waiting;
   }
 
 -- The process of c reads a frame whose messages were handed out, and of its answer the first n frames are handled.
@@ -111,10 +131,10 @@ pub record RelayReads (lists : Lists) (p : Pricing) (numbering : Numbering) (wor
     Type 0 where
   pub conc : IsConcentrator lists c
   pub runs : world.up c ≡ true
-  pub may : RelayMayRead lists p numbering world.seen c frame
-  pub after : OpenRelay
+  pub may : RelayMayRead lists p numbering (setup_of numbering world c) world.seen c frame
+  pub after : WaitingRelay
   pub outs : List (Output StoredRelay)
-  pub writes : WritesRelay (record { relay = world.seen.relays c; waiting = world.waiting c }) frame after outs
+  pub writes : WritesRelay (setup_of numbering world c) (record { relay = world.seen.relays c; waiting = world.waiting c }) frame after outs
   pub handled : HandledSome n outs
   pub new_is : new ≡ record world {
     seen = handed_out lists numbering (with_relay world.seen c after.relay) c (take n outs);
@@ -133,7 +153,7 @@ pub record RootReads (lists : Lists) (p : Pricing) (numbering : Numbering) (worl
   pub may : RootMayRead lists p numbering world.seen frame
   pub after : RootValue
   pub outs : List (Output StoredRoot)
-  pub writes : WritesRoot world.seen.root frame after outs
+  pub writes : WritesRoot world.basis world.seen.root frame after outs
   pub handled : HandledSome n outs
   pub new_is : new ≡ record world {
     seen = handed_out lists numbering (with_root world.seen after) 0 (take n outs);
@@ -157,18 +177,18 @@ pub record DeviceReads (lists : Lists) (p : Pricing) (numbering : Numbering) (wo
     Type 0 where
   pub leaf : IsLeaf lists d
   pub runs : world.up d ≡ true
-  pub may : DeviceMayRead lists p world.seen d frame
-  pub handled : HandledSome n (device_outs p (world.seen.agents d) frame)
+  pub may : DeviceMayRead lists p world.basis world.seen d frame
+  pub handled : HandledSome n (device_outs p world.basis (world.seen.agents d) frame)
   pub new_is : new ≡ record world {
-    seen = handed_out lists numbering (with_agent world.seen d (open_agent_after (world.seen.agents d) frame)) d
-        (take n (device_outs p (world.seen.agents d) frame));
-    agent_kept = update world.agent_kept d (stored_last (world.agent_kept d) (take n (device_outs p (world.seen.agents d) frame)));
+    seen = handed_out lists numbering (with_agent world.seen d (agent_after (world.seen.agents d) frame)) d
+        (take n (device_outs p world.basis (world.seen.agents d) frame));
+    agent_kept = update world.agent_kept d (stored_last (world.agent_kept d) (take n (device_outs p world.basis (world.seen.agents d) frame)));
   }
 
 -- ---- lives
 
 pub data LifeStep : Type 0 where
-  RelayUp : ℕ → LifeStep
+  RelayUp : ℕ → ℕ → LifeStep
   Relay : ℕ → RelayFrame → ℕ → LifeStep
   RootUp : LifeStep
   Root : RootFrame → ℕ → LifeStep
@@ -176,7 +196,7 @@ pub data LifeStep : Type 0 where
   Device : ℕ → DeviceFrame → ℕ → LifeStep
 
 abbrev pub Lives1 : Lists → Pricing → Numbering → World → LifeStep → World → Type 0
-Lives1 lists p numbering world (RelayUp c) new = RelayBegins p lists world c new
+Lives1 lists p numbering world (RelayUp c n) new = RelayBegins lists p numbering world c n new
 Lives1 lists p numbering world (Relay c frame n) new = RelayReads lists p numbering world c frame n new
 Lives1 lists p numbering world RootUp new = RootBegins p world new
 Lives1 lists p numbering world (Root frame n) new = RootReads lists p numbering world frame n new
@@ -188,18 +208,20 @@ abbrev pub Live : Lists → Pricing → Numbering → World → List LifeStep �
 Live lists p numbering world [] new = world ≡ new
 Live lists p numbering world (step ∷ steps) new = (mid : World) × Lives1 lists p numbering world step mid × Live lists p numbering mid steps new
 
-abbrev pub no_root_stored : StoredRoot
-no_root_stored = record { last = 0; numbers = replicate most_nodes 0 }
+abbrev pub no_root_stored : BasisValue → StoredRoot
+no_root_stored basis' = record { last = 0; basis = basis'; numbers = replicate most_nodes 0 }
 
-abbrev pub no_agent_stored : StoredAgent
-no_agent_stored = record { number = 0; index = 0; newest = None }
+abbrev pub no_agent_stored : BasisValue → StoredAgent
+no_agent_stored basis' = record { number = 0; index = 0; basis = basis'; newest = None }
 
 -- no process runs, nothing is stored, and nothing was handed out
-pub record IsNewWorld (p : Pricing) (world : World) : Type 0 where
+pub record IsNewWorld (p : Pricing) (numbering : Numbering) (world : World) : Type 0 where
   pub up : (y : ℕ) → world.up y ≡ false
-  pub relay_kept : (c : ℕ) (limits : Limits) → p.limits c no_changes ≡ Some limits → world.relay_kept c ≡ nothing_stored limits
-  pub root_kept : world.root_kept ≡ no_root_stored
-  pub agent_kept : (d : ℕ) → world.agent_kept d ≡ no_agent_stored
+  -- each relay has the limits of its first start in its arguments
+  pub limits : (c : ℕ) (limits : Limits) → p.limits c no_changes ≡ Some limits → (world.terms c).limits ≡ limits
+  pub relay_kept : (c : ℕ) → world.relay_kept c ≡ nothing_stored (setup_of numbering world c)
+  pub root_kept : world.root_kept ≡ no_root_stored world.basis
+  pub agent_kept : (d : ℕ) → world.agent_kept d ≡ no_agent_stored world.basis
   pub bids_sent : (x : ℕ) → world.seen.bids_sent x ≡ []
   pub prices_sent : (x : ℕ) → world.seen.prices_sent x ≡ []
   pub setpoints : (d : ℕ) → world.seen.setpoints d ≡ []

@@ -2,14 +2,14 @@
 use Rattle.std.specs.Prelude.{◌≡◌, ℕ, ◌+◌, ◌<◌, if◌then◌else◌, List, ◌∷◌, length, ⊤}
 use Rattle.std.specs.List.{flat_map, AllByRecursion, Contains}
 use Rattle.pm_market.specs.Lists.{Lists, parent, IsNode}
-use Rattle.pm_wire.specs.Answers.{answer_bytes}
+use Rattle.pm_basis.specs.Prices.{BasisValue}
 use Rattle.pm_wire.specs.Frames.{frame_bytes}
-use Rattle.pm_wire.specs.declared.answer.Reply.TheVariants.{Price}
 use Rattle.pm_wire.specs.declared.frame.Frame.TheVariants.{Bid, Gone}
 use Rattle.pm_net.specs.Pricing.{Pricing}
 use Rattle.pm_net.specs.Messages.{BidMessage, PriceMessage}
 use Rattle.pm_net.specs.Agents.{Setpoint}
 use Rattle.pm_frames.specs.Answers.{setpoint_bytes}
+use Rattle.pm_frames.specs.ParentFrames.{price_bytes}
 use Rattle.pm_net_plan.specs.Places.{Numbering}
 use Rattle.pm_system.specs.System.{System, price_in_channel}
 use Rattle.pm_system.specs.Market.{IsIn}
@@ -32,19 +32,19 @@ pub data Output (K : Type 0) : Type 0 where
 abbrev pub up_bytes : ℕ → BidMessage → List ℕ
 up_bytes child bid = if bid.gone then frame_bytes (Gone child bid.number) else frame_bytes (Bid child bid.number bid.demand)
 
-abbrev pub down_bytes : ℕ → PriceMessage → List ℕ
-down_bytes place price = answer_bytes (Price (place + 1) price.number price.index price.step)
+abbrev pub down_bytes : BasisValue → ℕ → PriceMessage → List ℕ
+down_bytes basis place price = price_bytes (place + 1) price.number price.index price.step basis
 
--- `kept` has the bytes of what a node of this sort keeps, and `child` is its own number at its parent
-abbrev pub output_bytes : {K : Type 0} → (K → List ℕ) → ℕ → Output K → List ℕ
-output_bytes kept child (Up bid) = up_bytes child bid
-output_bytes kept child (Down place price) = down_bytes place price
-output_bytes kept child (Keeps stored) = kept stored
-output_bytes kept child (Tells setpoint) = setpoint_bytes setpoint.number setpoint.index setpoint.step setpoint.power
-output_bytes kept child (Says bytes) = bytes
+-- `kept` has the bytes of what a node of this sort keeps, `basis` is that of the market, and `child` its own number at its parent
+abbrev pub output_bytes : {K : Type 0} → (K → List ℕ) → BasisValue → ℕ → Output K → List ℕ
+output_bytes kept basis child (Up bid) = up_bytes child bid
+output_bytes kept basis child (Down place price) = down_bytes basis place price
+output_bytes kept basis child (Keeps stored) = kept stored
+output_bytes kept basis child (Tells setpoint) = setpoint_bytes setpoint.number setpoint.index setpoint.step setpoint.power
+output_bytes kept basis child (Says bytes) = bytes
 
-abbrev pub outputs_bytes : {K : Type 0} → (K → List ℕ) → ℕ → List (Output K) → List ℕ
-outputs_bytes kept child outs = flat_map (output_bytes kept child) outs
+abbrev pub outputs_bytes : {K : Type 0} → (K → List ℕ) → BasisValue → ℕ → List (Output K) → List ℕ
+outputs_bytes kept basis child outs = flat_map (output_bytes kept basis child) outs
 
 -- ---- messages that were sent
 

@@ -15,8 +15,11 @@ use Rattle.pm_relay_net.specs.RelayIs.{LimitsPassBy, GivesLimits, told_demand, u
 use Rattle.pm_frames.specs.Stored.{StoredRelay}
 use Rattle.pm_frames.specs.declared.parent.ParentFrame.TheVariants.{Price, Old}
 use Rattle.pm_frames.specs.declared.relay.RelayFrame.{RelayFrame}
-use Rattle.pm_frames.specs.declared.relay.RelayFrame.TheVariants.{Child, Parent, Send, Expire, NewLimits, Resume}
-use Rattle.pm_services.specs.RelayAnswers.{OpenRelay}
+use Rattle.pm_frames.specs.declared.relay.RelayFrame.TheVariants.{Child, Parent, Send, Expire, Bound, Resume}
+use Rattle.pm_frames.specs.declared.relay.RelayFrame.TheVariants as given
+use Rattle.pm_frames.specs.Terms.{giver_number}
+use Rattle.pm_services.specs.RelayAnswers.{WaitingRelay}
+use Rattle.pm_services.specs.RelaySetups.{RelaySetup}
 use Rattle.pm_system.specs.System.{System, bid_in_channel, price_in_channel}
 use Rattle.pm_system.specs.Expiry.{MayExpire}
 use Rattle.pm_lives.specs.Outputs.{Output, PriceWasSent}
@@ -34,8 +37,8 @@ IsOfPrice sys c answered index =
 abbrev pub UpdateWasSent : System → ℕ → PriceUpdate → Type 0
 UpdateWasSent sys c price = (k : ℕ) × (k < length (sys.prices_sent c)) × (update_of (price_in_channel sys c k) ≡ price)
 
--- a relay after Hello stands for node c of the system
-pub record RelayStands (sys : System) (c : ℕ) (relay : OpenRelay) : Type 0 where
+-- a relay, with the price that waits, stands for node c of the system
+pub record RelayStands (sys : System) (c : ℕ) (relay : WaitingRelay) : Type 0 where
   pub relay_is : relay.relay ≡ sys.relays c
   pub waiting : IfSome relay.waiting (UpdateWasSent sys c)
   pub held : IsOfPrice sys c relay.relay.answered relay.relay.index
@@ -55,9 +58,18 @@ pub record IsKept (p : Pricing) (numbering : Numbering) (sys : System) (c : ℕ)
   pub price : IsOfPrice sys c stored.answered stored.index
   pub older : stored.index ≤ (sys.relays c).index
 
--- what is stored before anything is, of a relay that comes up with these limits
-abbrev pub nothing_stored : Limits → StoredRelay
-nothing_stored limits' = record { last = 0; answered = 0; index = 0; limits = limits'; numbers = replicate most_nodes 0 }
+-- what is stored before anything is, of a relay that comes up with the limits of its arguments
+abbrev pub nothing_stored : RelaySetup → StoredRelay
+nothing_stored own = record {
+  last = 0;
+  answered = 0;
+  index = 0;
+  basis = own.basis;
+  first = own.terms.limits;
+  giver = giver_number own.terms.giver;
+  limits = own.terms.limits;
+  numbers = replicate most_nodes 0;
+}
 
 -- ---- what it may be given
 
@@ -74,8 +86,8 @@ pub record CarriesBid (lists : Lists) (p : Pricing) (numbering : Numbering) (sys
   pub demand_is : demand ≡ told_demand (bid_in_channel p sys x place)
   pub passes : (y ≡ 0 → ⊥) → LimitsPassBy p y x
 
--- Limits from a sender are those that the child with that number gives under the number of a message of its own. It asks for
--- nothing: by that message it is no member.
+-- Limits are those that the child with this number at the relay gives under the number of a message of its own. It asks for nothing:
+-- by that message it is no member.
 pub record CarriesLimits (lists : Lists) (p : Pricing) (numbering : Numbering) (sys : System) (c sender number : ℕ) (limits : Limits) : Type 0 where
   pub x : ℕ
   pub node : IsNode lists x
@@ -97,20 +109,24 @@ pub record CarriesExpire (lists : Lists) (p : Pricing) (numbering : Numbering) (
   pub may : MayExpire lists x number
   pub passes : (y ≡ 0 → ⊥) → LimitsPassBy p y x
 
--- Each message in a frame to relay c was sent: a Bid or Gone by the child that it names, limits by the child that gives them, a
--- price to c. Of Send and Old nothing is asked. Hello and Resume stand at the start of a life alone.
-abbrev pub RelayMayRead : Lists → Pricing → Numbering → System → ℕ → RelayFrame → Type 0
-RelayMayRead lists p numbering sys c (Child (Hello basis)) = ⊤
-RelayMayRead lists p numbering sys c (Child (Bid sender number demand)) = CarriesBid lists p numbering sys c sender number (Some demand)
-RelayMayRead lists p numbering sys c (Child (Gone sender number)) = CarriesBid lists p numbering sys c sender number None
-RelayMayRead lists p numbering sys c (Child Clear) = ⊤
-RelayMayRead lists p numbering sys c (Parent (Price own number index step)) = PriceWasSent sys c (price_message number index step)
-RelayMayRead lists p numbering sys c (Parent (Old own kept)) = ⊤
-RelayMayRead lists p numbering sys c Send = ⊤
-RelayMayRead lists p numbering sys c (Expire sender) = CarriesExpire lists p numbering c sender
+-- Each message in a frame to relay c was sent: a Bid or Gone by the child that it names, limits by the child in the place of the
+-- arguments, a price, of the relay's basis, to c. Of Send, Old and Bound nothing is asked. Hello and Resume stand at the start of a
+-- life alone.
+abbrev pub RelayMayRead : Lists → Pricing → Numbering → RelaySetup → System → ℕ → RelayFrame → Type 0
+RelayMayRead lists p numbering setup sys c (Child (Hello basis)) = ⊤
+RelayMayRead lists p numbering setup sys c (Child (Bid sender number demand)) = CarriesBid lists p numbering sys c sender number (Some demand)
+RelayMayRead lists p numbering setup sys c (Child (Gone sender number)) = CarriesBid lists p numbering sys c sender number None
+RelayMayRead lists p numbering setup sys c (Child Clear) = ⊤
+RelayMayRead lists p numbering setup sys c (Parent (Price own number index step basis)) =
+    (basis ≡ setup.basis) × PriceWasSent sys c (price_message number index step)
+RelayMayRead lists p numbering setup sys c (Parent (Old own kept)) = ⊤
+RelayMayRead lists p numbering setup sys c Send = ⊤
+RelayMayRead lists p numbering setup sys c (Expire sender) = CarriesExpire lists p numbering c sender
     (parents_number (known_number (sys.relays c).recorded (sys.relays c).gathered.cache.heads (sender - 1)))
-RelayMayRead lists p numbering sys c (NewLimits sender number limits) = CarriesLimits lists p numbering sys c sender number limits
-RelayMayRead lists p numbering sys c (Resume stored) = ⊥
+RelayMayRead lists p numbering setup sys c (given.Limits number limits) =
+    (giver : ℕ) → setup.terms.giver ≡ Some giver → CarriesLimits lists p numbering sys c giver number limits
+RelayMayRead lists p numbering setup sys c (Bound sender bound) = ⊤
+RelayMayRead lists p numbering setup sys c (Resume stored) = ⊥
 
 -- by an Expire the child with that number is let go, under the parent's next number for it; by no other frame is any
 abbrev pub LetsGo : Lists → Numbering → (y sender number d n : ℕ) → Type 0
@@ -127,6 +143,6 @@ RelayLets lists numbering sys c frame d n = ⊥
 -- ---- what an answer is
 
 -- what a relay makes of a frame: some calls of c, after which its service stands for it again
-abbrev pub RelayFollows : Lists → Pricing → Numbering → (ℕ → ℕ → Type 0) → System → (c : ℕ) → OpenRelay → List (Output StoredRelay) → Type 0
+abbrev pub RelayFollows : Lists → Pricing → Numbering → (ℕ → ℕ → Type 0) → System → (c : ℕ) → WaitingRelay → List (Output StoredRelay) → Type 0
 RelayFollows lists p numbering Lets sys c after outs =
     Follows lists p numbering Lets (λ t stored. IsKept p numbering t c stored) (λ t. RelayStands t c after) sys c outs

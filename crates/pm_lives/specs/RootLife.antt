@@ -8,7 +8,7 @@ use Rattle.pm_relay.specs.Roots.{RootValue, newest_index}
 use Rattle.pm_relay.specs.Numbers.{known_number, parents_number}
 use Rattle.pm_frames.specs.Stored.{StoredRoot}
 use Rattle.pm_frames.specs.declared.root.RootFrame.{RootFrame}
-use Rattle.pm_frames.specs.declared.root.RootFrame.TheVariants.{Market, Expire, Resume}
+use Rattle.pm_frames.specs.declared.root.RootFrame.TheVariants.{Market, Expire, Bound, Resume}
 use Rattle.pm_system.specs.System.{System}
 use Rattle.pm_lives.specs.Outputs.{Output}
 use Rattle.pm_lives.specs.Moves.{Follows}
@@ -27,6 +27,7 @@ RootMayRead lists p numbering sys (Market (Gone sender number)) = CarriesBid lis
 RootMayRead lists p numbering sys (Market Clear) = ⊤
 RootMayRead lists p numbering sys (Expire sender) =
     CarriesExpire lists p numbering 0 sender (parents_number (known_number sys.root.recorded sys.root.auction.cache.heads (sender - 1)))
+RootMayRead lists p numbering sys (Bound sender bound) = ⊤
 RootMayRead lists p numbering sys (Resume stored) = ⊥
 
 abbrev pub root_number : System → ℕ → ℕ

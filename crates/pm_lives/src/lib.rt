@@ -11,8 +11,12 @@ ghost use Rattle.pm_frames.specs.declared.relay.RelayFrame.{RelayFrame};
 ghost use Rattle.pm_frames.specs.declared.root.RootFrame.{RootFrame};
 ghost use Rattle.pm_frames.specs.declared.device.DeviceFrame.{DeviceFrame};
 ghost use Rattle.pm_relay.specs.Roots.{RootValue};
-ghost use Rattle.pm_services.specs.RelayAnswers.{OpenRelay};
-ghost use Rattle.pm_services.specs.DeviceAnswers.{open_agent_after};
+ghost use Rattle.pm_services.specs.RelayAnswers.{WaitingRelay, OpenRelay, AnswersFrame};
+ghost use Rattle.pm_services.specs.RelaySetups.{RelaySetup};
+ghost use Rattle.pm_services.specs.RootAnswers.{OpenRoot, AnswersRootFrame};
+ghost use Rattle.pm_basis.specs.Prices.{BasisValue};
+ghost use Rattle.pm_frames.specs.declared.terms.RelayTerms.{RelayTerms};
+ghost use Rattle.pm_frames.specs.declared.place.RelayPlace.{RelayPlace};
 ghost use Rattle.pm_system.specs.System.{System};
 ghost use Rattle.pm_system.specs.Calls.{NodeCall};
 ghost use Rattle.pm_system.specs.Given.{IsTreeMarket};
@@ -23,7 +27,7 @@ ghost use Rattle.pm_lives.specs.RelayWrites.{WritesRelay};
 ghost use Rattle.pm_lives.specs.RootLife.{RootMayRead, RootLets, RootFollows};
 ghost use Rattle.pm_lives.specs.RootWrites.{WritesRoot};
 ghost use Rattle.pm_lives.specs.DeviceLife.{AgentStands, DeviceMayRead, told_of, DeviceFollows};
-ghost use Rattle.pm_lives.specs.DeviceWrites.{device_outs};
+ghost use Rattle.pm_lives.specs.DeviceWrites.{device_outs, agent_after};
 ghost use Rattle.pm_system.specs.Given.{IsStarted};
 ghost use Rattle.pm_lives.specs.Lives.{World, LifeStep, Live, IsNewWorld, LivesAreCalls, LivesKeepTheLaw};
 ghost use Rattle.std.specs.Prelude.{◌≤◌, Option, true};
@@ -34,9 +38,7 @@ ghost use Rattle.pm_base.specs.Cuts.{Cut};
 ghost use Rattle.pm_base.specs.declared.limits.Limits.{Limits};
 ghost use Rattle.pm_net.specs.Agents.{Offer};
 ghost use Rattle.pm_frames.specs.Stored.{relay_resume_bytes, root_resume_bytes, agent_resume_bytes};
-ghost use Rattle.pm_services.specs.RelayAnswers.{AnswersOpen};
-ghost use Rattle.pm_services.specs.RootAnswers.{AnswersOpenRoot};
-ghost use Rattle.pm_services.specs.DeviceAnswers.{agent_reply};
+ghost use Rattle.pm_services.specs.DeviceAnswers.{OpenDevice, open_device_after, device_reply};
 ghost use Rattle.pm_lives.specs.Outputs.{outputs_bytes};
 ghost use Rattle.std.specs.Prelude.{◌+◌, ◌++◌, None};
 ghost use Rattle.pm_market.specs.Lists.{parent, IsNode};
@@ -53,6 +55,7 @@ ghost use Rattle.pm_lives.specs.Carrying.{bid_frame, limits_frame, price_frame, 
 ghost use Rattle.pm_frames.specs.Stored.{IsNewestAccepted};
 ghost use Rattle.pm_frames.specs.declared.stored.StoredAgent.{StoredAgent};
 ghost use Rattle.pm_services.specs.DeviceAnswers.{DeviceServiceValue, AnswersDevice};
+ghost use Rattle.pm_lives.specs.Answering.{IsOfBasis, IsOfOtherBasis, SaysOtherBasis};
 ghost use Rattle.pm_lives.specs.Answering.{IsNoResume, IsNoRootResume, IsNoDeviceResume, AnswersInFrames, RootAnswersInFrames};
 ghost use Rattle.std.specs.Prelude.{ℤ};
 ghost use Rattle.pm_relay.specs.Relays.{RelayValue};
@@ -80,10 +83,10 @@ use pm_system::{
 pub fn relay_frames_are_calls()
     ensures { (lists : Lists) (p : Pricing) (numbering : Numbering) (before : List NodeCall)
         (sys : System) (c : ℕ) → IsTreeMarket lists p numbering →
-        RunsTheMarket lists p numbering before sys → IsConcentrator lists c →
-        (old after : OpenRelay) (frame : RelayFrame) (outs : List (Output StoredRelay)) →
-        RelayStands sys c old → RelayMayRead lists p numbering sys c frame →
-        WritesRelay old frame after outs →
+        RunsTheMarket lists p numbering before sys → IsConcentrator lists c → (own : RelaySetup)
+        (old after : WaitingRelay) (frame : RelayFrame) (outs : List (Output StoredRelay)) →
+        RelayStands sys c old → RelayMayRead lists p numbering own sys c frame →
+        WritesRelay own old frame after outs →
         RelayFollows lists p numbering (RelayLets lists numbering sys c frame) sys c after outs }
 {
     // The calls tell facts: what runs the market goes on to, and to let a child go is two calls of the system.
@@ -95,9 +98,10 @@ pub fn relay_frames_are_calls()
 pub fn auctioneer_frames_are_calls()
     ensures { (lists : Lists) (p : Pricing) (numbering : Numbering) (before : List NodeCall)
         (sys : System) → IsTreeMarket lists p numbering →
-        RunsTheMarket lists p numbering before sys → (old after : RootValue) (frame : RootFrame)
+        RunsTheMarket lists p numbering before sys → (basis : BasisValue)
+        (old after : RootValue) (frame : RootFrame)
         (outs : List (Output StoredRoot)) → sys.root ≡ old →
-        RootMayRead lists p numbering sys frame → WritesRoot old frame after outs →
+        RootMayRead lists p numbering sys frame → WritesRoot basis old frame after outs →
         RootFollows lists p numbering (RootLets lists numbering sys frame) sys after outs }
 {
     // The call tells a fact: to let a child go is two calls of the system.
@@ -107,9 +111,10 @@ pub fn auctioneer_frames_are_calls()
 /// A law: so is what the service of a device's agent answers.
 pub fn device_frames_are_calls()
     ensures { (lists : Lists) (p : Pricing) (numbering : Numbering) (sys : System) (d : ℕ) →
-        IsLeaf lists d → (old : DeviceAgent) (frame : DeviceFrame) → AgentStands sys d old →
-        DeviceMayRead lists p sys d frame →
-        DeviceFollows lists p numbering sys d (open_agent_after old frame) (told_of old frame) (device_outs p old frame) }
+        IsLeaf lists d → (basis : BasisValue) (old : DeviceAgent) (frame : DeviceFrame) →
+        AgentStands sys d old → DeviceMayRead lists p basis sys d frame →
+        DeviceFollows lists p numbering sys d (agent_after old frame) (told_of old frame)
+        (device_outs p basis old frame) }
 {}
 
 /// A law: the lives of the nodes of a market keep its law. Each node has any number of lives, one after the other. A life is a
@@ -120,11 +125,11 @@ pub fn device_frames_are_calls()
 pub fn lives_keep_the_law()
     ensures run { (lists : Lists) (p : Pricing) (numbering : Numbering) (start : System)
         (world new : World) (steps : List LifeStep) → IsTreeMarket lists p numbering →
-        IsStarted lists p start → IsNewWorld p world → Live lists p numbering world steps new →
+        IsStarted lists p start → IsNewWorld p numbering world → Live lists p numbering world steps new →
         LivesAreCalls lists p numbering start steps new }
     ensures law { (lists : Lists) (p : Pricing) (numbering : Numbering) (start : System)
         (world new : World) (steps : List LifeStep) → IsTreeMarket lists p numbering →
-        IsStarted lists p start → IsNewWorld p world → Live lists p numbering world steps new →
+        IsStarted lists p start → IsNewWorld p numbering world → Live lists p numbering world steps new →
         LivesKeepTheLaw lists p new }
 {
     // The calls tell facts: what runs of a system are, and that to let a child go is two calls of it.
@@ -141,7 +146,7 @@ pub fn lives_keep_the_law()
 pub fn settled_lives_are_current()
     ensures current { (lists : Lists) (p : Pricing) (numbering : Numbering) (start : System)
         (world new : World) (steps : List LifeStep) → IsTreeMarket lists p numbering →
-        IsStarted lists p start → IsNewWorld p world → Live lists p numbering world steps new →
+        IsStarted lists p start → IsNewWorld p numbering world → Live lists p numbering world steps new →
         IsSettledWorld lists numbering new → IsCurrentWorld lists p numbering steps new }
     ensures flows { (lists : Lists) (p : Pricing) (numbering : Numbering) (world : World) →
         IsTreeMarket lists p numbering →
@@ -149,7 +154,7 @@ pub fn settled_lives_are_current()
         (TakeWhatWasTold lists p (numbers_counted lists numbering world.seen) world.seen) }
     ensures rising { (lists : Lists) (p : Pricing) (numbering : Numbering) (start : System)
         (world new : World) (steps : List LifeStep) (d : ℕ) → IsTreeMarket lists p numbering →
-        IsStarted lists p start → IsNewWorld p world → Live lists p numbering world steps new →
+        IsStarted lists p start → IsNewWorld p numbering world → Live lists p numbering world steps new →
         IsLeaf lists d → BeginsOnce d steps →
         AllPairs (λ (a b : Setpoint). a.index < b.index) (new.seen.setpoints d) }
 {
@@ -173,22 +178,28 @@ pub fn small_lives_settle()
 pub fn lists_are_there()
     ensures { (tree : Lists) (p : Pricing) (numbering : Numbering) → IsTreeMarket tree p numbering →
         ((x : ℕ) (cut : Cut) (l : Limits) → p.limits x cut ≡ Some l → AreLimits l) →
-        (world new : World) (steps : List LifeStep) → IsNewWorld p world →
+        (world new : World) (steps : List LifeStep) → IsNewWorld p numbering world →
         LiveFree tree p numbering world steps new → HasLists tree p numbering world steps new }
 {}
 
 /// A law: the bytes with which the services answer are the frames of which the laws over lives speak.
 pub fn answers_are_frames()
-    ensures relay { (child : ℕ) (limits : Limits) (old : OpenRelay) (frame : RelayFrame)
-        (new : Option OpenRelay) (reply : List ℕ) → IsNoResume frame →
-        AnswersOpen child limits old frame new reply → AnswersInFrames child old frame new reply }
-    ensures root { (old : RootValue) (frame : RootFrame) (new : Option RootValue)
-        (reply : List ℕ) → IsNoRootResume frame → AnswersOpenRoot old frame new reply →
+    ensures relay { (old : OpenRelay) (frame : RelayFrame) (new : OpenRelay) (reply : List ℕ) →
+        IsNoResume frame → AnswersFrame old frame new reply → AnswersInFrames old frame new reply }
+    ensures root { (old : OpenRoot) (frame : RootFrame) (new : OpenRoot) (reply : List ℕ) →
+        IsNoRootResume frame → AnswersRootFrame old frame new reply →
         RootAnswersInFrames old frame new reply }
-    ensures device { (p : Pricing) (child : ℕ) (agent : DeviceAgent) (frame : DeviceFrame) →
+    ensures device { (p : Pricing) (child : ℕ) (basis : BasisValue) (agent : DeviceAgent)
+        (frame : DeviceFrame) →
         AllByRecursion (λ (offer : Offer). offer.number ≤ agent.number) agent.offers →
-        IsNoDeviceResume frame → agent_reply child agent frame
-        ≡ outputs_bytes agent_resume_bytes child (device_outs p agent frame) }
+        IsNoDeviceResume frame → IsOfBasis basis frame →
+        (device_reply child (record { agent = agent; basis = basis }) frame
+        ≡ outputs_bytes agent_resume_bytes basis child (device_outs p basis agent frame))
+        × (open_device_after (record { agent = agent; basis = basis }) frame
+        ≡ record { agent = agent_after agent frame; basis = basis }) }
+    ensures device_other { (child : ℕ) (device : OpenDevice) (frame : DeviceFrame) →
+        IsOfOtherBasis device.basis frame → (open_device_after device frame ≡ device)
+        × SaysOtherBasis (device_reply child device frame) frame }
 {}
 
 /// A law: a frame that is carried unchanged is the message that was sent. If the bytes of a bid or a price that was sent come to
@@ -196,20 +207,21 @@ pub fn answers_are_frames()
 pub fn frames_are_carried()
     ensures relay_bids { (lists : Lists) (p : Pricing) (numbering : Numbering) (sys : System)
         (x : ℕ) → IsNode lists x → (bid : BidMessage) → BidWasSent p sys x bid → (c : ℕ) →
-        parent lists x ≡ c → LimitsPassBy p c x → (place : NodePlace) (frame : RelayFrame) (more behind : List ℕ) →
+        parent lists x ≡ c → LimitsPassBy p c x → (own : RelaySetup) (place : RelayPlace) (frame : RelayFrame)
+        (more behind : List ℕ) →
         IsRelayFormed place frame →
         IsRelayFormed place (RelayFrame.Child (bid_frame (numbering.place x + 1) bid)) →
         relay_frame_bytes frame ++ more ≡ up_bytes (numbering.place x + 1) bid ++ behind →
-        RelayMayRead lists p numbering sys c frame × (more ≡ behind) }
+        RelayMayRead lists p numbering own sys c frame × (more ≡ behind) }
     ensures relay_limits { (lists : Lists) (p : Pricing) (numbering : Numbering) (sys : System)
         (x : ℕ) → IsNode lists x → (bid : BidMessage) → BidWasSent p sys x bid → (c : ℕ) →
         parent lists x ≡ c → bid.gone ≡ true → (limits : Limits) →
-        GivesLimits p c x bid.number limits → (place : NodePlace) (frame : RelayFrame)
-        (more behind : List ℕ) → IsRelayFormed place frame →
-        IsRelayFormed place (limits_frame (numbering.place x + 1) bid limits) →
-        relay_frame_bytes frame ++ more
-        ≡ relay_frame_bytes (limits_frame (numbering.place x + 1) bid limits) ++ behind →
-        RelayMayRead lists p numbering sys c frame × (more ≡ behind) }
+        GivesLimits p c x bid.number limits → (own : RelaySetup) →
+        own.terms.giver ≡ Some (numbering.place x + 1) → (place : RelayPlace)
+        (frame : RelayFrame) (more behind : List ℕ) → IsRelayFormed place frame →
+        IsRelayFormed place (limits_frame bid limits) → relay_frame_bytes frame ++ more
+        ≡ relay_frame_bytes (limits_frame bid limits) ++ behind →
+        RelayMayRead lists p numbering own sys c frame × (more ≡ behind) }
     ensures root_bids { (lists : Lists) (p : Pricing) (numbering : Numbering) (sys : System)
         (x : ℕ) → IsNode lists x → (bid : BidMessage) → BidWasSent p sys x bid →
         parent lists x ≡ 0 → (stage : Stage) (frame : RootFrame) (more behind : List ℕ) →
@@ -218,50 +230,54 @@ pub fn frames_are_carried()
         root_frame_bytes frame ++ more ≡ up_bytes (numbering.place x + 1) bid ++ behind →
         RootMayRead lists p numbering sys frame × (more ≡ behind) }
     ensures relay_prices { (lists : Lists) (p : Pricing) (numbering : Numbering) (sys : System)
-        (x : ℕ) (price : PriceMessage) → PriceWasSent sys x price → (place : NodePlace)
-        (frame : RelayFrame) (more behind : List ℕ) → IsRelayFormed place frame →
-        IsRelayFormed place (RelayFrame.Parent (price_frame (numbering.place x + 1) price)) →
-        relay_frame_bytes frame ++ more ≡ down_bytes (numbering.place x) price ++ behind →
-        RelayMayRead lists p numbering sys x frame × (more ≡ behind) }
+        (x : ℕ) (price : PriceMessage) → PriceWasSent sys x price → (own : RelaySetup)
+        (place : RelayPlace) (frame : RelayFrame) (more behind : List ℕ) →
+        IsRelayFormed place frame → IsRelayFormed place
+        (RelayFrame.Parent (price_frame own.basis (numbering.place x + 1) price)) →
+        relay_frame_bytes frame ++ more ≡ down_bytes own.basis (numbering.place x) price ++ behind →
+        RelayMayRead lists p numbering own sys x frame × (more ≡ behind) }
     ensures device_prices { (lists : Lists) (p : Pricing) (numbering : Numbering) (sys : System)
-        (x : ℕ) (price : PriceMessage) → PriceWasSent sys x price → (place : NodePlace)
-        (frame : DeviceFrame) (more behind : List ℕ) → IsDeviceFormed place frame →
-        IsDeviceFormed place (DeviceFrame.Parent (price_frame (numbering.place x + 1) price)) →
-        device_frame_bytes frame ++ more ≡ down_bytes (numbering.place x) price ++ behind →
-        DeviceMayRead lists p sys x frame × (more ≡ behind) }
+        (x : ℕ) (price : PriceMessage) → PriceWasSent sys x price → (basis : BasisValue)
+        (place : NodePlace) (frame : DeviceFrame) (more behind : List ℕ) →
+        IsDeviceFormed place frame → IsDeviceFormed place
+        (DeviceFrame.Parent (price_frame basis (numbering.place x + 1) price)) →
+        device_frame_bytes frame ++ more ≡ down_bytes basis (numbering.place x) price ++ behind →
+        DeviceMayRead lists p basis sys x frame × (more ≡ behind) }
 {}
 
 /// A law: a service that was given Hello, and then a Resume with what is stored, is a node that comes back with what is stored; so
-/// it is where nothing is stored and it was given Hello alone. A device writes its newest bid then.
+/// it is where nothing is stored and it was given Hello alone. A relay then learns the limits that it was given last, as the frame
+/// with them would make it; a device writes its newest bid.
 pub fn lives_begin()
     ensures relay { (old : RelayServiceValue) (basis : Basis) (after : RelayServiceValue)
-        (stored : StoredRelay) → old.relay ≡ None → RelayIsGiven old basis after stored →
-        RelayIsBack old basis.steps after stored }
-    ensures root { (basis : Basis) (after : Option RootValue) (stored : StoredRoot) →
-        RootIsGiven basis after stored → RootIsBack basis.steps after stored }
+        (stored : StoredRelay) (reply : List ℕ) → old.relay ≡ None →
+        RelayIsGiven old basis after stored reply → RelayIsBack old basis after stored reply }
+    ensures root { (basis : Basis) (after : Option OpenRoot) (stored : StoredRoot) →
+        RootIsGiven basis after stored → RootIsBack basis after stored }
     ensures device { (p : Pricing) (old mid after : DeviceServiceValue) (basis : Basis)
-        (stored : StoredAgent) (reply more : List ℕ) → old.agent ≡ None →
+        (stored : StoredAgent) (reply more : List ℕ) → old.device ≡ None →
         IsNewestAccepted stored.number stored.newest →
         AnswersDevice old (DeviceFrame.Hello basis) mid reply →
         AnswersDevice mid (DeviceFrame.Resume stored) after more →
-        DeviceIsBack p old.child after stored reply more }
+        DeviceIsBack p old.child basis after stored reply more }
 {}
 
 /// A law: a worked life. A device offers, and its process is killed between the Resume and the bid; the next process begins with
 /// that Resume and sends the bid.
 pub fn a_cut_life_goes_on()
-    ensures { (lists : Lists) (p : Pricing) (numbering : Numbering) (root : RootValue)
-        (relays : ℕ → RelayValue) (limits : ℕ → Limits) (demand : List ℤ) →
-        ((c : ℕ) (l : Limits) → p.limits c no_changes ≡ Some l → limits c ≡ l) →
+    ensures { (lists : Lists) (p : Pricing) (numbering : Numbering) (basis : BasisValue)
+        (terms : ℕ → RelayTerms) (root : RootValue) (relays : ℕ → RelayValue) (demand : List ℤ) →
+        ((c : ℕ) (l : Limits) → p.limits c no_changes ≡ Some l → (terms c).limits ≡ l) →
         IsLeaf lists 1 → IsGivenOffer lists p 1 2 demand →
-        GoesOn lists p numbering (new_world root relays limits) demand }
+        GoesOn lists p numbering (new_world numbering basis terms root relays) demand }
 {}
 
 /// A law: a stream that is cut at any byte is some first frames, whole, and nothing else or a part of the next one.
 pub fn streams_are_cut_anywhere()
-    ensures relay { (child : ℕ) (outs : List (Output StoredRelay)) (m : ℕ) →
-        IsCut relay_resume_bytes child outs m }
-    ensures root { (outs : List (Output StoredRoot)) (m : ℕ) → IsCut root_resume_bytes 0 outs m }
-    ensures device { (child : ℕ) (outs : List (Output StoredAgent)) (m : ℕ) →
-        IsCut agent_resume_bytes child outs m }
+    ensures relay { (basis : BasisValue) (child : ℕ) (outs : List (Output StoredRelay)) (m : ℕ) →
+        IsCut relay_resume_bytes basis child outs m }
+    ensures root { (basis : BasisValue) (outs : List (Output StoredRoot)) (m : ℕ) →
+        IsCut root_resume_bytes basis 0 outs m }
+    ensures device { (basis : BasisValue) (child : ℕ) (outs : List (Output StoredAgent)) (m : ℕ) →
+        IsCut agent_resume_bytes basis child outs m }
 {}
