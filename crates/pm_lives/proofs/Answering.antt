@@ -38,8 +38,8 @@ use Rattle.pm_services.specs.RelaySetups.{RelaySetup}
 use Rattle.pm_services.specs.RootAnswers.{OpenRoot, stored_root, clearing_bytes, not_cleared_reply, AnswersRootBid, AnswersRootFrame}
 use Rattle.pm_services.specs.DeviceAnswers as device
 use Rattle.pm_system.specs.Calls.{bid_kept}
-use Rattle.pm_lives.specs.Outputs.{Output, Up, Keeps, Says, up_bytes, outputs_bytes}
-use Rattle.pm_lives.specs.RelayWrites.{receipt_outs, downs, own_bid, bid_outs, again_outs, drop_outs, price_outs, WritesWaiting, WritesBid, WritesLimits, WritesPrice}
+use Rattle.pm_lives.specs.Outputs.{Output, Keeps, Says, up_bytes, outputs_bytes}
+use Rattle.pm_lives.specs.RelayWrites.{receipt_outs, downs, bid_outs, again_outs, drop_outs, price_outs, WritesWaiting, WritesBid, WritesLimits, WritesPrice}
 use Rattle.pm_lives.specs.RelayWrites.{WritesSend, WritesExpire, WritesGiven, WritesRelay}
 use Rattle.pm_lives.specs.RootWrites.{clearing_outs, WritesRootBid, WritesRoot}
 use Rattle.pm_lives.specs.DeviceWrites.{made_outs, told_outs, device_outs, agent_after}

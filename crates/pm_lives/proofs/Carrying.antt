@@ -10,7 +10,6 @@ use Rattle.pm_net.specs.Messages.{BidMessage, PriceMessage}
 use Rattle.pm_net_plan.specs.Places.{Numbering}
 use Rattle.pm_wire.specs.Frames.{frame_bytes}
 use Rattle.pm_wire.specs.declared.frame.Frame.TheVariants.{Hello, Bid, Gone}
-use Rattle.pm_relay.specs.Relays.{RelayValue}
 use Rattle.pm_relay_net.specs.RelayIs.{LimitsPassBy, GivesLimits, told_demand}
 use Rattle.pm_frames.specs.Stored.{StoredRelay}
 use Rattle.pm_frames.specs.RelayFrames.{relay_frame_bytes, IsRelayFormed}
@@ -46,7 +45,7 @@ use Rattle.pm_lives.specs.Outputs.{Up, outputs_bytes, PriceWasSent, BidWasSent, 
 use Rattle.pm_lives.specs.RelayLife.{CarriesBid, CarriesLimits, RelayMayRead, nothing_stored}
 use Rattle.pm_lives.specs.RootLife.{RootMayRead}
 use Rattle.pm_lives.specs.DeviceLife.{DeviceMayRead}
-use Rattle.pm_net.specs.Agents.{DeviceAgent, new_agent}
+use Rattle.pm_net.specs.Agents.{new_agent}
 use Rattle.pm_relay.specs.Roots.{RootValue, RootComesBack}
 use Rattle.pm_frames.specs.Stored.{StoredRoot, relay_resume_bytes, agent_resume_bytes, IsNewestAccepted}
 use Rattle.pm_frames.specs.declared.stored.StoredAgent.{StoredAgent}

@@ -1,10 +1,8 @@
 -- For any lives there are lists: those in which each device offers what it offered.
 use Rattle.std.proofs.Common.{◌≡◌, ◌⊎◌, ◌∙◌, sym, ap, subst, ℕ, ℤ, zero, suc, ◌+◌, ◌-◌, ◌<◌, ◌≤◌, ◌^◌, Bool, true, false, cond, ltb, eqb, ◌&&◌, List, [], ◌∷◌, take, Option, Some, None, refl, inl, inr, arith, ◌%◌, ◌/◌, ◌*◌}
 use Rattle.std.proofs.lemmas.Bool.{cases_eq, cases_Bool, cond-true, cond-false, eq-eqb, ne_eqb, both_ways, and_parts, and_from, ltb-true}
-use Rattle.pm_base.specs.declared.limits.Limits.{Limits}
-use Rattle.pm_base.specs.Limits.{AreLimits}
 use Rattle.pm_bid.specs.Bids.{zeros}
-use Rattle.pm_market.specs.Lists.{Lists, nodes, parent, is_leaf, is_member, changes, IsNode, IsLeaf, IsConcentrator}
+use Rattle.pm_market.specs.Lists.{Lists, parent, IsLeaf}
 use Rattle.pm_market.specs.State.{update}
 use Rattle.pm_market.proofs.Cuts.{updated_same, updated_other}
 use Rattle.pm_market.proofs.Tree.{leaf_node}
@@ -15,7 +13,7 @@ use Rattle.pm_net.specs.Agents.{DeviceAgent, may_offer, after_offer, after_leavi
 use Rattle.pm_net.proofs.Messages.{either}
 use Rattle.pm_net_plan.specs.Places.{Numbering}
 use Rattle.pm_control.specs.Control.{newest_demand, agent_stored}
-use Rattle.pm_relay.specs.Numbers.{known_number, parents_number}
+use Rattle.pm_relay.specs.Numbers.{parents_number}
 use Rattle.pm_frames.specs.declared.stored.StoredAgent.{StoredAgent}
 use Rattle.pm_frames.specs.declared.parent.ParentFrame.TheVariants.{Price, Old}
 use Rattle.pm_frames.specs.declared.relay.RelayFrame.{RelayFrame}
@@ -30,14 +28,13 @@ use Rattle.pm_system.specs.System.{System, with_agent, with_bid_sent, with_price
 use Rattle.pm_system.specs.Calls.{bid_kept}
 use Rattle.pm_system.specs.Given.{IsDemand, IsTreeMarket}
 use Rattle.pm_lives.specs.Outputs.{Output, Up, Down, Keeps, Tells, Says}
-use Rattle.pm_lives.specs.RelayLife.{RelayMayRead, relay_number}
-use Rattle.pm_lives.specs.RootLife.{RootMayRead, root_number}
-use Rattle.pm_lives.specs.DeviceLife.{DeviceMayRead, IsGivenOffer, IsGivenLeaving}
+use Rattle.pm_lives.specs.RelayLife.{relay_number}
+use Rattle.pm_lives.specs.RootLife.{root_number}
 use Rattle.pm_lives.specs.DeviceWrites.{made_outs, told_outs, stored_agent, device_outs}
-use Rattle.pm_lives.specs.Lives.{World, LifeStep, RelayUp, Relay, RootUp, Root, DeviceUp, Device, HandledSome, handed_out, stored_last, restart_outs, Live, Lives1}
-use Rattle.pm_lives.specs.Lives.{let_go_by_relay, let_go_by_root, IsNewWorld}
+use Rattle.pm_lives.specs.Lives.{World, LifeStep, RelayUp, Relay, RootUp, Root, DeviceUp, Device, HandledSome, handed_out, stored_last, restart_outs}
+use Rattle.pm_lives.specs.Lives.{let_go_by_relay, let_go_by_root}
 use Rattle.pm_lives.specs.Free.{RelayIsFree, RootIsFree, DeviceIsFree, LivesFree1, LiveFree, HasLists}
-use Rattle.pm_lives.proofs.Building.{lists_of, demand_of, pricing_of, members_are, changes_are, is_market}
+use Rattle.pm_lives.proofs.Building.{lists_of}
 use Rattle.pm_lives.proofs.Handing.{handed_values}
 use Rattle.pm_lives.proofs.Giving.{price_number}
 

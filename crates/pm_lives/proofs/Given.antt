@@ -7,7 +7,7 @@ use Rattle.pm_base.specs.Cuts.{Cut}
 use Rattle.pm_base.specs.Limits.{AreLimits, IsWithin, demand_limit}
 use Rattle.pm_base.specs.declared.limits.Limits.{Limits}
 use Rattle.pm_bid.specs.Bids.{zeros}
-use Rattle.pm_market.specs.Lists.{Lists, parent, is_leaf, is_member, changes, IsNode, IsLeaf, IsConcentrator}
+use Rattle.pm_market.specs.Lists.{Lists, parent, is_leaf, is_member, IsNode, IsLeaf}
 use Rattle.pm_market.specs.State.{update}
 use Rattle.pm_market.proofs.Tree.{leaf_node}
 use Rattle.pm_net.specs.Pricing.{Pricing}
@@ -33,8 +33,8 @@ use Rattle.pm_services.specs.Receipts.{sender_place}
 use Rattle.pm_system.specs.System.{System, with_agent, with_relay, with_root}
 use Rattle.pm_system.specs.Given.{IsDemand, IsTreeMarket}
 use Rattle.pm_lives.specs.Outputs.{Output}
-use Rattle.pm_lives.specs.RelayLife.{CarriesBid, CarriesLimits, CarriesExpire, RelayMayRead, relay_number}
-use Rattle.pm_lives.specs.RootLife.{RootMayRead, root_number}
+use Rattle.pm_lives.specs.RelayLife.{CarriesBid, CarriesLimits, CarriesExpire, RelayMayRead}
+use Rattle.pm_lives.specs.RootLife.{RootMayRead}
 use Rattle.pm_lives.specs.DeviceLife.{DeviceMayRead, IsGivenOffer, IsGivenLeaving}
 use Rattle.pm_lives.specs.DeviceWrites.{device_outs}
 use Rattle.pm_lives.specs.Lives.{World, LifeStep, RelayUp, Relay, RootUp, Root, DeviceUp, Device, HandledSome, handed_out, stored_last, restart_outs, Live, Lives1}

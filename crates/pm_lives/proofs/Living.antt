@@ -40,7 +40,7 @@ use Rattle.pm_system.specs.Market.{RunsTheMarket, KeepsTheLaw}
 use Rattle.pm_system.proofs.Moving.{relay_no_leaf, relay_no_root}
 use Rattle.pm_lives.specs.Outputs.{Output, WereSent, PriceWasSent}
 use Rattle.pm_lives.specs.Moves.{OnlyMoves}
-use Rattle.pm_lives.specs.RelayLife.{UpdateWasSent, RelayStands, IsKept, nothing_stored, numbers_in_places, CarriesBid, CarriesLimits, CarriesExpire, RelayMayRead}
+use Rattle.pm_lives.specs.RelayLife.{UpdateWasSent, RelayStands, IsKept, numbers_in_places, CarriesBid, CarriesLimits, CarriesExpire, RelayMayRead}
 use Rattle.pm_lives.specs.RootLife.{IsRootKept, RootMayRead}
 use Rattle.pm_lives.specs.DeviceLife.{AgentStands, IsAgentKept, IsGivenOffer, IsGivenLeaving, DeviceMayRead}
 use Rattle.pm_lives.specs.DeviceWrites.{device_outs}

@@ -47,7 +47,7 @@ use Rattle.pm_frames.specs.declared.relay.RelayFrame.TheVariants.{Child, Parent,
 use Rattle.pm_frames.specs.declared.relay.RelayFrame.TheVariants as given
 use Rattle.pm_system.specs.Calls.{NodeCall, SystemRuns}
 use Rattle.pm_system.proofs.Moving.{relay_no_root, new_in}
-use Rattle.pm_lives.specs.Outputs.{Output, Up, Keeps, Says, PriceWasSent, WereSent, EachKept, BeginsWithResume}
+use Rattle.pm_lives.specs.Outputs.{Output, Keeps, Says, PriceWasSent, WereSent, EachKept, BeginsWithResume}
 use Rattle.pm_lives.specs.Moves.{OnlyMoves, AreCalm}
 use Rattle.pm_lives.specs.RelayWrites.{WritesBounded, WritesTold, WritesGiven, WritesKept, bid_outs}
 use Rattle.pm_lives.specs.Moves.{lets_none}

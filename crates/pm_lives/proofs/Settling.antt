@@ -1,10 +1,10 @@
 -- A settled world is current.
-use Rattle.std.proofs.Common.{◌≡◌, ◌⊎◌, ◌∙◌, sym, ap, subst, ℕ, zero, suc, ◌+◌, ◌<◌, ◌≤◌, Bool, true, false, cond, eqb, List, length, get_or, pos, refl, inl, inr, arith}
-use Rattle.std.proofs.lemmas.Bool.{cases_eq, cases_Bool, cond-true, cond-false, eq-eqb, ne_eqb, both_ways}
+use Rattle.std.proofs.Common.{◌≡◌, ◌∙◌, sym, ap, subst, ℕ, zero, suc, ◌<◌, ◌≤◌, Bool, true, false, cond, eqb, List, length, get_or, pos, refl, inl, inr, arith}
+use Rattle.std.proofs.lemmas.Bool.{cases_eq, cond-true, cond-false, eq-eqb, ne_eqb, both_ways}
 use Rattle.std.proofs.lemmas.List.{get_or_default}
 use Rattle.std.specs.List.{All, Contains}
 use Rattle.pm_bid.specs.declared.head.BidHead.{BidHead}
-use Rattle.pm_cache.specs.Cache.{child_head, kept_number}
+use Rattle.pm_cache.specs.Cache.{child_head}
 use Rattle.pm_market.specs.Lists.{Lists, parent, is_leaf, is_member, IsNode, IsLeaf, IsConcentrator}
 use Rattle.pm_market.specs.Moves as moves
 use Rattle.pm_market.proofs.Tree.{leaf_node}
@@ -23,7 +23,6 @@ use Rattle.pm_system.specs.Frames.{AreSent}
 use Rattle.pm_system.specs.Settled.{number_made, number_held, index_of_held, head_held, HasNothingToSend, HasNothingToClear}
 use Rattle.pm_system.specs.Settled.{CountsAtParent, IsReachedSystem, IsCurrentSystem, numbers_counted, HoldsNewestBid, WasTold}
 use Rattle.pm_system.proofs.Moving.{parent_relay}
-use Rattle.pm_lives.specs.Outputs.{PriceWasSent}
 use Rattle.pm_lives.specs.Lives.{World, LifeStep, BeginsOnce}
 use Rattle.pm_lives.specs.Settled.{index_above, IsSettledWorld, IsCurrentWorld}
 use Rattle.pm_lives.proofs.Living.{WorldStands}

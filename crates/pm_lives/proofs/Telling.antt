@@ -1,5 +1,5 @@
 -- Of what a device answers, each setpoint is handed out; and who was told to let a device go.
-use Rattle.std.proofs.Common.{◌≡◌, ◌⊎◌, ◌∙◌, sym, ap, subst, ℕ, zero, suc, ◌+◌, ◌-◌, ◌<◌, ◌≤◌, ◌^◌, Bool, true, false, cond, ltb, eqb, ◌&&◌, ℤ, List, [], ◌∷◌, ◌++◌, length, take, Option, Some, None, refl, inl, inr, arith, max}
+use Rattle.std.proofs.Common.{◌≡◌, ◌⊎◌, ◌∙◌, sym, ap, ℕ, zero, suc, ◌+◌, ◌-◌, ◌≤◌, ◌^◌, true, cond, ltb, eqb, ◌&&◌, List, [], ◌∷◌, length, take, Option, Some, None, refl, inl, inr, arith, max}
 use Rattle.std.proofs.lemmas.Bool.{cond-true, eq-eqb, and_from}
 use Rattle.std.specs.List.{Contains}
 use Rattle.pm_market.specs.Lists.{Lists, parent}
@@ -21,7 +21,7 @@ use Rattle.pm_frames.specs.declared.relay.RelayFrame.TheVariants as relay_frame
 use Rattle.pm_frames.specs.declared.root.RootFrame.{RootFrame}
 use Rattle.pm_frames.specs.declared.root.RootFrame.TheVariants as root_frame
 use Rattle.pm_system.specs.System.{System}
-use Rattle.pm_lives.specs.Outputs.{Output, Up, Keeps, Says}
+use Rattle.pm_lives.specs.Outputs.{Output, Up, Says}
 use Rattle.pm_lives.specs.RelayLife.{RelayLets, LetsGo, relay_number}
 use Rattle.pm_lives.specs.RootLife.{RootLets, root_number}
 use Rattle.pm_lives.specs.DeviceLife.{told_of}

@@ -1,5 +1,5 @@
 -- The worked world: each step, one by one.
-use Rattle.std.proofs.Common.{◌≡◌, ◌∙◌, sym, ap, ℕ, zero, suc, ◌+◌, ◌<◌, ◌≤◌, Bool, true, false, ℤ, pos, negsuc, List, [], ◌∷◌, length, take, replicate, Option, Some, None, refl, inl, inr, arith}
+use Rattle.std.proofs.Common.{◌≡◌, ◌∙◌, sym, ap, ℕ, zero, suc, ◌+◌, ◌<◌, ◌≤◌, true, false, ℤ, pos, negsuc, List, [], ◌∷◌, length, take, replicate, Some, None, refl, inl, inr, arith}
 use Rattle.pm_base.specs.Limits.{most_nodes}
 use Rattle.pm_base.specs.declared.limits.Limits.{Limits}
 use Rattle.pm_bid.specs.Clearing.{clearing_step}
@@ -7,22 +7,20 @@ use Rattle.pm_bid.specs.Taken.{said_between}
 use Rattle.pm_bid.specs.declared.head.BidHead.{BidHead}
 use Rattle.pm_cache.specs.Cache.{aggregate_of}
 use Rattle.pm_session.specs.Windows.{record_of}
-use Rattle.pm_market.specs.Lists.{parent, is_leaf, is_member, changes, IsNode, IsLeaf, IsConcentrator}
+use Rattle.pm_market.specs.Lists.{parent, is_leaf, is_member, changes}
 use Rattle.pm_market.specs.State.{update}
 use Rattle.pm_net_plan.specs.Places.{children_to, place_in}
 use Rattle.pm_control.specs.Control.{agent_stored}
 use Rattle.pm_relay.specs.Numbers.{head_number}
 use Rattle.pm_relay.specs.Relays.{RelayValue, with_child_bid}
-use Rattle.pm_relay.specs.Roots.{RootValue, with_root_bid, newest_index}
+use Rattle.pm_relay.specs.Roots.{RootValue, with_root_bid}
 use Rattle.pm_relay.specs.declared.outcome.PriceOutcome.TheVariants.{PassedOn}
 use Rattle.pm_relay.specs.declared.fault.SendFault.TheVariants as send_fault
 use Rattle.pm_relay.specs.declared.fault.RootFault.TheVariants as root_fault
 use Rattle.pm_wire.specs.declared.frame.Frame.TheVariants as market_frame
 use Rattle.pm_frames.specs.Stored.{StoredRelay, StoredRoot}
 use Rattle.pm_frames.specs.declared.parent.ParentFrame.TheVariants.{Price}
-use Rattle.pm_frames.specs.declared.relay.RelayFrame.{RelayFrame}
 use Rattle.pm_frames.specs.declared.relay.RelayFrame.TheVariants as relay_frame
-use Rattle.pm_frames.specs.declared.root.RootFrame.{RootFrame}
 use Rattle.pm_frames.specs.declared.root.RootFrame.TheVariants as root_frame
 use Rattle.pm_frames.specs.declared.device.DeviceFrame.{DeviceFrame}
 use Rattle.pm_frames.specs.declared.device.DeviceFrame.TheVariants as device_frame
@@ -31,20 +29,19 @@ use Rattle.pm_services.specs.RootAnswers.{stored_root}
 use Rattle.pm_frames.specs.declared.terms.RelayTerms.{RelayTerms}
 use Rattle.pm_services.specs.RelaySetups.{RelaySetup}
 use Rattle.pm_lives.specs.DeviceWrites.{agent_after}
-use Rattle.pm_lives.specs.Lives.{setup_of}
-use Rattle.pm_system.specs.System.{System, price_in_channel, with_root, with_relay, with_agent}
-use Rattle.pm_system.specs.Settled.{number_made, number_held, index_of_held, CountsAtParent, HasNothingToSend}
+use Rattle.pm_system.specs.System.{price_in_channel, with_root, with_relay, with_agent}
+use Rattle.pm_system.specs.Settled.{number_made, number_held, index_of_held, HasNothingToSend}
 use Rattle.pm_system.specs.Worked.{small_tree, small_places, small_limits, small_demand, small_pricing}
 use Rattle.pm_system.proofs.Worked.{reaches, reached, suffices, enough, noted, one_kept, relay_back, new_root, sent_relay, rebuilt_relay, cleared_root, passed_relay}
-use Rattle.pm_system.proofs.WorkedGiven.{each_node, each_leaf}
-use Rattle.pm_lives.specs.Outputs.{Output, Up, Keeps}
+use Rattle.pm_system.proofs.WorkedGiven.{each_node}
+use Rattle.pm_lives.specs.Outputs.{Output, Keeps}
 use Rattle.pm_lives.specs.RelayWrites.{bid_outs, price_outs}
 use Rattle.pm_lives.specs.RootWrites.{clearing_outs}
 use Rattle.pm_lives.specs.DeviceWrites.{device_outs}
-use Rattle.pm_lives.specs.Lives.{World, LifeStep, Lives1, Live, RelayUp, Relay, RootUp, Root, DeviceUp, Device, handed_out, stored_last, restart_outs, RelayReads, RootReads, DeviceReads, RelayBegins}
+use Rattle.pm_lives.specs.Lives.{World, Lives1, RelayUp, Relay, RootUp, Root, DeviceUp, Device, handed_out, stored_last, restart_outs}
 use Rattle.pm_lives.specs.Worked.{new_world}
 use Rattle.pm_lives.specs.Settled.{index_above, IsSettledWorld}
-use Rattle.pm_lives.specs.WorkedLives.{small_basis, bid_to_relay, small_steps, LivesSettle}
+use Rattle.pm_lives.specs.WorkedLives.{small_basis, bid_to_relay, LivesSettle}
 
 abbrev small_terms : RelayTerms
 small_terms = record { limits = small_limits; giver = None }
@@ -463,35 +460,38 @@ does_20 = record {
   may = (refl, (0, omega arith, refl));
   after = record { relay = passed_relay (w19.seen.relays 1); waiting = None };
   outs = price_outs small_setup None (passed_relay (w19.seen.relays 1)) (record { step = 0; number = 2; index = 2 }) PassedOn;
-  writes = inl (refl, record {
-    outcome = PassedOn;
-    takes = (
-      record { newer = omega arith; one = omega arith; from = omega arith; to = omega arith },
-      omega arith,
-      record {
-        passed = record {
-          window = record {
-            answered = refl;
-            records = λ other keeps. ap (λ (n : ℕ). record_of (passed_relay (w19.seen.relays 1)).gathered.window n) (one_kept other keeps.one keeps.to)
-                ∙ sym (ap (λ (n : ℕ). record_of (w19.seen.relays 1).gathered.window n) (one_kept other keeps.one keeps.to));
-            last = refl;
-            children = refl;
-            steps = refl;
+  writes = inl (
+    refl,
+    record {
+      outcome = PassedOn;
+      takes = (
+        record { newer = omega arith; one = omega arith; from = omega arith; to = omega arith },
+        omega arith,
+        record {
+          passed = record {
+            window = record {
+              answered = refl;
+              records = λ other keeps. ap (λ (n : ℕ). record_of (passed_relay (w19.seen.relays 1)).gathered.window n) (one_kept other keeps.one keeps.to)
+                  ∙ sym (ap (λ (n : ℕ). record_of (w19.seen.relays 1).gathered.window n) (one_kept other keeps.one keeps.to));
+              last = refl;
+              children = refl;
+              steps = refl;
+            };
+            cache = refl;
+            limits = refl;
+            announced = refl;
           };
-          cache = refl;
-          limits = refl;
-          announced = refl;
-        };
-        base = refl;
-        answered = refl;
-        index = refl;
-        recorded = refl;
-        made_under = refl;
-      },
-    );
-    waits = refl;
-    replied = refl;
-  });
+          base = refl;
+          answered = refl;
+          index = refl;
+          recorded = refl;
+          made_under = refl;
+        },
+      );
+      waits = refl;
+      replied = refl;
+    },
+  );
   handled = inl (omega arith);
   new_is = refl;
 }

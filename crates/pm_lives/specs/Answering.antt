@@ -1,6 +1,5 @@
 -- That the bytes with which a service answers are the frames of which the laws over lives speak.
-use Rattle.std.specs.Prelude.{◌≡◌, ℕ, List, Option, Some, ⊤, true, false}
-use Rattle.pm_relay.specs.Roots.{RootValue}
+use Rattle.std.specs.Prelude.{◌≡◌, ℕ, List, ⊤, true, false}
 use Rattle.pm_frames.specs.Stored.{StoredRelay, StoredRoot, relay_resume_bytes, root_resume_bytes}
 use Rattle.pm_frames.specs.declared.relay.RelayFrame.{RelayFrame}
 use Rattle.pm_frames.specs.declared.relay.RelayFrame.TheVariants as relay_frame

@@ -19,7 +19,7 @@ use Rattle.pm_services.specs.RootAnswers.{OpenRoot}
 use Rattle.pm_frames.specs.Stored.{StoredRelay, StoredRoot, relay_resume_bytes, agent_resume_bytes}
 use Rattle.pm_frames.specs.declared.root.RootFrame.TheVariants as root_frame
 use Rattle.pm_control.specs.Control.{agent_stored}
-use Rattle.pm_relay.specs.Roots.{RootValue, RootComesBack}
+use Rattle.pm_relay.specs.Roots.{RootComesBack}
 use Rattle.pm_services.specs.RootAnswers.{AnswersRoot}
 use Rattle.pm_lives.specs.Lives.{no_root_stored, restart_outs}
 use Rattle.pm_frames.specs.declared.stored.StoredAgent.{StoredAgent}

@@ -1,5 +1,5 @@
 -- Lives of which no lists are given: each control offers, leaves and lets go as it likes.
-use Rattle.std.specs.Prelude.{◌≡◌, ℕ, ◌+◌, ◌==◌, ℤ, true, List, [], ◌∷◌, take, Some, ⊤}
+use Rattle.std.specs.Prelude.{◌≡◌, ℕ, ◌+◌, ℤ, true, List, [], ◌∷◌, take, Some, ⊤}
 use Rattle.pm_base.specs.Cuts.{Cut}
 use Rattle.pm_market.specs.Lists.{Lists, parent, IsLeaf, IsConcentrator}
 use Rattle.pm_market.specs.State.{update}

@@ -1,5 +1,5 @@
 -- A world in which everything that was handed out was taken and nothing new can be sent, and what is current then.
-use Rattle.std.specs.Prelude.{◌≡◌, ◌⊎◌, ℕ, ◌<◌, ◌≤◌, ◌==◌, if◌then◌else◌, true, false, List, length}
+use Rattle.std.specs.Prelude.{◌≡◌, ◌⊎◌, ℕ, ◌<◌, ◌≤◌, ◌==◌, if◌then◌else◌, true, List, length}
 use Rattle.pm_market.specs.Lists.{Lists, parent, is_member, IsNode, IsLeaf, IsConcentrator}
 use Rattle.pm_net.specs.Pricing.{Pricing}
 use Rattle.pm_net_plan.specs.Places.{Numbering}

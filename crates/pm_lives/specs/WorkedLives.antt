@@ -1,7 +1,7 @@
 -- A worked world that settles: the worked system, as lives.
 use Rattle.std.specs.Prelude.{◌≡◌, ℕ, List, [], ◌∷◌}
 use Rattle.pm_basis.specs.Prices.{BasisValue}
-use Rattle.std.specs.Prelude.{Some, ℤ, negsuc, pos}
+use Rattle.std.specs.Prelude.{negsuc, pos}
 use Rattle.pm_wire.specs.declared.frame.Frame.TheVariants as market_frame
 use Rattle.pm_frames.specs.declared.parent.ParentFrame.TheVariants.{Price}
 use Rattle.pm_frames.specs.declared.relay.RelayFrame.TheVariants as relay_frame
