@@ -1,7 +1,7 @@
 """The frames of docs/RELAY.md, to and from bytes.
 
-Powers and demands are whole watts, prices are price units, and children count from 1. A `Splitter` cuts a stream of bytes into
-frames. `frame_of` reads bytes that are one frame. Which kinds may come is told by the frames that a node reads or writes:
+Powers and demands are whole watts, prices are price units, and children count from 1. The last fields `least`, `greatest` and
+`steps` of a frame are the basis of its market. A `Splitter` cuts a stream of bytes into frames. `frame_of` reads bytes that are one frame. Which kinds may come is told by the frames that a node reads or writes:
 `READS` and `WRITES` have them by the sort of the node.
 """
 
@@ -12,6 +12,7 @@ from collections.abc import Callable, Iterator
 from dataclasses import dataclass
 from typing import ClassVar, Literal
 
+from ..cluster import Basis
 from .errors import BadFrame
 
 Sort = Literal["relay", "auctioneer", "device"]
@@ -21,6 +22,8 @@ SORTS: tuple[Sort, ...] = ("auctioneer", "relay", "device")
 CHILDREN, MOST, LAST_NUMBER = 256, 1_000_000_000, 4_294_967_295
 # The formats of fields: a list of demands has one for each step, and a list of numbers one for each child.
 DEMANDS, NUMBERS = "demands", "numbers"
+# The format of the basis: the least price, the greatest price and the number of steps.
+BASIS = "iiH"
 
 
 @dataclass(frozen=True)
@@ -58,11 +61,37 @@ def require_demands(demands: tuple[int, ...], steps: int) -> None:
         raise BadFrame("a demand is above the one of the step before")
 
 
-def _require_child(child: int, number: int) -> None:
+def is_basis(basis: Basis) -> bool:
+    """Whether Hello takes this basis: 2 to 1000 steps from one whole price to a greater one, with whole prices between."""
+    is_range = 2 <= basis.steps <= 1_000 and -MOST <= basis.min < basis.max <= MOST
+    return is_range and (basis.max - basis.min) % (basis.steps - 1) == 0
+
+
+def are_limits(floor: int, ceiling: int) -> bool:
+    """Whether a relay may have these limits in watts. A child may be bound by them too."""
+    return -MOST <= floor <= 0 <= ceiling <= MOST
+
+
+def _require_child(child: int, number: int = 1) -> None:
     if not 1 <= child <= CHILDREN:
         raise BadFrame(f"the child is {child}, and not 1 to {CHILDREN}")
     if number < 1:
         raise BadFrame("the number is 0")
+
+
+def _require_even(number: int) -> None:
+    if number < 1 or number % 2:
+        raise BadFrame(f"the number is {number}, and not 2, 4, 6, ..")
+
+
+def _require_limits(floor: int, ceiling: int) -> None:
+    if not are_limits(floor, ceiling):
+        raise BadFrame(f"{floor} to {ceiling} watts are no limits: they are -{MOST} to 0 and 0 to {MOST}")
+
+
+def _require_basis(basis: Basis) -> None:
+    if not is_basis(basis):
+        raise BadFrame(f"{basis} is no basis")
 
 
 @dataclass(frozen=True)
@@ -116,20 +145,29 @@ class Clear(Frame):
 
 @dataclass(frozen=True)
 class Price(Frame):
-    """The clearing of this index answers the child's bid of this number by this step."""
+    """The clearing of this index answers the child's bid of this number by this step, of a market of this basis."""
 
-    KIND = 5
-    FIELDS = "HIIH"
+    KIND = 23
+    FIELDS = f"HIIH{BASIS}"
     child: int
     number: int
     index: int
     step: int
+    least: int
+    greatest: int
+    steps: int
+
+    @property
+    def basis(self) -> Basis:
+        """The basis of the market that cleared. A child of another basis does not take the price."""
+        return Basis(self.least, self.greatest, self.steps)
 
     def require_right(self, steps: int) -> None:
         """Raises BadFrame if no child takes it."""
         _require_child(self.child, self.number)
-        if self.step >= steps:
-            raise BadFrame(f"the step is {self.step}, and there are {steps}, from 0 on")
+        _require_basis(self.basis)
+        if self.step >= self.steps:
+            raise BadFrame(f"the step is {self.step}, and there are {self.steps}, from 0 on")
 
 
 @dataclass(frozen=True)
@@ -141,12 +179,16 @@ class NotChanged(Frame):
 
 @dataclass(frozen=True)
 class Old(Frame):
-    """A bid's number was not above the one that is kept of the child."""
+    """A bid's number was not above the one that is kept of the child. An odd one above it says that the device was let go."""
 
     KIND = 7
     FIELDS = "HI"
     child: int
     kept: int
+
+    def require_right(self, steps: int) -> None:
+        """Raises BadFrame if no child takes it."""
+        _require_child(self.child)
 
 
 @dataclass(frozen=True)
@@ -215,16 +257,6 @@ class Setpoint(Frame):
 
 
 @dataclass(frozen=True)
-class ResumeGone(Frame):
-    """What a device's agent without an offer comes back with: its last number, and the index of the price that it took."""
-
-    KIND = 16
-    FIELDS = "II"
-    last: int
-    index: int
-
-
-@dataclass(frozen=True)
 class NotCaughtUp(Frame):
     """Some child was not heard again since the restart."""
 
@@ -239,27 +271,145 @@ class OutOfNumbers(Frame):
 
 
 @dataclass(frozen=True)
-class RelayResume(Frame):
-    """What a relay comes back with: its last number, the number that its price answers, the index of that price, and for each of
-    256 children the number in its last bid."""
+class Expire(Frame):
+    """A parent lets this child, a device, go: it counts as gone under the odd number behind its newest bid."""
 
-    KIND = 12
-    FIELDS = "III"
+    KIND = 19
+    FIELDS = "H"
+    child: int
+
+    def require_right(self, steps: int) -> None:
+        """Raises BadFrame if no parent takes it."""
+        _require_child(self.child)
+
+
+@dataclass(frozen=True)
+class Limits(Frame):
+    """The relay's limits in watts from its next bid on, under a number of their own count: 2, 4, 6, .."""
+
+    KIND = 20
+    FIELDS = "Iii"
+    number: int
+    floor: int
+    ceiling: int
+
+    def require_right(self, steps: int) -> None:
+        """Raises BadFrame if no relay takes them."""
+        _require_even(self.number)
+        _require_limits(self.floor, self.ceiling)
+
+
+@dataclass(frozen=True)
+class Bound(Frame):
+    """The least and the greatest demand in watts that a bid of this child may have."""
+
+    KIND = 21
+    FIELDS = "Hii"
+    child: int
+    least: int
+    greatest: int
+
+    def require_right(self, steps: int) -> None:
+        """Raises BadFrame if no parent takes it."""
+        _require_child(self.child)
+        _require_limits(self.least, self.greatest)
+
+
+@dataclass(frozen=True)
+class TooMuch(Frame):
+    """The bid of this number is outside the child's bound, and does not count."""
+
+    KIND = 22
+    FIELDS = "HI"
+    child: int
+    number: int
+
+
+@dataclass(frozen=True)
+class OtherBasis(Frame):
+    """The price of this number and index is of another basis, and was not taken."""
+
+    KIND = 24
+    FIELDS = "II"
+    number: int
+    index: int
+
+
+@dataclass(frozen=True)
+class OutOfLimits(Frame):
+    """No step of the sum that was bid under this number is within the relay's limits."""
+
+    KIND = 27
+    FIELDS = "I"
+    number: int
+
+
+class Resumed(Frame):
+    """What a Resume of each sort has: its basis."""
+
+    least: int
+    greatest: int
+    steps: int
+
+    @property
+    def basis(self) -> Basis:
+        """The basis that the node's numbers are of."""
+        return Basis(self.least, self.greatest, self.steps)
+
+
+@dataclass(frozen=True)
+class RelayResume(Resumed):
+    """What a relay comes back with.
+
+    last:     its last number, `answered` the one that its price answers, and `index` the index of that price
+    lowest:   the floor and `highest` the ceiling of its arguments in watts, and `giver` the place in which limits are given, 0 without
+    floor:    the floor and `ceiling` the ceiling of its newest bid, in watts
+    numbers:  for each of 256 children the number in its last bid
+    """
+
+    KIND = 25
+    FIELDS = f"III{BASIS}iiHii"
     LIST = NUMBERS
     last: int
     answered: int
     index: int
+    least: int
+    greatest: int
+    steps: int
+    lowest: int
+    highest: int
+    giver: int
+    floor: int
+    ceiling: int
     numbers: tuple[int, ...]
+
+    @property
+    def terms(self) -> tuple[int, int, int]:
+        """FLOOR, CEILING and GIVER of the arguments that it is of, 0 without GIVER."""
+        return self.lowest, self.highest, self.giver
+
+    def require_right(self, steps: int) -> None:
+        """Raises BadFrame if no relay takes it."""
+        _require_basis(self.basis)
+        _require_limits(self.lowest, self.highest)
+        _require_limits(self.floor, self.ceiling)
+        if self.answered > self.last:
+            raise BadFrame(f"the number answered, {self.answered}, is above the last, {self.last}")
+        if self.giver > CHILDREN:
+            raise BadFrame(f"the place of limits is {self.giver}, and not 1 to {CHILDREN}, or 0 without one")
 
 
 @dataclass(frozen=True)
-class AuctioneerResume(Frame):
+class AuctioneerResume(Resumed):
     """What the auctioneer comes back with: the index of its last clearing, and for each of 256 children the number in it."""
 
-    KIND = 12
-    FIELDS = "I"
+    KIND = 25
+    FIELDS = f"I{BASIS}"
     LIST = NUMBERS
     index: int
+    least: int
+    greatest: int
+    steps: int
     numbers: tuple[int, ...]
 
     @property
@@ -267,17 +417,49 @@ class AuctioneerResume(Frame):
         """The number that rises with each clearing, as `last` of a relay does with each bid."""
         return self.index
 
+    def require_right(self, steps: int) -> None:
+        """Raises BadFrame if no auctioneer takes it."""
+        _require_basis(self.basis)
+
 
 @dataclass(frozen=True)
-class DeviceResume(Frame):
+class DeviceResume(Resumed):
     """What a device's agent comes back with: its last number, the index of the price that it took, and its last offer in watts."""
 
-    KIND = 12
-    FIELDS = "II"
+    KIND = 25
+    FIELDS = f"II{BASIS}"
     LIST = DEMANDS
     last: int
     index: int
+    least: int
+    greatest: int
+    steps: int
     demands: tuple[int, ...]
+
+    def require_right(self, steps: int) -> None:
+        """Raises BadFrame if no agent takes it."""
+        _require_even(self.last)
+        _require_basis(self.basis)
+        require_demands(self.demands, steps)
+
+
+@dataclass(frozen=True)
+class ResumeGone(Resumed):
+    """What a device's agent without an offer comes back with: its last number, and the index of the price that it took."""
+
+    KIND = 26
+    FIELDS = f"II{BASIS}"
+    last: int
+    index: int
+    least: int
+    greatest: int
+    steps: int
+
+    def require_right(self, steps: int) -> None:
+        """Raises BadFrame if no agent takes it."""
+        if self.last:
+            _require_even(self.last)
+        _require_basis(self.basis)
 
 
 Resume = RelayResume | AuctioneerResume | DeviceResume | ResumeGone
@@ -291,14 +473,15 @@ def _by_kind(*kinds: type[Frame]) -> Kinds:
 
 # The frames that a node of each sort reads, those that it writes, and those that it keeps for its restart, by their kinds.
 READS: dict[Sort, Kinds] = {
-    "relay": _by_kind(Hello, RelayResume, Bid, Gone, Send, Price, Old),
-    "auctioneer": _by_kind(Hello, AuctioneerResume, Bid, Gone, Clear),
+    "relay": _by_kind(Hello, RelayResume, Bound, Limits, Bid, Gone, Expire, Send, Price, Old),
+    "auctioneer": _by_kind(Hello, AuctioneerResume, Bound, Bid, Gone, Expire, Clear),
     "device": _by_kind(Hello, DeviceResume, ResumeGone, Offer, Leave, Price, Old),
 }
+_ANSWERS = (Price, Old, TooMuch, NotChanged, NotCaughtUp, OutOfNumbers, Fault)
 WRITES: dict[Sort, Kinds] = {
-    "relay": _by_kind(Bid, Price, Old, NotChanged, WindowFull, Dropped, NotCaughtUp, OutOfNumbers, RelayResume, Fault),
-    "auctioneer": _by_kind(Price, Old, NotChanged, NotCaughtUp, OutOfNumbers, AuctioneerResume, Fault),
-    "device": _by_kind(Bid, Gone, Setpoint, WindowFull, Dropped, OutOfNumbers, DeviceResume, ResumeGone, Fault),
+    "relay": _by_kind(Bid, WindowFull, Dropped, OtherBasis, OutOfLimits, RelayResume, *_ANSWERS),
+    "auctioneer": _by_kind(AuctioneerResume, *_ANSWERS),
+    "device": _by_kind(Bid, Gone, Setpoint, WindowFull, Dropped, OtherBasis, OutOfNumbers, DeviceResume, ResumeGone, Fault),
 }
 RESUMES: dict[Sort, Kinds] = {
     "relay": _by_kind(RelayResume),
@@ -306,7 +489,9 @@ RESUMES: dict[Sort, Kinds] = {
     "device": _by_kind(DeviceResume, ResumeGone),
 }
 # What a parent hears of a child, and a child of its parent.
-BIDS, PRICES = _by_kind(Bid, Gone), _by_kind(Price)
+BIDS, PRICES = _by_kind(Bid, Gone), _by_kind(Price, Old)
+# The kinds of the first form that no node reads any more: Price, Resume and ResumeGone.
+FIRST_FORM = (5, 12, 16)
 
 
 def _length(kind: type[Frame], steps: int) -> int:
@@ -331,8 +516,12 @@ def _made(kind: type[Frame], data: bytes, steps: int) -> Frame:
 def frame_of(data: bytes, kinds: Kinds, steps: int) -> Frame:
     """The right frame that these bytes are, one of these kinds. Raises BadFrame."""
     kind = kinds.get(data[0]) if data else None
+    if not data:
+        raise BadFrame("it is empty")
+    if data[0] in FIRST_FORM and kind is None:
+        raise BadFrame("it is a frame of the first form: install this version at the node that wrote it")
     if kind is None:
-        raise BadFrame(f"it begins with the byte {data[0]}, which is no kind that may come here" if data else "it is empty")
+        raise BadFrame(f"it begins with the byte {data[0]}, which is no kind that may come here")
     if len(data) != size_of(kind, steps):
         raise BadFrame(f"a {kind.__name__} has {size_of(kind, steps)} bytes in a market of {steps} steps, and not {len(data)}")
     frame = _made(kind, data, steps)
