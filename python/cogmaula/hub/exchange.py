@@ -54,10 +54,11 @@ class Exchange:
     def join(self, link: ExchangeLink, topics: Sequence[str]) -> None:
         """Lets a link read these topics, and hands it what is retained of them."""
         with self._lock:
-            for topic in topics:
+            fresh = [it for it in topics if link not in self._readers.get(it, [])]
+            for topic in fresh:
                 self._readers.setdefault(topic, []).append(link)
             for topic, message in self._retained.items():
-                if link in self._readers_of(topic):
+                if topic in fresh or f"{topic.rpartition('/')[0]}/+" in fresh:
                     link.put(Message(topic, message.payload, message.properties, retained=True))
 
     def leave(self, link: ExchangeLink) -> None:
@@ -108,6 +109,10 @@ class ExchangeLink:
         self._exchange.publish(marker())
         self._settled = True
         self._notify(Settled())
+
+    def also_read(self, topic: str) -> None:
+        """See Link."""
+        self._exchange.join(self, [topic])
 
     @property
     def is_settled(self) -> bool:

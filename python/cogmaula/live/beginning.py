@@ -7,9 +7,9 @@ from dataclasses import dataclass, replace
 
 from .broker import Message
 from .children import SESSION, TIME
-from .errors import BadFrame, BadMessage, NodeRefused
-from .frames import BIDS, RESUMES, AuctioneerResume, Bid, DeviceResume, Gone, RelayResume, Resume, ResumeGone, frame_of
-from .messages import BasisMessage, StateMessage, is_setpoint
+from .errors import BadFrame, BadMessage, NodeRefused, OtherTerms
+from .frames import BIDS, FIRST_FORM, RESUMES, AuctioneerResume, Bid, DeviceResume, Gone, RelayResume, Resume, ResumeGone, frame_of
+from .messages import VERSION, BasisMessage, StateMessage, is_setpoint
 from .sessions import Session, new_session, now_text
 from .settings import Settings
 from .store import Store, Stored
@@ -53,12 +53,19 @@ class Beginning:
         newest = max(sessions, key=lambda it: it.order, default=None)
         if self.settings.new_session or newest is None:
             return self._new(newest)
+        if VERSION not in [it.version for it in (stored, told) if it is not None and it.session == newest]:
+            raise OtherTerms(
+                f"session {newest.id} is of the first form of this market: stop all nodes, install this version, and begin a new session "
+                "by --new-session"
+            )
         if stored is not None and stored.session != newest:
             raise NodeRefused(
                 f"the market is in session {newest.id}, which another auctioneer began later than {stored.session.id} of "
                 f"{self.store.folder}: end the other one, or begin a new session by --new-session"
             )
         found = self._newer(newest, stored)
+        if found is not None:
+            self._require_terms(found)
         if found is None:
             self.say(f"no Resume of session {newest.id} is on disk or at the broker: a new session begins")
             return self._new(newest)
@@ -75,6 +82,12 @@ class Beginning:
             topic = self.settings.topics.basis
             self.say(f"waits for the basis at {topic}: is the auctioneer up, and may this node read that topic?")
             return None
+        if told.version != VERSION:
+            self.say(
+                f"waits: session {told.session.id} is of version {told.version}, and this node of {VERSION}. Install this version at the "
+                "auctioneer, and begin a new session there by --new-session"
+            )
+            return None
         self.require_basis(told)
         newest = self.store.newest()
         if newest is not None and newest.session.order > told.session.order:
@@ -86,17 +99,36 @@ class Beginning:
             found = Stored(told.session, told.basis, b"", now_text())
         if found.basis != told.basis:
             raise NodeRefused(f"{self.store.path(told.session)} is of another basis, {found.basis}: bring back that of this market")
-        self._require_limits(found)
+        self._require_terms(found)
         return found
 
-    def _require_limits(self, found: Stored) -> None:
-        """Raises NodeRefused if a relay has bid in this session within other limits: it would send that bid again within its own."""
-        if found.limits is not None and found.limits != self.settings.limits:
-            before, now = (f"{floor} to {ceiling} watts" for floor, ceiling in (found.limits, self.settings.limits or (0, 0)))
-            raise NodeRefused(
-                f"the limits are {now}, and in session {found.session.id} they were {before}: bring them back, or begin a new session at "
-                "the auctioneer"
+    def _require_terms(self, found: Stored) -> None:
+        """Raises OtherTerms if a Resume was made under other terms than the node's: its service would refuse it."""
+        session, settings = found.session.id, self.settings
+        if found.version != VERSION:
+            raise self._first_form(str(self.store.path(found.session)), found.session)
+        try:
+            resume = resume_of(settings, found.frame)
+        except BadFrame as error:
+            raise NodeRefused(f"{self.store.path(found.session)} has no Resume of this node: {error}") from None
+        if resume is None:
+            return
+        if resume.basis != settings.basis:
+            raise OtherTerms(
+                f"the basis is {settings.basis}, and the Resume of session {session} is of {resume.basis}: bring that back, or begin a new "
+                "session at the auctioneer by --new-session"
             )
+        if isinstance(resume, RelayResume) and resume.terms != settings.terms:
+            raise OtherTerms(
+                f"the limits are {_words_of(settings.terms)}, and in session {session} they were {_words_of(resume.terms)}: bring them "
+                "back, or begin a new session at the auctioneer by --new-session"
+            )
+
+    def _first_form(self, where: str, session: Session) -> OtherTerms:
+        return OtherTerms(
+            f"{where} has a Resume of the first form, in session {session.id}: give the node another child number, or begin a new session at "
+            "the auctioneer by --new-session"
+        )
 
     def require_basis(self, told: BasisMessage) -> None:
         """Raises NodeRefused if the market's basis is not the node's."""
@@ -145,6 +177,8 @@ class Beginning:
         message = self.seen.get(topic)
         if message is None or not message.payload or message.properties.get(SESSION) != session.id:
             return None
+        if message.payload[0] in FIRST_FORM:
+            raise self._first_form(topic, session)
         try:
             resume = resume_of(self.settings, message.payload)
         except BadFrame as error:
@@ -158,6 +192,8 @@ class Beginning:
         if found is None:
             return stored
         message, resume = found
+        if stored is not None and stored.version != VERSION:
+            return stored
         try:
             before = None if stored is None else resume_of(replace(self.settings, basis=stored.basis), stored.frame)
         except BadFrame as error:
@@ -167,7 +203,11 @@ class Beginning:
         self.say(f"goes on from the broker's Resume with number {resume.last}, which is newer than the one on disk")
         setpoint = self._setpoint(session) if isinstance(resume, DeviceResume) else ""
         time = message.properties.get(TIME, now_text())
-        return Stored(session, self.settings.basis, message.payload, time, setpoint, limits=None if stored is None else stored.limits)
+        # Who is a relay is told with the Resume. What the disk has of children that were let go, and of limits, is not older than it.
+        relays = tuple(int(it) for it in message.properties.get("relays", "").split() if it.isdecimal())
+        known = Stored(session, self.settings.basis, b"", time) if stored is None else stored
+        all_relays = tuple(sorted({*relays, *known.relays}))
+        return replace(known, basis=self.settings.basis, frame=message.payload, time=time, setpoint=setpoint, relays=all_relays)
 
     def _setpoint(self, session: Session) -> str:
         """The setpoint of this session that the broker retains, "" without one."""
@@ -199,3 +239,8 @@ class Beginning:
                 "disk and not at the broker: bring it back, give the node another child number, or begin a new session at the auctioneer"
             )
 
+
+def _words_of(terms: tuple[int, int, int]) -> str:
+    """FLOOR, CEILING and GIVER of a relay, in words."""
+    floor, ceiling, giver = terms
+    return f"{floor} to {ceiling} watts" + (f", which may change by child {giver}" if giver else "")

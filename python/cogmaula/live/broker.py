@@ -88,6 +88,9 @@ class Link(Protocol):
                  at least up to the first message that comes back, which shows that the node may write them
         """
 
+    def also_read(self, topic: str) -> None:
+        """Reads one more topic from now on, on each connection."""
+
     @property
     def is_settled(self) -> bool:
         """Whether a connection is there, and all that the broker retains has come."""
@@ -164,8 +167,16 @@ class Broker:
         """See Link."""
         self._topics, self._will, self._marker = [*topics, *written], will, marker
         self._written = list(written)
+        self._asked: dict[tuple[object, int], list[str]] = {}
         self._thread = threading.Thread(target=self._run, daemon=True)
         self._thread.start()
+
+    def also_read(self, topic: str) -> None:
+        """See Link."""
+        if topic not in self._topics:
+            self._topics = [*self._topics, topic]
+            if self._settled is not None:
+                self._subscribe(self._settled, [topic])
 
     @property
     def is_settled(self) -> bool:
@@ -322,7 +333,7 @@ class Broker:
         client = new_client(self.settings, self._client_id, ended, words)
         client.will_set(self._will.topic, self._will.payload, 1, True)
         client.on_connect = lambda it, _data, _flags, code, _more: self._on_connect(it, code, words)
-        client.on_subscribe = lambda _it, _data, _mid, codes, _more: self._on_subscribe(codes)
+        client.on_subscribe = lambda it, _data, mid, codes, _more: self._on_subscribe(it, mid, codes)
         client.on_message = lambda it, _data, message: self._on_message(it, message)
         client.on_publish = lambda it, _data, mid: self._on_publish(it, mid)
         client.on_disconnect = lambda _it, _data, code, _more: self._on_disconnect(code, ended, words)
@@ -334,12 +345,19 @@ class Broker:
             return
         self._marked_at = time.monotonic()
         self._client = client
-        options = self._mqtt.SubscribeOptions(qos=1)
-        client.subscribe([(it, options) for it in self._topics])
+        self._subscribe(client, self._topics)
         self._mark(client)
 
-    def _on_subscribe(self, codes: Any) -> None:
-        for topic, code in zip(self._topics, codes, strict=False):
+    def _subscribe(self, client: Any, topics: list[str]) -> None:
+        options = self._mqtt.SubscribeOptions(qos=1)
+        _, mid = client.subscribe([(it, options) for it in topics])
+        with self._lock:
+            self._asked[client, mid] = topics
+
+    def _on_subscribe(self, client: Any, mid: int, codes: Any) -> None:
+        with self._lock:
+            topics = self._asked.pop((client, mid), [])
+        for topic, code in zip(topics, codes, strict=False):
             if code.value >= REFUSED:
                 self._say(f"{self.settings.address} does not let {self.settings.user or 'this node'} read {topic} ({code})")
 

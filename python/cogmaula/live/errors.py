@@ -27,3 +27,7 @@ class BadStore(LiveError):
 
 class NodeRefused(LiveError):
     """The node must not go on until a person has looked: another basis, another process of its name, a lost Resume."""
+
+
+class OtherTerms(NodeRefused):
+    """The stored Resume is of other limits, another place of limits or another basis than the node's settings, or of the first form."""

@@ -3,13 +3,17 @@
 from __future__ import annotations
 
 import json
-from dataclasses import dataclass
+from dataclasses import dataclass, field
 from typing import Any, Literal
 
 from ..cluster import Basis
-from .errors import BadFrame, BadMessage
+from .errors import BadFrame, BadMessage, BadSettings
 from .frames import CHILDREN, SORTS, Leave, Offer, Setpoint, Sort
 from .sessions import Session, time_of
+from .times import Times
+
+# The form of all messages and frames. Nodes of another version do not take part.
+VERSION = 2
 
 # The greatest reference: each reader of JSON takes whole numbers up to it exactly.
 LAST_REFERENCE = 9_007_199_254_740_991
@@ -44,25 +48,51 @@ def _whole_or_none(told: dict[str, Any], name: str, what: str) -> int | None:
     return None if told.get(name) is None else _whole(told, name, what)
 
 
+def _seconds(told: dict[str, Any], name: str, what: str) -> float:
+    value = told.get(name)
+    if type(value) not in (int, float):
+        raise BadMessage(f"{what} has no number of seconds {name}")
+    return float(told[name])
+
+
 @dataclass(frozen=True)
 class BasisMessage:
-    """What the auctioneer publishes once: the basis in price units, and the session."""
+    """What the auctioneer publishes: the basis in price units, the session, the times of the market, and the version of its form."""
 
     basis: Basis
     session: Session
+    times: Times = field(default_factory=Times)
+    version: int = VERSION
 
     def to_bytes(self) -> bytes:
         """The message."""
         told = {"min": self.basis.min, "max": self.basis.max, "steps": self.basis.steps}
-        return json.dumps({**told, "session": self.session.id, "begun": self.session.begun}).encode()
+        return json.dumps(
+            {**told, "session": self.session.id, "begun": self.session.begun, **vars(self.times), "version": self.version}
+        ).encode()
 
     @staticmethod
     def of(data: bytes) -> BasisMessage:
         """The basis that a message tells. Raises BadMessage."""
         what = "the basis"
         told = object_of(data, what)
-        numbers = [_whole(told, it, what) for it in ("min", "max", "steps")]
-        return BasisMessage(Basis(*numbers), Session(_text(told, "session", what), _text(told, "begun", what)))
+        basis = Basis(*(_whole(told, it, what) for it in ("min", "max", "steps")))
+        session = Session(_text(told, "session", what), _text(told, "begun", what))
+        version = version_of(told)
+        if version != VERSION:
+            # The first form has no times.
+            return BasisMessage(basis, session, version=version)
+        try:
+            times = Times(*(_seconds(told, it, what) for it in ("validity", "heartbeat", "grace")))
+        except BadSettings as error:
+            raise BadMessage(f"{what} has other times: {error}") from None
+        return BasisMessage(basis, session, times)
+
+
+def version_of(told: dict[str, Any]) -> int:
+    """The version of a message. The first form does not tell one."""
+    version = told.get("version", 1)
+    return version if type(version) is int else 1
 
 
 @dataclass(frozen=True)
@@ -76,7 +106,10 @@ class StateMessage:
     why:     in words, "" if there is nothing to say
     sort:    what the node is; None of a node of an earlier version, which tells nothing of what follows either
     parent:  the name of the node above, and `child` the own number there; None of the auctioneer
-    floor:   the least power that a relay announces, in watts, and `ceiling` the greatest; None without a limit
+    floor:   the least power that a relay announces now, in watts, and `ceiling` the greatest; None without a limit
+    alarm:   in words, what is wrong with a relay's limits, "" if there is nothing
+    silent:  since when the node hears no heartbeat (RFC 3339), None if it does
+    version: of the form of what the node writes
     """
 
     state: Literal["up", "down"]
@@ -90,6 +123,9 @@ class StateMessage:
     child: int | None = None
     floor: int | None = None
     ceiling: int | None = None
+    alarm: str = ""
+    silent: str | None = None
+    version: int = VERSION
 
     def to_bytes(self) -> bytes:
         """The message."""
@@ -112,7 +148,10 @@ class StateMessage:
         child, floor, ceiling = (_whole_or_none(told, it, what) for it in ("child", "floor", "ceiling"))
         if child is not None and not 1 <= child <= CHILDREN:
             raise BadMessage(f"the state has the child {child}, and not 1 to {CHILDREN}")
-        return StateMessage(told["state"], run, started, session, time, why, sort, parent, child, floor, ceiling)
+        alarm = _text(told, "alarm", what) if "alarm" in told else ""
+        silent = None if told.get("silent") is None else _text(told, "silent", what)
+        more = (sort, parent, child, floor, ceiling, alarm, silent, version_of(told))
+        return StateMessage(told["state"], run, started, session, time, why, *more)
 
 
 @dataclass(frozen=True)
@@ -171,6 +210,7 @@ class SetpointMessage:
     step:     the step of the clearing at the device, and `price` its price in price units
     bid:      the number of the offer that the power is of
     clearing: the index of the clearing, and `time` when that was (RFC 3339), "" if that was not told
+    until:    until when it holds (RFC 3339), None if that was not told
     """
 
     power: int
@@ -179,6 +219,7 @@ class SetpointMessage:
     bid: int
     clearing: int
     time: str
+    until: str | None = None
 
     @staticmethod
     def of(data: bytes) -> SetpointMessage:
@@ -186,20 +227,54 @@ class SetpointMessage:
         what = "the setpoint"
         told = object_of(data, what)
         power, step, price, bid, clearing = (_whole(told, it, what) for it in ("power", "step", "price", "bid", "clearing"))
-        return SetpointMessage(power, step, price, bid, clearing, _text(told, "time", what))
+        until = None if told.get("until") is None else _text(told, "until", what)
+        return SetpointMessage(power, step, price, bid, clearing, _text(told, "time", what), until)
+
+
+@dataclass(frozen=True)
+class SilentMessage:
+    """What a device's control is told in place of a setpoint while the market is silent.
+
+    since: when the newest heartbeat was (RFC 3339), or when the device was let go
+    power: the fallback in watts
+    why:   in words
+    """
+
+    since: str
+    power: int
+    why: str
+
+    def to_bytes(self) -> bytes:
+        """The message."""
+        return json.dumps({"market": "silent", **vars(self)}).encode()
+
+    @staticmethod
+    def of(data: bytes) -> SilentMessage | None:
+        """The silence that a message tells, None if it tells none. Raises BadMessage."""
+        what = "the setpoint"
+        told = object_of(data, what)
+        if told.get("market") != "silent":
+            return None
+        return SilentMessage(_text(told, "since", what), _whole(told, "power", what), _text(told, "why", what))
+
+
+def back_bytes(since: str) -> bytes:
+    """What a control is told once the market is back. `since` is when its heartbeat was."""
+    return json.dumps({"market": "live", "since": since}).encode()
 
 
 def is_setpoint(data: bytes) -> bool:
     """Whether a message is a setpoint."""
     try:
-        return isinstance(object_of(data, "the setpoint").get("time"), str)
+        told = object_of(data, "the setpoint")
+        return isinstance(told.get("time"), str) and "market" not in told
     except BadMessage:
         return False
 
 
 def setpoint_bytes(setpoint: Setpoint, basis: Basis, time: str, reference: int | None = None) -> bytes:
-    """A setpoint as the control reads it: watts, the step and its price, the numbers of the offer and the clearing, when the
-    market cleared, and the offer's reference if it has one."""
+    """A setpoint as it is stored: watts, the step and its price, the numbers of the offer and the clearing, when the market cleared,
+    and the offer's reference if it has one."""
     told = {
         "power": setpoint.power,
         "step": setpoint.step,
@@ -209,6 +284,11 @@ def setpoint_bytes(setpoint: Setpoint, basis: Basis, time: str, reference: int |
         "time": time,
     }
     return json.dumps(told if reference is None else {**told, "reference": reference}).encode()
+
+
+def with_until(setpoint: str, until: str) -> bytes:
+    """A stored setpoint as the control reads it: it also says until when it holds."""
+    return json.dumps({**json.loads(setpoint), "until": until}).encode()
 
 
 def with_reference(setpoint: str, number: int, reference: int | None) -> str:

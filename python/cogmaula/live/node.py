@@ -17,8 +17,8 @@ from .broker import Arrived, Broker, Confirmed, Event, Link, Message, Publicatio
 from .children import SESSION, TIME
 from .control import Control, StandardControl
 from .errors import BadFrame, BadMessage, LiveError, NodeRefused
-from .frames import MOST, PRICES, Leave, Price, frame_of
-from .messages import BasisMessage, StateMessage
+from .frames import MOST, PRICES, Leave, Old, Price, frame_of
+from .messages import VERSION, BasisMessage, StateMessage, object_of
 from .service import Came, Ended
 from .serving import LAST_SECONDS, Serving
 from .sessions import Session, now_text
@@ -148,13 +148,17 @@ class Node:
         settings, topics = self.settings, self.settings.topics
         found = [topics.basis, settings.own_topic("state"), settings.own_topic("resume")]
         if settings.sort == "device":
-            found += [settings.own_topic("offer"), settings.own_topic("setpoint")]
+            found += [settings.own_topic(it) for it in ("offer", "setpoint", "lapsed")]
         else:
-            found.append(topics.bid(settings.name, "+"))
+            found += [topics.at(settings.name, it, "+") for it in ("bid", "drop", "lapsed", "refused")]
+            found.append(settings.own_topic("heartbeat"))
+        if settings.limits_from:
+            found += [settings.own_topic("limits"), settings.own_topic("limits/state")]
         if settings.shows_itself:
             found += self._prices()
         if settings.parent is not None:
-            found += [settings.own_topic("bid"), settings.own_topic("price"), topics.of(settings.parent, "state")]
+            found += [settings.own_topic(it) for it in ("bid", "price", "refused")]
+            found += [topics.of(settings.parent, it) for it in ("state", "heartbeat")]
         return found
 
     def _prices(self) -> list[str]:
@@ -171,10 +175,11 @@ class Node:
     def _state(self, state: Literal["up", "down"], why: str) -> Publication:
         settings = self.settings
         session = "" if self.session is None else self.session.id
-        floor = settings.floor if settings.floor > -MOST else None
-        ceiling = settings.ceiling if settings.ceiling < MOST else None
-        place = (settings.sort, settings.parent, settings.child, floor, ceiling)
-        message = StateMessage(state, self._run_id, self._started, session, now_text(), why, *place)
+        floor, ceiling = self.serving.limiting.given.newest
+        limits = (floor if floor > -MOST else None, ceiling if ceiling < MOST else None)
+        life = (self.serving.alarm, self.serving.silent_since(time.monotonic()))
+        more = (settings.sort, settings.parent, settings.child, *limits, *life)
+        message = StateMessage(state, self._run_id, self._started, session, now_text(), why, *more)
         return Publication(settings.own_topic("state"), message.to_bytes())
 
     def _marker(self) -> Publication:
@@ -184,7 +189,9 @@ class Node:
 
     def _tell_state(self) -> None:
         """Publishes the state if it changed."""
-        state = f"{self.session} {self.serving.why_down}"
+        serving = self.serving
+        limits, silent = serving.limiting.given.newest, serving.silent_since(time.monotonic())
+        state = f"{self.session} {serving.why_down} {limits} {serving.alarm} {silent}"
         if state != self._state_told:
             self._state_told = state
             self._link.publish(self._marker())
@@ -205,8 +212,10 @@ class Node:
         """Takes a message of a node that is in a session."""
         settings, topics, topic = self.settings, self.settings.topics, message.topic
         if (child := topics.child_of(topic, settings.name, "bid")) is not None:
-            if self.serving.children.taken(child, message) is not None:
-                self.serving.hear_bid(message.payload)
+            self.serving.letting.take_bid(child, message, time.monotonic())
+        elif (child := topics.child_of(topic, settings.name, "drop")) is not None:
+            if message.payload and not message.retained:
+                self.serving.letting.drop(child)
         elif (child := topics.child_of(topic, settings.name, "price")) is not None:
             self.serving.children.keep_price(child, message)
         elif topic == topics.basis:
@@ -215,8 +224,16 @@ class Node:
             self._take_price(message)
         elif topic == settings.own_topic("offer"):
             self._take_offer(message)
+        elif settings.limits_from and topic == settings.own_topic("limits"):
+            self.serving.limiting.take(message.payload)
         elif settings.parent is not None and topic == topics.of(settings.parent, "state"):
             self._take_parent_state(message)
+        elif settings.parent is not None and topic == topics.of(settings.parent, "heartbeat"):
+            self._take_heartbeat(message)
+        elif settings.parent is not None and topic in (settings.own_topic("lapsed"), settings.own_topic("refused")):
+            self._take_word(message, topic == settings.own_topic("lapsed"))
+        elif settings.sort != "device" and topic.endswith("/state") and topic != settings.own_topic("state"):
+            self.serving.letting.take_state(message, time.monotonic())
         elif topic in [settings.own_topic(it) for it in ("state", "resume")] or topic == self._bid_topic:
             self._require_alone()
 
@@ -230,13 +247,41 @@ class Node:
             return
         try:
             price = frame_of(message.payload, PRICES, self.settings.basis.steps)
-            assert isinstance(price, Price)
+            assert isinstance(price, Price | Old)
             if price.child != self.settings.child:
                 raise BadFrame(f"it names child {price.child}")
         except BadFrame as error:
             self._say(f"{message.topic} is not taken: {error}")
             return
-        self.serving.hear_price(price, message.properties.get(TIME, ""))
+        if isinstance(price, Old):
+            self.serving.hear_old(price)
+        else:
+            self.serving.hear_price(price, message.properties.get(TIME, ""))
+
+    def _is_of_session(self, message: Message) -> bool:
+        return self.session is not None and bool(message.payload) and message.properties.get(SESSION) == self.session.id
+
+    def _take_heartbeat(self, message: Message) -> None:
+        if self._is_of_session(message):
+            try:
+                self.serving.beating.hear(message.payload, time.monotonic(), message.retained)
+            except BadMessage as error:
+                self._say(f"{message.topic} is not taken: {error}")
+
+    def _take_word(self, message: Message, is_lapse: bool) -> None:
+        """Takes what the parent says of this child: it has let it go, or its bid is too much."""
+        if not self._is_of_session(message):
+            return
+        try:
+            told = object_of(message.payload, "the word of the parent")
+        except BadMessage as error:
+            self._say(f"{message.topic} is not taken: {error}")
+            return
+        number, why = told.get("number"), str(told.get("why", ""))[:200]
+        if is_lapse and type(number) is int:
+            self.serving.hear_lapse(number, why, time.monotonic())
+        elif not is_lapse:
+            self._say(f"{self.settings.parent} does not take bid {number}: it is {why}. The one before counts")
 
     def _take_offer(self, message: Message) -> None:
         """Takes an offer of the topic. If the broker sends a kept one again, that does not say that the control lives."""
@@ -251,6 +296,8 @@ class Node:
         except BadMessage as error:
             self._say(f"{message.topic} is not taken: {error}")
             return
+        if told is not None and told.version != VERSION:
+            self._say_once(f"{self.settings.parent} is of version {told.version}, and this node of {VERSION}: install this version there")
         if told is not None and told.state != (self._parent_state or "up"):
             self._say(f"{self.settings.parent} is {'up again' if told.state == 'up' else f'down: {told.why}'}")
         self._parent_state = "" if told is None else told.state
@@ -292,10 +339,20 @@ class Node:
             self._store.save(stored)
         self.session = stored.session
         self._tell_basis()
-        self.serving.begin(stored, resume, time.monotonic())
+        told = beginning.basis()
+        times = self.settings.times if self.settings.sort == "auctioneer" or told is None else told.times
+        self.serving.begin(stored, resume, times, time.monotonic())
         if self.settings.leave:
             self.serving.offers.want(Leave())
-        for message in list(self._seen.values()):
+        # Whether the market lives, and counts this device, is known before the control is told anything.
+        first = [f"/{it}" for it in ("heartbeat", "lapsed/" + str(self.settings.child))]
+        messages = sorted(self._seen.values(), key=lambda it: not it.topic.endswith(tuple(first)))
+        self._take_all([it for it in messages if it.topic.endswith(tuple(first))])
+        self.serving.start(time.monotonic())
+        self._take_all([it for it in messages if not it.topic.endswith(tuple(first))])
+
+    def _take_all(self, messages: list[Message]) -> None:
+        for message in messages:
             if message.topic != self.settings.topics.basis:
                 self._take_message(message)
 
@@ -307,6 +364,8 @@ class Node:
             self._tell_basis()
         elif told.session == self.session:
             self._beginning.require_basis(told)
+            if self.settings.sort != "auctioneer":
+                self.serving.take_times(told.times)
         elif self.settings.sort == "auctioneer":
             raise NodeRefused(f"another auctioneer has begun session {told.session.id}: end one of the two")
         else:
@@ -318,7 +377,7 @@ class Node:
     def _tell_basis(self) -> None:
         """Publishes the basis, if this is the auctioneer."""
         if self.settings.sort == "auctioneer" and self.session is not None:
-            told = BasisMessage(self.settings.basis, self.session)
+            told = BasisMessage(self.settings.basis, self.session, self.settings.times)
             self._link.publish(Publication(self.settings.topics.basis, told.to_bytes()))
 
 

@@ -111,6 +111,9 @@ class Offers:
             return {}
         if resume.last <= self._last:
             return self.references
+        if not self._is_answer(resume):
+            # The offer is made anew under another number, after the device was let go.
+            return _noted(self.references, resume.last, self.references.get(self._last))
         is_newest = self._wanted == self._asked
         return _noted(self.references, resume.last, self._reference if is_newest else self._asked_reference)
 
@@ -120,12 +123,18 @@ class Offers:
 
     def resumed(self, resume: DeviceResume | ResumeGone) -> None:
         """Goes by a Resume that was stored. One with a greater number answers what was asked."""
-        is_answer = resume.last > self._last
+        is_answer = resume.last > self._last and self._is_answer(resume)
         self.references = self.references_with(resume)
         self._last = resume.last
         self.current = resume.demands if isinstance(resume, DeviceResume) else None
         if is_answer:
             self._answered()
+
+    def _is_answer(self, resume: DeviceResume | ResumeGone) -> bool:
+        """Whether a Resume with a greater number is of what was asked."""
+        if isinstance(resume, ResumeGone):
+            return isinstance(self._asked, Leave)
+        return self._asked == Offer(resume.demands)
 
     def refused(self, now: float) -> None:
         """Notes that the window is full: what was asked is asked again later."""

@@ -7,17 +7,17 @@ recorded is recorded first: a frame before it is fed or handled, and all on disk
 
 from __future__ import annotations
 
-import json
 import time
 from collections import deque
 from collections.abc import Callable, Collection
-from dataclasses import replace
 
 from .asking import Asking
+from .beating import Beating
 from .broker import Link, Publication
-from .children import SESSION, TIME, Children
+from .children import NODE, SORT, VALID, Children
 from .control import Control
-from .errors import LiveError
+from .controlling import Controlling
+from .errors import LiveError, OtherTerms
 from .frames import (
     AuctioneerResume,
     Bid,
@@ -26,8 +26,12 @@ from .frames import (
     Fault,
     Frame,
     Gone,
+    Hello,
     NotCaughtUp,
     NotChanged,
+    Old,
+    OtherBasis,
+    OutOfLimits,
     OutOfNumbers,
     Price,
     RelayResume,
@@ -35,15 +39,20 @@ from .frames import (
     ResumeGone,
     Send,
     Setpoint,
+    TooMuch,
     WindowFull,
+    size_of,
 )
-from .messages import setpoint_bytes, with_reference
+from .keeping import Keeping
+from .letting import Letting
+from .limiting import Limiting
 from .offers import Offers
 from .recording import Recording
 from .service import Came, Ended, Service
 from .sessions import now_text
 from .settings import Settings
 from .store import Store, Stored
+from .times import Times
 
 # The pauses in seconds before a service is started anew that ended soon: the first, and the longest. Soon is below the third.
 FIRST_PAUSE, LONGEST_PAUSE, LIVED = 0.5, 60.0, 10.0
@@ -67,50 +76,86 @@ class Serving:
     ) -> None:
         """Takes what the node has. `notify` is called from other threads with what the service does, to come back by `take`."""
         self._settings = settings
-        self._store = store
         self._link = link
-        self._control = control
         self._say = say
         self._notify = notify
         self.children = Children(settings.name, settings.topics, settings.basis.steps, link, say)
-        self.offers = Offers(settings.basis.steps, settings.validity, say)
+        self.offers = Offers(settings.basis.steps, settings.offer_validity, say)
         self._asking = Asking(settings.period, settings.pause)
         self._recording = Recording(settings)
+        self.keeping = Keeping(store, link)
+        self.beating = Beating(settings, self.keeping, link)
+        self.controlling = Controlling(settings, self.keeping, self.offers, self.beating.silence, control, say)
+        self.letting = Letting(settings, self.keeping, link, self.children, say, self._feed, self._asking.has_news)
+        self.limiting = Limiting(settings, self.keeping, say, self._feed, self._asking.has_news)
         self.service: Service | None = None
-        self.stored: Stored | None = None
         self.resume: Resume | None = None
         # Why there is no service, "" if there is one.
         self.why_down = "it waits for its session"
         # The newest Price of the parent, and whether the service has still to be fed it.
         self._price: Price | None = None
         self._is_price_due = False
-        # The number of the Bid or Gone that was published last.
-        self._bid = 0
+        # An Old that says that the device was let go, and whether the service has still to be fed it.
+        self._old: Old | None = None
+        self._is_old_due = False
+        # The number of the Bid or Gone that was published last, and how many prices were of another basis.
+        self._bid = self.other_basis = 0
         self._times: dict[int, str] = {}
         self._pending: deque[Frame] = deque()
         self._restart_at = self._pause = self._born = self._came_at = self._lines_from = 0.0
 
     # From a session's begin to its end.
 
-    def begin(self, stored: Stored, resume: Resume | None, now: float) -> None:
-        """Begins a session with what is stored of it."""
-        self.stored, self.resume = stored, resume
+    def begin(self, stored: Stored, resume: Resume | None, times: Times, now: float) -> None:
+        """Begins a session with what is stored of it, and the times of the market."""
+        self.keeping.begin(stored)
+        self.resume = resume
         self.children.begin(stored.session.id)
+        self.beating.begin(times, now)
         self.offers.begin(resume if isinstance(resume, DeviceResume | ResumeGone) else None, now, stored.references)
+        self.controlling.begin()
+        if self._settings.sort != "device":
+            self.letting.begin(resume if isinstance(resume, RelayResume | AuctioneerResume) else None, times)
+        if self._settings.sort == "relay":
+            self.limiting.begin(resume if isinstance(resume, RelayResume) else None)
         if stored.frame:
-            self._publish(self._settings.own_topic("resume"), stored.frame, stored.time)
-        self._tell_setpoint()
+            self._publish_resume(stored)
+
+    def start(self, now: float) -> None:
+        """Starts the service, behind all that tells how the market lives."""
         self._start(now)
+
+    def take_times(self, times: Times) -> None:
+        """Goes by other times of the market from now on."""
+        self.beating.silence.times = times
+        self.letting.lapses.take_times(times)
+
+    @property
+    def alarm(self) -> str:
+        """What is wrong with a relay's limits or with the basis of its prices, "" if nothing is."""
+        basis = f"{self.other_basis} prices were of another basis" if self.other_basis else ""
+        return "; ".join(it for it in (self.limiting.alarm, basis) if it)
+
+    def silent_since(self, now: float) -> str | None:
+        """Since when the node hears no heartbeat, or is let go (RFC 3339), None if neither is so."""
+        silence = self.beating.silence
+        is_silent = self._settings.sort != "auctioneer" and silence.is_silent(now, self._settings.sort == "device" and self.beating.has_bid)
+        return silence.since if is_silent else None
+
+    @property
+    def stored(self) -> Stored | None:
+        """What is stored of the session, None between sessions."""
+        return self.keeping.stored
 
     def end(self, why: str) -> None:
         """Ends the service, and forgets all of its session."""
         service, self.service = self.service, None
         if service is not None:
             service.close(LAST_SECONDS)
-        self.stored = self.resume = self._price = None
-        self._is_price_due = False
+        self.keeping.stored = self.resume = self._price = self._old = None
+        self._is_price_due = self._is_old_due = False
         self.why_down = why
-        self._bid = 0
+        self._bid = self.other_basis = 0
         self._times.clear()
         self._pending.clear()
         self._recording.ends(why)
@@ -130,10 +175,25 @@ class Serving:
 
     # What the node hears.
 
-    def hear_bid(self, data: bytes) -> None:
-        """Feeds a Bid or a Gone of a child."""
-        self._asking.has_news()
-        self._feed(data)
+    def hear_old(self, old: Old) -> None:
+        """Takes an Old of the parent: it has let this device go."""
+        if self._settings.sort != "device" or old.kept <= self.last:
+            return
+        self.beating.silence.let_go(old.kept, f"{self._settings.parent} has let it go")
+        self._old, self._is_old_due = old, True
+        self._feed_old()
+
+    def hear_lapse(self, number: int, why: str, now: float) -> None:
+        """Takes that the parent has let this device go, as of this number: its bid is told again, so that an Old comes."""
+        if number > self.last:
+            self.beating.silence.let_go(number, f"{self._settings.parent} has let it go, {why}")
+            self.beating.renew(now)
+
+    def _feed_old(self) -> None:
+        if self._is_old_due and self._old is not None and self.service is not None and not self._pending:
+            self._is_old_due = False
+            if self._old.kept > self.last:
+                self._feed(self._old.to_bytes())
 
     def hear_price(self, price: Price, moment: str) -> None:
         """Takes a Price of the parent, unless a newer one came. `moment` is when its clearing was, "" if that was not told."""
@@ -173,11 +233,13 @@ class Serving:
         """Starts the service anew, asks it, and ends one that does not answer. To be called after each event, and by a clock."""
         self.work()
         if self.stored is not None and self.offers.references != self.stored.references:
-            self._keep_references()
+            self.controlling.keep_references(self.last)
         if self.stored is not None and self.service is None and now >= self._restart_at:
             self._start(now)
+        self._tell_life(now)
         if self.service is None:
             return
+        self._feed_old()
         self._feed_price()
         if self._settings.sort == "device":
             frame = self.offers.due(now)
@@ -190,6 +252,16 @@ class Serving:
             self._say(f"the service has not answered for {PATIENCE:g} s: it is ended")
             self._came_at = now
             self.service.kill()
+
+    def _tell_life(self, now: float) -> None:
+        """Tells below that the market lives, and lets go of children that do not."""
+        self.beating.tick(now, self.service is not None)
+        if self._settings.sort == "device":
+            self.controlling.tick(now, self.beating.has_bid)
+        else:
+            self.letting.tick(now, self._link.is_settled)
+            if self._settings.sort == "relay":
+                self.limiting.tick(now)
 
     def _start(self, now: float) -> None:
         """Starts the service from the newest Resume, and feeds it the newest of all that was heard."""
@@ -204,8 +276,14 @@ class Serving:
             return
         self.why_down = ""
         self._asking.forget()
-        for frame in self.children.newest:
-            self.hear_bid(frame.to_bytes())
+        for data in (*self.letting.bounds, *self.limiting.frames):
+            self._feed(data)
+        newest = [it.to_bytes() for it in self.children.newest]
+        for data in (*newest, *self.letting.expiries):
+            self._asking.has_news()
+            self._feed(data)
+        self._is_old_due = self._old is not None
+        self._feed_old()
         self._is_price_due = self._price is not None
         self._feed_price()
         self.offers.forget()
@@ -243,15 +321,25 @@ class Serving:
             case RelayResume() | AuctioneerResume() | DeviceResume() | ResumeGone():
                 self._keep(frame)
             case Bid() | Gone():
-                self._publish(self._settings.own_topic("bid"), frame.to_bytes(), now_text())
+                self.keeping.publish(self._settings.own_topic("bid"), frame.to_bytes(), now_text(), self._sender)
                 self._bid = frame.number
                 self._asking.answered()
+                self.limiting.bids(frame.number, time.monotonic())
                 if isinstance(frame, Gone):
                     self._link.publish(Publication(self._settings.own_topic("setpoint"), b""))
             case Price():
                 self.children.pass_on(frame, self._time_of(frame.index))
             case Setpoint():
-                self._tell_control(frame)
+                self.controlling.setpoint(frame, self._time_of(frame.index), time.monotonic(), self.beating.has_bid)
+            case Old():
+                self.letting.old(frame)
+            case TooMuch():
+                self.letting.too_much(frame)
+            case OutOfLimits():
+                self.limiting.out_of_limits(frame)
+            case OtherBasis():
+                self.other_basis += 1
+                self._say(f"the price of clearing {frame.index} is of another basis, and is not taken: give {self._settings.parent} this basis")
             case NotChanged():
                 self._asking.answered()
             case WindowFull():
@@ -266,29 +354,44 @@ class Serving:
                 self._say("no number is left: begin a new session at the auctioneer")
             case Fault():
                 self._say(f"the service refused the frame at byte {frame.offset}")
+                if frame.offset == size_of(Hello, 0) and self.stored is not None and self.stored.frame:
+                    raise OtherTerms(
+                        f"the service refuses the Resume of session {self.stored.session.id}: give this node the limits and the program "
+                        "live that it was made with, or begin a new session at the auctioneer by --new-session"
+                    )
+
+    @property
+    def _sender(self) -> tuple[tuple[str, str], ...]:
+        """What a bid says of the node that sent it."""
+        settings = self._settings
+        who = ((SORT, settings.sort), (NODE, settings.name))
+        return who if settings.sort == "relay" else (*who, (VALID, f"{self.beating.silence.times.grace:g}"))
 
     def _keep(self, resume: Resume) -> None:
         """Stores a Resume, before any frame behind it is handled. Raises OSError, and then the node has to end."""
         assert self.stored is not None
         setpoint = "" if isinstance(resume, ResumeGone) else self.stored.setpoint
         references = self.offers.references_with(resume) if isinstance(resume, DeviceResume | ResumeGone) else {}
-        settings = self._settings
-        self.stored = Stored(
-            self.stored.session, settings.basis, resume.to_bytes(), now_text(), setpoint, references, settings.limits
-        )
         self._recording.make_safe()
-        self._store.save(self.stored)
+        basis = self._settings.basis
+        self.keeping.change(basis=basis, frame=resume.to_bytes(), time=now_text(), setpoint=setpoint, references=references)
         self._recording.stored()
         self.resume = resume
-        self._publish(self._settings.own_topic("resume"), self.stored.frame, self.stored.time)
-        if isinstance(resume, DeviceResume | ResumeGone):
-            self.offers.resumed(resume)
-        elif isinstance(resume, AuctioneerResume):
-            self._asking.answered()
+        self._publish_resume(self.stored)
+        match resume:
+            case DeviceResume() | ResumeGone():
+                self.offers.resumed(resume)
+            case AuctioneerResume():
+                self._asking.answered()
+                self.letting.resumed(resume)
+            case RelayResume():
+                self.letting.resumed(resume)
+                self.limiting.resumed(resume)
 
-    def _publish(self, topic: str, payload: bytes, moment: str) -> None:
-        assert self.stored is not None
-        self._link.publish(Publication(topic, payload, ((TIME, moment), (SESSION, self.stored.session.id))))
+    def _publish_resume(self, stored: Stored) -> None:
+        """Hands a copy of the Resume to the broker, with the children that are relays."""
+        more = (("relays", " ".join(map(str, stored.relays))),) if stored.relays else ()
+        self.keeping.publish(self._settings.own_topic("resume"), stored.frame, stored.time, more)
 
     def _time_of(self, index: int) -> str:
         """When the clearing of this index was, "" if that was not told."""
@@ -296,36 +399,6 @@ class Serving:
             assert self.stored is not None
             return self.stored.time
         return self._times.get(index, "")
-
-    def _tell_control(self, setpoint: Setpoint) -> None:
-        """Stores a setpoint and then tells it, so that after a restart the control is told none that is older."""
-        assert self.stored is not None
-        reference = self.offers.references.get(setpoint.number)
-        told = setpoint_bytes(setpoint, self._settings.basis, self._time_of(setpoint.index), reference)
-        self.offers.forget_before(setpoint.number)
-        self.stored = replace(self.stored, setpoint=told.decode(), references=self.offers.references)
-        self._store.save(self.stored)
-        self._tell_setpoint()
-
-    def _keep_references(self) -> None:
-        """Stores the reference of an offer that the control made again, and tells the setpoint that answers that offer again."""
-        assert self.stored is not None
-        references = self.offers.references
-        setpoint = with_reference(self.stored.setpoint, self.last, references.get(self.last))
-        is_told = setpoint == self.stored.setpoint
-        self.stored = replace(self.stored, setpoint=setpoint, references=references)
-        self._store.save(self.stored)
-        if not is_told:
-            self._tell_setpoint()
-
-    def _tell_setpoint(self) -> None:
-        """Tells the control the stored setpoint, if there is one."""
-        assert self.stored is not None
-        told = self.stored.setpoint.encode()
-        if told and self._control is not None:
-            self._control.write(told)
-        if told:
-            self._publish(self._settings.own_topic("setpoint"), told, json.loads(told)["time"])
 
     def _say_lacking(self) -> None:
         """Says which children are awaited, not more often than once in a while."""

@@ -12,9 +12,10 @@ from typing import Any, cast
 from ..cluster import Basis
 from ..program import live_command
 from .errors import BadSettings
-from .frames import CHILDREN, MOST, Sort
+from .frames import CHILDREN, MOST, Sort, are_limits, is_basis
 from .page_settings import PageSettings
-from .topics import Topics, require_name, require_prefix
+from .times import Times
+from .topics import OF_CHILDREN, Topics, require_name, require_prefix
 
 PASSWORD_VARIABLE = "COGMAULA_PASSWORD"
 # The least size of a file of a recording, in bytes.
@@ -77,6 +78,22 @@ class BrokerSettings:
 
 
 @dataclass(frozen=True)
+class ChildSettings:
+    """What a parent's file says of one child: its number, and the least and the greatest power in watts that it may bid."""
+
+    child: int
+    least: int = -MOST
+    greatest: int = MOST
+
+    def __post_init__(self) -> None:
+        """Raises BadSettings."""
+        if not 1 <= self.child <= CHILDREN:
+            raise BadSettings(f"children has the child {self.child}: give 1 to {CHILDREN}")
+        if not are_limits(self.least, self.greatest):
+            raise BadSettings(f"child {self.child} has least {self.least} and greatest {self.greatest}: give -{MOST} to 0 and 0 to {MOST} watts")
+
+
+@dataclass(frozen=True)
 class Settings:
     """One node of a market.
 
@@ -89,7 +106,12 @@ class Settings:
     floor:    the least power that a relay announces, in watts, at most 0; ceiling the greatest, at least 0
     period:   the seconds from one Clear or Send to the next, by the clock; None asks after news
     pause:    the least seconds between two of them if they come after news
-    validity: the seconds after which a device whose control is silent leaves; None keeps its bid
+    limits_from: whether a relay takes limits that are given while the market lives, as of a grid operator
+    giver:    the child number that is kept free for them
+    validity, heartbeat, grace: the times of the market that an auctioneer tells, in seconds; None takes the default. See Times
+    fallback: the power in watts that a device's control is told while the market is silent
+    offer_validity: the seconds after which a device whose control is silent leaves; None keeps its bid
+    children: of a parent, the bounds of children
     new_session: whether an auctioneer begins a new session
     leave:    whether a device leaves and the node then ends
     page:     the page that the node serves, None for no page
@@ -109,7 +131,13 @@ class Settings:
     ceiling: int = MOST
     period: float | None = None
     pause: float = 1.0
+    limits_from: bool = False
+    giver: int = CHILDREN
     validity: float | None = None
+    heartbeat: float | None = None
+    grace: float | None = None
+    fallback: int = 0
+    offer_validity: float | None = None
     new_session: bool = False
     leave: bool = False
     record: str | None = None
@@ -117,6 +145,7 @@ class Settings:
     record_files: int | None = None
     broker: BrokerSettings = field(default_factory=BrokerSettings)
     page: PageSettings | None = None
+    children: tuple[ChildSettings, ...] = ()
 
     def __post_init__(self) -> None:
         """Raises BadSettings."""
@@ -124,8 +153,8 @@ class Settings:
         self._require_place()
         self._require_times()
         self._require_basis()
-        if not -MOST <= self.floor <= 0 <= self.ceiling <= MOST:
-            raise BadSettings(f"floor and ceiling are {self.floor} and {self.ceiling}: give -{MOST} to 0 and 0 to {MOST} watts")
+        self._require_limits()
+        self._require_children()
         if (self.new_session and self.sort != "auctioneer") or (self.leave and self.sort != "device"):
             raise BadSettings("new_session is for an auctioneer, and leave for a device")
         if self.record_size < LEAST_SIZE:
@@ -134,9 +163,39 @@ class Settings:
             raise BadSettings(f"record_files is {self.record_files}: give 1 or more")
 
     @property
-    def limits(self) -> tuple[int, int] | None:
-        """The floor and the ceiling of a relay in watts, None of another node."""
-        return (self.floor, self.ceiling) if self.sort == "relay" else None
+    def place_of_limits(self) -> int:
+        """The child number in whose place a relay is given limits, 0 if it is not given any."""
+        return self.giver if self.limits_from else 0
+
+    @property
+    def terms(self) -> tuple[int, int, int]:
+        """What all processes of a relay have to agree on: FLOOR, CEILING and GIVER of its service, 0 without GIVER."""
+        return self.floor, self.ceiling, self.place_of_limits
+
+    @property
+    def times(self) -> Times:
+        """The times of the market that an auctioneer tells. Raises BadSettings."""
+        return Times.of(self.validity, self.heartbeat, self.grace)
+
+    def _require_limits(self) -> None:
+        if not are_limits(self.floor, self.ceiling):
+            raise BadSettings(f"floor and ceiling are {self.floor} and {self.ceiling}: give -{MOST} to 0 and 0 to {MOST} watts")
+        if self.limits_from and self.sort != "relay":
+            raise BadSettings("limits_from is for a relay: take it out")
+        if not 1 <= self.giver <= CHILDREN:
+            raise BadSettings(f"giver is {self.giver}: give 1 to {CHILDREN}, a number that no child has")
+        if abs(self.fallback) > MOST:
+            raise BadSettings(f"fallback is {self.fallback}: give a power within ±{MOST} watts")
+
+    def _require_children(self) -> None:
+        if self.children and self.sort == "device":
+            raise BadSettings("a device has no children: take them out")
+        numbers = [it.child for it in self.children]
+        for child in numbers:
+            if numbers.count(child) > 1:
+                raise BadSettings(f"child {child} is there twice in children: take one out")
+            if child == self.place_of_limits:
+                raise BadSettings(f"child {child} is the place in which limits are given: give another giver")
 
     def _require_place(self) -> None:
         if self.sort == "auctioneer":
@@ -151,16 +210,22 @@ class Settings:
             raise BadSettings(f"child is {self.child}: give 1 to {CHILDREN}")
 
     def _require_times(self) -> None:
-        for name, value in (("period", self.period), ("pause", self.pause), ("validity", self.validity)):
+        for name, value in (("period", self.period), ("pause", self.pause), ("offer_validity", self.offer_validity)):
             if value is not None and not 0.01 <= value <= 1e9:
                 raise BadSettings(f"{name} is {value}: give 0.01 seconds or more")
+        if self.sort == "device" and self.validity is not None:
+            raise BadSettings("validity of a device is offer_validity now: write that. The market's own validity is the auctioneer's")
+        if self.sort != "auctioneer" and (self.validity, self.heartbeat, self.grace) != (None, None, None):
+            raise BadSettings("validity, heartbeat and grace are the auctioneer's, which tells them to all: take them out")
+        self.times  # noqa: B018 - it raises
 
     def _require_basis(self) -> None:
         basis = self.basis
-        if not (2 <= basis.steps <= 1_000 and -MOST <= basis.min < basis.max <= MOST):
-            raise BadSettings(f"the basis is {basis}: give 2 to 1000 steps from min to a greater max, within ±{MOST}")
-        if (basis.max - basis.min) % (basis.steps - 1):
+        if is_basis(basis):
+            return
+        if 2 <= basis.steps <= 1_000 and -MOST <= basis.min < basis.max <= MOST:
             raise BadSettings(f"the basis is {basis}: max - min has to be a multiple of steps - 1")
+        raise BadSettings(f"the basis is {basis}: give 2 to 1000 steps from min to a greater max, within ±{MOST}")
 
     @property
     def shows_itself(self) -> bool:
@@ -173,11 +238,10 @@ class Settings:
         return Topics(self.broker.prefix)
 
     def own_topic(self, what: str) -> str:
-        """One of the node's own topics: its `bid` and its `price` are its parent's, the others such as `state` its own."""
-        if what in ("bid", "price"):
+        """One of the node's own topics: `bid`, `price`, `lapsed` and `refused` are its parent's, the others such as `state` its own."""
+        if what in OF_CHILDREN:
             assert self.parent is not None and self.child is not None
-            below = self.topics.bid if what == "bid" else self.topics.price
-            return below(self.parent, self.child)
+            return self.topics.at(self.parent, what, self.child)
         return self.topics.of(self.name, what)
 
     @property
@@ -189,11 +253,12 @@ class Settings:
             case "device":
                 return [self.live, "device", str(self.child)]
             case _:
-                return [self.live, "relay", str(self.child), str(self.floor), str(self.ceiling)]
+                place = [str(self.giver)] if self.limits_from else []
+                return [self.live, "relay", str(self.child), str(self.floor), str(self.ceiling), *place]
 
 
 # The settings by the names of the tables of a TOML file.
-_TABLES = ("node", "basis", "broker", "page")
+_TABLES = ("node", "basis", "broker", "page", "children")
 
 
 def read_toml(path: str | os.PathLike[str], tables: Sequence[str] = _TABLES) -> dict[str, dict[str, Any]]:
@@ -210,16 +275,27 @@ def read_toml(path: str | os.PathLike[str], tables: Sequence[str] = _TABLES) -> 
 
 
 def settings_of(sort: Sort, tables: Mapping[str, Mapping[str, Any]]) -> Settings:
-    """The settings that the tables `node`, `basis`, `broker` and `page` tell. Raises BadSettings."""
+    """The settings that the tables `node`, `basis`, `broker`, `page` and `children` tell. Raises BadSettings."""
     node = dict(tables.get("node", {}))
     if "live" not in node:
         node["live"] = live_command()
     basis = value_of(Basis, tables.get("basis", {}), "basis")
     broker = value_of(BrokerSettings, tables.get("broker", {}), "broker")
     page = value_of(PageSettings, tables["page"], "page") if "page" in tables else None
-    if {"sort", "basis", "broker", "page"} & node.keys():
-        raise BadSettings("node has a member sort, basis, broker or page: the command says the sort, and the others are tables")
-    return cast(Settings, value_of(Settings, {**node, "sort": sort, "basis": basis, "broker": broker, "page": page}, "node"))
+    if {"sort", "basis", "broker", "page", "children"} & node.keys():
+        raise BadSettings("node has a member sort, basis, broker, page or children: the command says the sort, and the others are tables")
+    parts = {"sort": sort, "basis": basis, "broker": broker, "page": page, "children": children_of(tables.get("children", {}))}
+    return cast(Settings, value_of(Settings, {**node, **parts}, "node"))
+
+
+def children_of(tables: Mapping[str, Any]) -> tuple[ChildSettings, ...]:
+    """The bounds of children that the tables `children.NAME` tell, in the order of the children. Raises BadSettings."""
+    found = []
+    for name, table in tables.items():
+        if not isinstance(table, Mapping):
+            raise BadSettings(f"children.{name} is no table: write [children.{name}] with child, least and greatest")
+        found.append(cast(ChildSettings, value_of(ChildSettings, table, f"children.{name}")))
+    return tuple(sorted(found, key=lambda it: it.child))
 
 
 def value_of(kind: type[Any], table: Mapping[str, Any], name: str) -> Any:

@@ -2,7 +2,8 @@
 
 A file has a line that says what it is, the SHA-256 of all behind it, a line of JSON, and the bytes of the Resume or ResumeGone.
 The JSON has the node, its sort, the session and the basis that the Resume is of, the time it was stored, the frame's length in
-bytes, of a device the newest setpoint and the references of its offers, and of a relay its limits.
+bytes, of a device the newest setpoint and the references of its offers, and of a parent which children are relays, which were let
+go, and the limits that it was given last.
 """
 
 from __future__ import annotations
@@ -18,10 +19,29 @@ from pathlib import Path
 from ..cluster import Basis
 from .errors import BadMessage, BadStore
 from .frames import Sort
+from .messages import VERSION
 from .sessions import Session
 
-FIRST_LINE = b"cogmaula resume 1\n"
+# The first line of a file, by the version of the form that its Resume has.
+FIRST_LINES = {1: b"cogmaula resume 1", VERSION: b"cogmaula resume 2"}
 SUFFIX = ".resume"
+
+
+@dataclass(frozen=True)
+class Given:
+    """Limits that a relay was given.
+
+    number:    theirs: 2, 4, 6, .. in a session, each given once
+    floor:     in watts, and `ceiling`
+    until:     until when they hold (RFC 3339), None without an end
+    reference: a word of the one who gave them, None without one
+    """
+
+    number: int
+    floor: int
+    ceiling: int
+    until: str | None = None
+    reference: str | None = None
 
 
 @dataclass(frozen=True)
@@ -32,7 +52,10 @@ class Stored:
     time:     when it was stored (RFC 3339, UTC)
     setpoint: the newest setpoint of a device as its control was told it, in JSON, "" without one
     references: the control's own number of each offer that a setpoint may still answer, by the offer's number
-    limits:     of a relay, the floor and the ceiling in watts with which its bids were made; None if that was not stored
+    lapsed:     of a parent, the number under which each child that was let go counts as gone
+    relays:     of a parent, the children that are relays
+    given:      of a relay, the limits that it was given last, None if it was given none in this session
+    version:    of the form of the Resume
     """
 
     session: Session
@@ -41,7 +64,10 @@ class Stored:
     time: str
     setpoint: str = ""
     references: Mapping[int, int] = field(default_factory=dict)
-    limits: tuple[int, int] | None = None
+    lapsed: Mapping[int, int] = field(default_factory=dict)
+    relays: tuple[int, ...] = ()
+    given: Given | None = None
+    version: int = VERSION
 
 
 class Store:
@@ -104,29 +130,33 @@ class Store:
             "length": len(stored.frame),
             "setpoint": stored.setpoint,
             "references": dict(stored.references),
-            "limits": stored.limits,
+            "lapsed": dict(stored.lapsed),
+            "relays": stored.relays,
+            "given": None if stored.given is None else vars(stored.given),
         }
         behind = json.dumps(told).encode() + b"\n" + stored.frame
-        return FIRST_LINE + hashlib.sha256(behind).hexdigest().encode() + b"\n" + behind
+        return FIRST_LINES[VERSION] + b"\n" + hashlib.sha256(behind).hexdigest().encode() + b"\n" + behind
 
     def _read(self, path: Path) -> Stored:
         first, checksum, behind = (path.read_bytes().split(b"\n", 2) + [b"", b""])[:3]
         line, _, frame = behind.partition(b"\n")
         damaged = BadStore(f"{path} is damaged: bring it back as it was, or move it away, and the broker's copy counts")
-        if first + b"\n" != FIRST_LINE or checksum != hashlib.sha256(behind).hexdigest().encode():
+        version = {line: it for it, line in FIRST_LINES.items()}.get(first)
+        if version is None or checksum != hashlib.sha256(behind).hexdigest().encode():
             raise damaged
         try:
             told = json.loads(line)
             session = Session(str(told["session"]), str(told["begun"]))
             basis = Basis(int(told["min"]), int(told["max"]), int(told["steps"]))
             length, node, sort, time, setpoint = (told[it] for it in ("length", "node", "sort", "time", "setpoint"))
-            # Files of before have none.
-            references = {int(number): int(it) for number, it in told.get("references", {}).items()}
-            limits = None if told.get("limits") is None else (int(told["limits"][0]), int(told["limits"][1]))
+            # Files of the first form lack some.
+            references, lapsed = ({int(number): int(it) for number, it in told.get(name, {}).items()} for name in ("references", "lapsed"))
+            relays = tuple(int(it) for it in told.get("relays", ()))
+            given = None if told.get("given") is None else Given(**told["given"])
         except (ValueError, KeyError, IndexError, TypeError, AttributeError, BadMessage):
             raise damaged from None
         if length != len(frame):
             raise damaged
         if (node, sort) != (self.node, self.sort):
             raise BadStore(f"{path} is of the {sort} {node}, and this is the {self.sort} {self.node}: give another folder")
-        return Stored(session, basis, frame, str(time), str(setpoint), references, limits)
+        return Stored(session, basis, frame, str(time), str(setpoint), references, lapsed, relays, given, version)

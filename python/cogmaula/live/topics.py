@@ -10,6 +10,8 @@ from .frames import CHILDREN
 
 _NAME = re.compile(r"[A-Za-z0-9_-]{1,64}")
 _CHILD = re.compile(r"[1-9][0-9]{0,2}")
+# The words of topics that have a topic for each child.
+OF_CHILDREN = ("bid", "price", "lapsed", "refused", "drop")
 # Names that stand for something else in a topic.
 _TAKEN = {"basis"}
 
@@ -40,19 +42,23 @@ class Topics:
         return f"{self.prefix}/basis"
 
     def of(self, node: str, what: str) -> str:
-        """A topic of one node: its `state`, `resume`, `offer` or `setpoint`."""
+        """A topic of one node, such as its `state`, `resume` or `heartbeat`."""
         return f"{self.prefix}/{node}/{what}"
 
+    def at(self, parent: str, what: str, child: int | str) -> str:
+        """A topic of one child at its parent: `bid`, `price`, `lapsed`, `refused` or `drop`. The child + stands for all."""
+        return f"{self.prefix}/{parent}/{what}/{child}"
+
     def bid(self, parent: str, child: int | str) -> str:
-        """The newest Bid or Gone of a child, for its parent. The child + stands for all."""
-        return f"{self.prefix}/{parent}/bid/{child}"
+        """The newest Bid or Gone of a child, for its parent."""
+        return self.at(parent, "bid", child)
 
     def price(self, parent: str, child: int | str) -> str:
-        """The newest Price for a child, of its parent. The child + stands for all."""
-        return f"{self.prefix}/{parent}/price/{child}"
+        """The newest Price for a child, of its parent."""
+        return self.at(parent, "price", child)
 
     def parts_of(self, topic: str) -> tuple[str, str, int | None] | None:
-        """The node of a topic, its word such as `state` or `bid`, and of bids and prices the child. None if it is no such topic."""
+        """The node of a topic, its word such as `state` or `bid`, and of a topic of a child its number. None if it is no such topic."""
         below = topic.removeprefix(f"{self.prefix}/")
         node, _, rest = below.partition("/")
         word, has_child, _ = rest.partition("/")
@@ -60,11 +66,11 @@ class Topics:
             return None
         if not has_child:
             return node, word, None
-        child = self.child_of(topic, node, word) if word in ("bid", "price") else None
+        child = self.child_of(topic, node, word) if word in OF_CHILDREN else None
         return None if child is None else (node, word, child)
 
     def child_of(self, topic: str, node: str, what: str) -> int | None:
-        """The child that a topic of this node's bids or prices is of, or None if it is no such topic."""
+        """The child that a topic of this node, such as one of its bids, is of, or None if it is no such topic."""
         above, _, name = topic.rpartition("/")
         if above != f"{self.prefix}/{node}/{what}" or not _CHILD.fullmatch(name):
             return None

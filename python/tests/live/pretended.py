@@ -6,7 +6,7 @@ import time
 
 from cogmaula.cluster import Basis
 from cogmaula.live.broker import Arrived, Confirmed, Message, Settled
-from cogmaula.live.frames import Bid, Gone
+from cogmaula.live.frames import AuctioneerResume, Bid, DeviceResume, Gone, Price, RelayResume, ResumeGone
 from cogmaula.live.messages import BasisMessage, StateMessage
 from cogmaula.live.service import Came, Ended
 from cogmaula.live.sessions import Session
@@ -18,7 +18,7 @@ BASIS, BASIS_TOPIC = Basis(0, 9, steps=2), "market/basis"
 SESSION = Session("0123456789abcdef", "2026-01-31T06:00:00.000Z")
 LATER = Session("fedcba9876543210", "2026-01-31T07:00:00.000Z")
 MOMENT = "2026-01-31T06:30:00.000Z"
-MARKED = (("time", MOMENT), ("session", SESSION.id))
+MARKED = (("time", MOMENT), ("session", SESSION.id), ("version", "2"))
 
 
 def settings(sort, folder, **more):
@@ -42,6 +42,10 @@ class PretendedLink:
 
     def start(self, topics, will, marker, written=()):
         self.topics, self.will, self.marker = [*topics, *written], will, marker
+
+    def also_read(self, topic):
+        if topic not in self.topics:
+            self.topics.append(topic)
 
     def publish(self, publication):
         self.newest[publication.topic] = publication
@@ -171,10 +175,10 @@ class Joined:
         return None if found is None else found.frame
 
 
-def saved(folder, sort, name, frame, session=SESSION, basis=BASIS, setpoint="", limits=None):
+def saved(folder, sort, name, frame, session=SESSION, basis=BASIS, setpoint="", **more):
     """Puts a Resume on a node's disk."""
     store = Store(folder / sort, name, sort)
-    store.save(Stored(session, basis, frame.to_bytes(), MOMENT, setpoint, limits=limits))
+    store.save(Stored(session, basis, frame.to_bytes(), MOMENT, setpoint, **more))
     store.close()
 
 
@@ -187,12 +191,12 @@ def turn(node):
     node._tell_state()
 
 
-def basis_payload(session=SESSION, basis=BASIS):
-    return BasisMessage(basis, session).to_bytes()
+def basis_payload(session=SESSION, basis=BASIS, **more):
+    return BasisMessage(basis, session, **more).to_bytes()
 
 
-def state_payload(run, started, state="up", why=""):
-    return StateMessage(state, run, started, SESSION.id, MOMENT, why).to_bytes()
+def state_payload(run, started, state="up", why="", **more):
+    return StateMessage(state, run, started, SESSION.id, MOMENT, why, **more).to_bytes()
 
 
 def bid(child, number, *demands):
@@ -201,6 +205,32 @@ def bid(child, number, *demands):
 
 def gone(child, number):
     return Gone(child, number)
+
+
+def fields_of(basis):
+    """A basis as frames have it."""
+    return basis.min, basis.max, basis.steps
+
+
+def price(child, number, index, step, basis=BASIS):
+    return Price(child, number, index, step, *fields_of(basis))
+
+
+def relay_resume(last, answered, index, numbers, terms=(-1000, 1000, 0), limits=(-1000, 1000), basis=BASIS):
+    """A relay's Resume under the limits of its arguments, and those of its newest bid."""
+    return RelayResume(last, answered, index, *fields_of(basis), *terms, *limits, numbers)
+
+
+def auctioneer_resume(index, numbers, basis=BASIS):
+    return AuctioneerResume(index, *fields_of(basis), numbers)
+
+
+def device_resume(last, index, demands, basis=BASIS):
+    return DeviceResume(last, index, *fields_of(basis), demands)
+
+
+def resume_gone(last, index, basis=BASIS):
+    return ResumeGone(last, index, *fields_of(basis))
 
 
 def numbers(*pairs):

@@ -16,25 +16,29 @@ from pretended import (
     SESSION,
     PretendedControl,
     PretendedLink,
+    auctioneer_resume,
     basis_payload,
     bid,
+    device_resume,
     gone,
     numbers,
+    price,
+    relay_resume,
     saved,
     settings,
     state_payload,
 )
 
 from cogmaula.cluster import Basis
-from cogmaula.live import BadStore, NodeRefused
-from cogmaula.live.frames import AuctioneerResume, DeviceResume, Price, RelayResume
+from cogmaula.live import BadStore, NodeRefused, OtherTerms
+from cogmaula.live.frames import Fault
 from cogmaula.live.messages import BasisMessage
 from cogmaula.live.node import Node
 from cogmaula.live.store import Store
 
 OFFER = (5, -3)
-OF_SESSION = [("time", MOMENT), ("session", SESSION.id)]
-OF_LATER = [("time", MOMENT), ("session", LATER.id)]
+OF_SESSION = [("time", MOMENT), ("session", SESSION.id), ("version", "2")]
+OF_LATER = [("time", MOMENT), ("session", LATER.id), ("version", "2")]
 
 
 def told_basis(one):
@@ -55,7 +59,7 @@ def test_the_first_auctioneer_begins_a_session_and_publishes_the_basis(joined):
 
 
 def test_an_auctioneer_comes_back_with_its_session(joined, tmp_path):
-    resume = AuctioneerResume(7, numbers((3, 1)))
+    resume = auctioneer_resume(7, numbers((3, 1)))
     saved(tmp_path, "auctioneer", "auctioneer", resume)
     one = joined("auctioneer").begun()
     assert one.node.session == SESSION
@@ -63,12 +67,12 @@ def test_an_auctioneer_comes_back_with_its_session(joined, tmp_path):
     assert one.said == []
     one.link.comes("market/auctioneer/bid/3", bid(3, 1, 21, -3).to_bytes())
     one.turned()
-    one.writes(Price(3, 1, 7, 1))
+    one.writes(price(3, 1, 7, 1))
     assert dict(one.link.newest["market/auctioneer/price/3"].properties)["time"] == MOMENT
 
 
 def test_an_auctioneer_without_a_disk_goes_on_from_the_broker(joined):
-    resume = AuctioneerResume(7, numbers((3, 1)))
+    resume = auctioneer_resume(7, numbers((3, 1)))
     one = joined("auctioneer")
     one.link.comes(BASIS_TOPIC, basis_payload())
     one.link.comes("market/auctioneer/resume", resume.to_bytes(), OF_SESSION)
@@ -89,14 +93,14 @@ def test_an_auctioneer_that_has_lost_all_begins_a_later_session(joined):
 
 
 def test_a_new_session_is_begun_if_that_is_asked(joined, tmp_path):
-    saved(tmp_path, "auctioneer", "auctioneer", AuctioneerResume(7, numbers((3, 1))), basis=Basis(0, 99, 100))
+    saved(tmp_path, "auctioneer", "auctioneer", auctioneer_resume(7, numbers((3, 1))), basis=Basis(0, 99, 100))
     one = joined("auctioneer", new_session=True).begun()
     assert one.node.session.order > SESSION.order
     assert one.service.read == [b""]
 
 
 def test_an_auctioneer_of_an_older_session_is_refused(joined, tmp_path):
-    saved(tmp_path, "auctioneer", "auctioneer", AuctioneerResume(7, numbers((3, 1))))
+    saved(tmp_path, "auctioneer", "auctioneer", auctioneer_resume(7, numbers((3, 1))))
     one = joined("auctioneer")
     one.link.comes(BASIS_TOPIC, basis_payload(LATER))
     one.link.settles()
@@ -105,7 +109,7 @@ def test_an_auctioneer_of_an_older_session_is_refused(joined, tmp_path):
 
 
 def test_the_broker_may_have_an_older_session(joined, tmp_path):
-    saved(tmp_path, "auctioneer", "auctioneer", AuctioneerResume(7, numbers((3, 1))), session=LATER)
+    saved(tmp_path, "auctioneer", "auctioneer", auctioneer_resume(7, numbers((3, 1))), session=LATER)
     one = joined("auctioneer")
     one.link.comes(BASIS_TOPIC, basis_payload())
     one.link.settles()
@@ -116,7 +120,7 @@ def test_the_broker_may_have_an_older_session(joined, tmp_path):
 @pytest.mark.parametrize("where", ["disk", "broker"])
 def test_an_auctioneer_with_another_basis_is_refused(joined, tmp_path, where):
     other = Basis(0, 99, 100)
-    saved(tmp_path, "auctioneer", "auctioneer", AuctioneerResume(7, numbers((3, 1))), basis=other if where == "disk" else BASIS)
+    saved(tmp_path, "auctioneer", "auctioneer", auctioneer_resume(7, numbers((3, 1))), basis=other if where == "disk" else BASIS)
     one = joined("auctioneer")
     if where == "broker":
         one.link.comes(BASIS_TOPIC, basis_payload(basis=other))
@@ -170,19 +174,19 @@ def test_nothing_begins_before_all_that_the_broker_retains_has_come(joined):
     one.link.comes(BASIS_TOPIC, basis_payload())
     one.turned()
     assert one.service is None
-    one.link.comes("market/house/resume", DeviceResume(4, 2, OFFER).to_bytes())
+    one.link.comes("market/house/resume", device_resume(4, 2, OFFER).to_bytes())
     one.link.settles()
     one.turned()
-    assert one.service.read == [DeviceResume(4, 2, OFFER).to_bytes()]
+    assert one.service.read == [device_resume(4, 2, OFFER).to_bytes()]
 
 
-@pytest.mark.parametrize(("on_disk", "at_broker", "due"), [(4, 4, "disk"), (5, 4, "disk"), (4, 5, "broker"), (None, 1, "broker")])
+@pytest.mark.parametrize(("on_disk", "at_broker", "due"), [(4, 4, "disk"), (6, 4, "disk"), (4, 6, "broker"), (None, 2, "broker")])
 def test_the_resume_with_the_greater_number_counts_and_the_disk_among_equals(joined, tmp_path, on_disk, at_broker, due):
     if on_disk is not None:
-        saved(tmp_path, "device", "house", DeviceResume(on_disk, 7, OFFER))
-    broker = DeviceResume(at_broker, 2, OFFER)
+        saved(tmp_path, "device", "house", device_resume(on_disk, 7, OFFER))
+    broker = device_resume(at_broker, 2, OFFER)
     one = joined("device").begun(("market/house/resume", broker.to_bytes()))
-    used = broker if due == "broker" else DeviceResume(on_disk, 7, OFFER)
+    used = broker if due == "broker" else device_resume(on_disk, 7, OFFER)
     assert one.service.read == [used.to_bytes()]
     assert one.stored() == used.to_bytes()
     assert one.link.newest["market/house/resume"].payload == used.to_bytes()
@@ -190,7 +194,7 @@ def test_the_resume_with_the_greater_number_counts_and_the_disk_among_equals(joi
 
 def test_a_resume_of_another_session_or_of_another_form_is_not_taken(joined):
     one = joined("device")
-    one.link.comes("market/house/resume", DeviceResume(4, 2, OFFER).to_bytes(), OF_LATER)
+    one.link.comes("market/house/resume", device_resume(4, 2, OFFER).to_bytes(), OF_LATER)
     one.begun()
     assert one.service.read == [b""]
     other = joined("relay").begun(("market/street/resume", b"nonsense"))
@@ -213,17 +217,17 @@ def test_a_bid_that_is_none_says_nothing(joined, payload):
 
 
 def test_an_old_copy_of_a_resume_is_refused(joined, tmp_path):
-    saved(tmp_path, "device", "house", DeviceResume(3, 2, OFFER))
+    saved(tmp_path, "device", "house", device_resume(2, 2, OFFER))
     one = joined("device")
     one.link.comes("market/street/bid/2", gone(2, 4).to_bytes())
     one.link.comes(BASIS_TOPIC, basis_payload())
     one.link.settles()
-    with pytest.raises(NodeRefused, match="has given number 4, and the newest Resume here has 3: .* is an old copy"):
+    with pytest.raises(NodeRefused, match="has given number 4, and the newest Resume here has 2: .* is an old copy"):
         one.turned()
 
 
 def test_a_damaged_file_ends_the_node(joined, tmp_path):
-    saved(tmp_path, "device", "house", DeviceResume(3, 2, OFFER))
+    saved(tmp_path, "device", "house", device_resume(2, 2, OFFER))
     path = tmp_path / "device" / f"{SESSION.id}.resume"
     path.write_bytes(path.read_bytes()[:-1])
     one = joined("device")
@@ -234,7 +238,7 @@ def test_a_damaged_file_ends_the_node(joined, tmp_path):
 
 
 def test_a_stored_resume_of_another_basis_is_refused(joined, tmp_path):
-    saved(tmp_path, "device", "house", DeviceResume(3, 2, (3, 2, 1)), basis=Basis(0, 9, 4))
+    saved(tmp_path, "device", "house", device_resume(3, 2, (3, 2, 1)), basis=Basis(0, 9, 4))
     one = joined("device")
     one.link.comes(BASIS_TOPIC, basis_payload())
     one.link.settles()
@@ -242,23 +246,33 @@ def test_a_stored_resume_of_another_basis_is_refused(joined, tmp_path):
         one.turned()
 
 
-@pytest.mark.parametrize("limits", [(-1000, 999), (-999, 1000), None])
-def test_a_relay_keeps_its_limits_in_a_session(joined, tmp_path, limits):
-    """Within other limits it would send its last bid again with other demands. A Resume of an earlier version tells no limits."""
-    saved(tmp_path, "relay", "street", RelayResume(2, 1, 1, numbers((1, 1))), limits=limits)
+# A relay of -1000 to 1000 watts, with limits that do not change, whose Resume is of these terms.
+OTHER_TERMS = [
+    ((-1000, 999, 0), "the limits are -1000 to 1000 watts, and in session .* they were -1000 to 999 watts: bring them back"),
+    ((-999, 1000, 0), "they were -999 to 1000 watts"),
+    ((-1000, 1000, 256), "they were -1000 to 1000 watts, which may change by child 256"),
+]
+
+
+@pytest.mark.parametrize("where", ["disk", "broker"])
+@pytest.mark.parametrize(("terms", "why"), OTHER_TERMS)
+def test_a_relay_keeps_its_terms_in_a_session(joined, tmp_path, where, terms, why):
+    """Within other limits it would send its last bid again with other demands."""
+    resume = relay_resume(2, 1, 1, numbers((1, 2)), terms)
+    one = None
+    if where == "disk":
+        saved(tmp_path, "relay", "street", resume)
     one = joined("relay")
     one.link.comes(BASIS_TOPIC, basis_payload())
+    if where == "broker":
+        one.link.comes("market/street/resume", resume.to_bytes())
     one.link.settles()
-    if limits is None:
-        one.turned()
-        assert (one.node.session, one.node.serving.last) == (SESSION, 2)
-        return
-    with pytest.raises(NodeRefused, match=rf"-1000 to 1000 watts, .* {limits[0]} to {limits[1]} watts: bring them back"):
+    with pytest.raises(OtherTerms, match=why):
         one.turned()
 
 
 def test_a_relay_may_change_its_limits_in_a_later_session(joined, tmp_path):
-    saved(tmp_path, "relay", "street", RelayResume(2, 1, 1, numbers((1, 1))), limits=(-1000, 999))
+    saved(tmp_path, "relay", "street", relay_resume(2, 1, 1, numbers((1, 2)), (-1000, 999, 0)))
     one = joined("relay")
     one.link.comes(BASIS_TOPIC, basis_payload(LATER))
     one.link.settles()
@@ -266,17 +280,88 @@ def test_a_relay_may_change_its_limits_in_a_later_session(joined, tmp_path):
     assert (one.node.session, one.node.serving.last) == (LATER, 0)
 
 
-def test_a_relay_stores_its_limits_with_its_resume(joined):
-    one = joined("relay", floor=-7).begun(("market/street/bid/1", bid(1, 1, *OFFER).to_bytes()))
-    one.writes(RelayResume(1, 0, 0, numbers((1, 1))))
-    assert one.node._store.load(SESSION).limits == (-7, 1000)
+def test_a_resume_that_the_service_refuses_ends_the_node(joined, tmp_path):
+    """Hello has 11 bytes: a fault there is one of the Resume."""
+    saved(tmp_path, "relay", "street", relay_resume(2, 1, 1, numbers((1, 2))))
+    one = joined("relay").begun()
+    with pytest.raises(OtherTerms, match="the service refuses the Resume of session 0123456789abcdef"):
+        one.writes(Fault(11))
+
+
+# Another version.
+
+
+def of_version_1(payload):
+    """A message of JSON without what the first form lacks."""
+    told = json.loads(payload)
+    return json.dumps({name: it for name, it in told.items() if name not in ("version", "validity", "heartbeat", "grace")}).encode()
+
+
+def first_form(path):
+    """Makes a stored Resume one of the first form."""
+    data = path.read_bytes()
+    path.write_bytes(data.replace(b"cogmaula resume 2", b"cogmaula resume 1", 1))
+
+
+def test_an_auctioneer_with_a_resume_of_the_first_form_has_to_begin_a_new_session(joined, tmp_path):
+    saved(tmp_path, "auctioneer", "auctioneer", auctioneer_resume(7, numbers((3, 1))))
+    first_form(tmp_path / "auctioneer" / f"{SESSION.id}.resume")
+    one = joined("auctioneer")
+    one.link.settles()
+    with pytest.raises(OtherTerms, match=f"session {SESSION.id} is of the first form .* begin a new session by --new-session"):
+        one.turned()
+
+
+def test_an_auctioneer_with_a_resume_of_the_first_form_begins_a_new_session_if_that_is_asked(joined, tmp_path):
+    saved(tmp_path, "auctioneer", "auctioneer", auctioneer_resume(7, numbers((3, 1))))
+    first_form(tmp_path / "auctioneer" / f"{SESSION.id}.resume")
+    assert joined("auctioneer", new_session=True).begun().node.session.order > SESSION.order
+
+
+def test_an_auctioneer_at_a_broker_of_the_first_form_has_to_begin_a_new_session(joined):
+    one = joined("auctioneer")
+    one.link.comes(BASIS_TOPIC, of_version_1(basis_payload()))
+    one.link.settles()
+    with pytest.raises(OtherTerms, match="begin a new session by --new-session"):
+        one.turned()
+
+
+def test_a_node_waits_for_a_session_of_its_version(joined):
+    one = joined("device")
+    one.link.comes(BASIS_TOPIC, of_version_1(basis_payload()))
+    one.link.settles()
+    one.turned()
+    assert one.service is None
+    assert f"waits: session {SESSION.id} is of version 1, and this node of 2" in one.said[-1]
+    one.link.comes(BASIS_TOPIC, basis_payload(LATER))
+    one.turned()
+    assert one.node.session == LATER
+
+
+@pytest.mark.parametrize("where", ["disk", "broker"])
+def test_a_resume_of_the_first_form_in_this_session_is_refused(joined, tmp_path, where):
+    if where == "disk":
+        saved(tmp_path, "device", "house", device_resume(2, 2, OFFER))
+        first_form(tmp_path / "device" / f"{SESSION.id}.resume")
+    one = joined("device")
+    one.link.comes(BASIS_TOPIC, basis_payload())
+    if where == "broker":
+        one.link.comes("market/house/resume", bytes.fromhex("0C 00000001 00000007 000001F4 FFFFFED4"), OF_SESSION)
+    one.link.settles()
+    with pytest.raises(OtherTerms, match="has a Resume of the first form, in session 0123456789abcdef: give the node another child number"):
+        one.turned()
+
+
+def test_a_parent_of_another_version_is_told(joined):
+    one = joined("device").begun(("market/street/state", of_version_1(state_payload("a" * 16, MOMENT))))
+    assert "street is of version 1, and this node of 2: install this version there" in one.said
 
 
 def test_a_stored_frame_that_is_no_resume_is_refused(joined, tmp_path):
-    saved(tmp_path, "device", "house", bid(2, 1, *OFFER))
+    saved(tmp_path, "device", "house", bid(2, 2, *OFFER))
     one = joined("device")
     one.link.comes(BASIS_TOPIC, basis_payload())
-    one.link.comes("market/house/resume", DeviceResume(4, 2, OFFER).to_bytes())
+    one.link.comes("market/house/resume", device_resume(4, 2, OFFER).to_bytes())
     one.link.settles()
     with pytest.raises(NodeRefused, match="has no Resume of this node"):
         one.turned()
@@ -286,20 +371,20 @@ def test_a_stored_frame_that_is_no_resume_is_refused(joined, tmp_path):
 
 
 def test_a_node_follows_a_later_session_and_counts_from_1_in_it(joined, tmp_path):
-    saved(tmp_path, "relay", "street", RelayResume(6, 0, 0, numbers((1, 1))))
+    saved(tmp_path, "relay", "street", relay_resume(6, 0, 0, numbers((1, 1))))
     one = joined("relay").begun(("market/street/bid/1", bid(1, 1, *OFFER).to_bytes()))
     before = one.service
-    one.link.comes("market/street/bid/2", bid(2, 1, *OFFER).to_bytes(), OF_LATER)
+    one.link.comes("market/street/bid/2", bid(2, 2, *OFFER).to_bytes(), OF_LATER)
     one.link.comes(BASIS_TOPIC, basis_payload(LATER))
     one.turned()
     assert before.is_closed
     assert one.node.session == LATER
-    assert one.service.read[:2] == [b"", bid(2, 1, *OFFER).to_bytes()]
+    assert one.service.read[:2] == [b"", bid(2, 2, *OFFER).to_bytes()]
     assert f"session {SESSION.id} is over: session {LATER.id} has begun" in one.said
-    one.writes(RelayResume(1, 0, 0, numbers((2, 1))), bid(3, 1, *OFFER))
+    one.writes(relay_resume(1, 0, 0, numbers((2, 2))), bid(3, 1, *OFFER))
     assert dict(one.link.newest["market/auctioneer/bid/3"].properties)["session"] == LATER.id
-    assert one.stored(LATER) == RelayResume(1, 0, 0, numbers((2, 1))).to_bytes()
-    assert one.stored(SESSION) == RelayResume(6, 0, 0, numbers((1, 1))).to_bytes()
+    assert one.stored(LATER) == relay_resume(1, 0, 0, numbers((2, 2))).to_bytes()
+    assert one.stored(SESSION) == relay_resume(6, 0, 0, numbers((1, 1))).to_bytes()
 
 
 def test_a_node_does_not_go_back_to_an_older_session(joined):
@@ -314,7 +399,7 @@ def test_a_node_does_not_go_back_to_an_older_session(joined):
 
 
 def test_a_node_that_starts_waits_if_the_broker_tells_of_an_older_session(joined, tmp_path):
-    saved(tmp_path, "relay", "street", RelayResume(6, 0, 0, numbers((1, 1))), session=LATER)
+    saved(tmp_path, "relay", "street", relay_resume(6, 0, 0, numbers((1, 1))), session=LATER)
     one = joined("relay").begun()
     assert one.service is None
     assert "older than fedcba9876543210 on disk" in one.said[-1]
@@ -335,7 +420,7 @@ def test_the_same_session_with_another_basis_is_refused(joined):
 
 def test_after_a_lost_connection_the_newest_of_all_is_published_again(joined):
     one = joined("relay").begun(("market/street/bid/1", bid(1, 1, *OFFER).to_bytes()))
-    one.writes(RelayResume(1, 0, 0, numbers((1, 1))), bid(3, 1, *OFFER))
+    one.writes(relay_resume(1, 0, 0, numbers((1, 1))), bid(3, 1, *OFFER))
     count = len(one.link.sent)
     one.link.comes(BASIS_TOPIC, basis_payload())
     one.link.settles()
@@ -347,14 +432,14 @@ def test_after_a_lost_connection_the_newest_of_all_is_published_again(joined):
 TAKEN_OVER = [
     ("market/house/state", state_payload("b" * 16, "2126-01-31T06:30:00.000Z"), "another process runs as house since 2126"),
     ("market/house/state", state_payload("b" * 16, "2126-01-31T06:30:00.000Z", "down"), "another process runs as house"),
-    ("market/house/resume", DeviceResume(5, 2, OFFER).to_bytes(), "house has given number 5, and the newest Resume here has 4"),
-    ("market/street/bid/2", gone(2, 5).to_bytes(), "house has given number 5"),
+    ("market/house/resume", device_resume(6, 2, OFFER).to_bytes(), "house has given number 6, and the newest Resume here has 4"),
+    ("market/street/bid/2", gone(2, 6).to_bytes(), "house has given number 6"),
 ]
 
 
 @pytest.mark.parametrize(("topic", "payload", "why"), TAKEN_OVER)
 def test_the_older_of_two_processes_of_one_name_ends(joined, tmp_path, topic, payload, why):
-    saved(tmp_path, "device", "house", DeviceResume(4, 2, OFFER))
+    saved(tmp_path, "device", "house", device_resume(4, 2, OFFER))
     one = joined("device").begun()
     one.link.comes(topic, payload)
     with pytest.raises(NodeRefused, match=why):
@@ -365,15 +450,15 @@ HARMLESS = [
     ("market/house/state", state_payload("b" * 16, MOMENT)),
     ("market/house/state", b"nonsense"),
     ("market/house/state", b""),
-    ("market/house/resume", DeviceResume(4, 2, OFFER).to_bytes()),
+    ("market/house/resume", device_resume(4, 2, OFFER).to_bytes()),
     ("market/street/bid/2", bid(2, 4, *OFFER).to_bytes()),
-    ("market/street/bid/2", bid(2, 3, *OFFER).to_bytes()),
+    ("market/street/bid/2", bid(2, 2, *OFFER).to_bytes()),
 ]
 
 
 @pytest.mark.parametrize(("topic", "payload"), HARMLESS)
 def test_what_the_node_itself_or_an_earlier_process_published_does_no_harm(joined, tmp_path, topic, payload):
-    saved(tmp_path, "device", "house", DeviceResume(4, 2, OFFER))
+    saved(tmp_path, "device", "house", device_resume(4, 2, OFFER))
     one = joined("device").begun()
     one.link.comes(topic, payload)
     one.turned()
@@ -385,7 +470,7 @@ def test_what_the_node_itself_or_an_earlier_process_published_does_no_harm(joine
 
 def test_a_device_reads_what_is_for_it_and_its_own_topics(joined):
     of_house = {"market/house/state", "market/house/resume", "market/house/offer", "market/house/setpoint"}
-    of_street = {"market/street/bid/2", "market/street/price/2", "market/street/state"}
+    of_street = {f"market/street/{it}" for it in ("bid/2", "price/2", "lapsed/2", "refused/2", "state", "heartbeat")}
     assert set(joined("device").link.topics) == {"market/basis"} | of_house | of_street
 
 

@@ -4,16 +4,32 @@ from __future__ import annotations
 
 import json
 import time
+from datetime import datetime, timezone
 
 import pytest
-from pretended import BASIS_TOPIC, LATER, MARKED, MOMENT, SESSION, basis_payload, bid, gone, numbers, saved, state_payload
+from pretended import (
+    BASIS_TOPIC,
+    LATER,
+    MARKED,
+    MOMENT,
+    SESSION,
+    auctioneer_resume,
+    basis_payload,
+    bid,
+    device_resume,
+    gone,
+    numbers,
+    price,
+    relay_resume,
+    resume_gone,
+    saved,
+    state_payload,
+)
 
 from cogmaula.cluster import Basis
 from cogmaula.live import NodeRefused, serving
 from cogmaula.live.frames import (
-    AuctioneerResume,
     Clear,
-    DeviceResume,
     Dropped,
     Fault,
     Leave,
@@ -22,16 +38,13 @@ from cogmaula.live.frames import (
     Offer,
     Old,
     OutOfNumbers,
-    Price,
-    RelayResume,
-    ResumeGone,
     Send,
     Setpoint,
     WindowFull,
 )
 from cogmaula.live.page_settings import PageSettings
 
-RELAY_RESUME = RelayResume(1, 0, 0, numbers((1, 1), (2, 4)))
+RELAY_RESUME = relay_resume(1, 0, 0, numbers((1, 1), (2, 4)))
 
 
 # The order of storing and publishing.
@@ -69,9 +82,9 @@ def test_a_relays_resume_waits_until_the_broker_has_the_prices_before_it(joined)
     one.writes(RELAY_RESUME, bid(3, 1, 21, -3))
     one.link.confirm()
     one.turned()
-    passed = RelayResume(1, 1, 7, RELAY_RESUME.numbers)
-    one.writes(Price(1, 1, 7, 1), Price(2, 4, 7, 1), passed)
-    assert one.link.of("market/street/price/2") == [Price(2, 4, 7, 1).to_bytes()]
+    passed = relay_resume(1, 1, 7, RELAY_RESUME.numbers)
+    one.writes(price(1, 1, 7, 1), price(2, 4, 7, 1), passed)
+    assert one.link.of("market/street/price/2") == [price(2, 4, 7, 1).to_bytes()]
     assert one.stored() == RELAY_RESUME.to_bytes(), "the prices are not at the broker"
     one.link.confirm()
     one.turned()
@@ -80,22 +93,22 @@ def test_a_relays_resume_waits_until_the_broker_has_the_prices_before_it(joined)
 
 def test_a_devices_resume_waits_until_the_broker_has_the_setpoint_before_it(joined):
     one = joined("device").begun()
-    one.writes(DeviceResume(1, 0, (500, -300)), bid(2, 1, 500, -300), Setpoint(1, 7, 1, -300), DeviceResume(1, 7, (500, -300)))
-    assert one.stored() == DeviceResume(1, 0, (500, -300)).to_bytes()
+    one.writes(device_resume(1, 0, (500, -300)), bid(2, 1, 500, -300), Setpoint(1, 7, 1, -300), device_resume(1, 7, (500, -300)))
+    assert one.stored() == device_resume(1, 0, (500, -300)).to_bytes()
     one.link.confirm()
     one.turned()
-    assert one.stored() == DeviceResume(1, 7, (500, -300)).to_bytes()
+    assert one.stored() == device_resume(1, 7, (500, -300)).to_bytes()
 
 
 def test_prices_that_come_meanwhile_are_passed_over_for_the_newest(joined):
     """A service is fed a price, and asked to send, only once the broker has all that answers the price before."""
     one = joined("relay").begun(("market/street/bid/1", bid(1, 1, 5, -3).to_bytes()))
-    passed = RelayResume(1, 1, 7, numbers((1, 1)))
-    one.writes(NotChanged(), Price(1, 1, 7, 1), passed)
+    passed = relay_resume(1, 1, 7, numbers((1, 1)))
+    one.writes(NotChanged(), price(1, 1, 7, 1), passed)
     fed = len(one.service.read)
     time.sleep(0.02)
     for index in (8, 9):
-        one.link.comes("market/auctioneer/price/3", Price(3, 1, index, 1).to_bytes())
+        one.link.comes("market/auctioneer/price/3", price(3, 1, index, 1).to_bytes())
         one.turned()
     one.link.comes("market/street/bid/1", bid(1, 2, 6, -3).to_bytes())
     one.turned()
@@ -103,30 +116,30 @@ def test_prices_that_come_meanwhile_are_passed_over_for_the_newest(joined):
     one.link.confirm()
     one.turned()
     assert one.stored() == passed.to_bytes()
-    assert one.service.read[fed + 1 :] == [Price(3, 1, 9, 1).to_bytes(), Send().to_bytes()]
+    assert one.service.read[fed + 1 :] == [price(3, 1, 9, 1).to_bytes(), Send().to_bytes()]
     one.turned()
     assert len(one.service.read) == fed + 3, "each once"
 
 
 def test_the_price_that_was_passed_over_is_fed_to_a_service_that_starts_anew(joined, monkeypatch):
     one = joined("relay").begun(("market/street/bid/1", bid(1, 1, 5, -3).to_bytes()))
-    one.writes(Price(1, 1, 7, 1), RELAY_RESUME)
-    one.link.comes("market/auctioneer/price/3", Price(3, 1, 8, 1).to_bytes())
+    one.writes(price(1, 1, 7, 1), RELAY_RESUME)
+    one.link.comes("market/auctioneer/price/3", price(3, 1, 8, 1).to_bytes())
     one.turned()
-    assert Price(3, 1, 8, 1).to_bytes() not in one.service.read
+    assert price(3, 1, 8, 1).to_bytes() not in one.service.read
     one.service.ends()
     monkeypatch.setattr(one.node.serving, "_born", -60)
     one.turned()
     monkeypatch.setattr(one.node.serving, "_restart_at", 0)
     one.turned()
-    assert one.service.read.count(Price(3, 1, 8, 1).to_bytes()) == 1
+    assert one.service.read.count(price(3, 1, 8, 1).to_bytes()) == 1
 
 
 def test_a_price_is_no_answer_to_a_relay_that_was_asked_to_send(joined):
     one = joined("relay").begun(("market/street/bid/1", bid(1, 1, 5, -3).to_bytes()))
     assert one.service.read[-1] == Send().to_bytes()
     one.link.confirms = True
-    one.writes(Price(1, 1, 7, 1), RELAY_RESUME)
+    one.writes(price(1, 1, 7, 1), RELAY_RESUME)
     one.link.comes("market/street/bid/1", bid(1, 2, 6, -3).to_bytes())
     time.sleep(0.02)
     one.turned()
@@ -139,7 +152,7 @@ def test_a_price_is_no_answer_to_a_relay_that_was_asked_to_send(joined):
 
 def test_what_a_service_wrote_and_was_not_handled_is_lost_with_it(joined):
     one = joined("relay").begun(("market/street/bid/1", bid(1, 1, 5, -3).to_bytes()))
-    one.writes(Price(1, 1, 7, 1), RELAY_RESUME, bid(3, 1, 21, -3))
+    one.writes(price(1, 1, 7, 1), RELAY_RESUME, bid(3, 1, 21, -3))
     before = one.service
     before.ends()
     one.turned()
@@ -170,9 +183,9 @@ def test_the_state_tells_the_place_and_the_limits(joined, sort, more, due):
 
 def test_a_service_that_ends_starts_anew_from_its_newest_resume_with_all_that_it_hears(joined):
     one = joined("relay").begun(("market/street/bid/1", bid(1, 1, 5, -3).to_bytes()))
-    one.link.comes("market/auctioneer/price/3", Price(3, 1, 7, 1).to_bytes())
+    one.link.comes("market/auctioneer/price/3", price(3, 1, 7, 1).to_bytes())
     one.turned()
-    assert one.service.read == [b"", bid(1, 1, 5, -3).to_bytes(), Send().to_bytes(), Price(3, 1, 7, 1).to_bytes()]
+    assert one.service.read == [b"", bid(1, 1, 5, -3).to_bytes(), Send().to_bytes(), price(3, 1, 7, 1).to_bytes()]
     one.writes(RELAY_RESUME, bid(3, 1, 21, -3))
     before = one.service
     before.ends("a signal ended it: SIGKILL")
@@ -183,7 +196,7 @@ def test_a_service_that_ends_starts_anew_from_its_newest_resume_with_all_that_it
     time.sleep(0.6)
     one.turned()
     assert one.service is not before
-    assert one.service.read[:3] == [RELAY_RESUME.to_bytes(), bid(1, 1, 5, -3).to_bytes(), Price(3, 1, 7, 1).to_bytes()]
+    assert one.service.read[:3] == [RELAY_RESUME.to_bytes(), bid(1, 1, 5, -3).to_bytes(), price(3, 1, 7, 1).to_bytes()]
     assert json.loads(one.link.of("market/street/state")[-1])["state"] == "up"
 
 
@@ -219,7 +232,7 @@ def test_a_service_that_cannot_be_started_is_told(joined, monkeypatch):
 def test_a_service_that_does_not_answer_is_ended(joined, monkeypatch, sort):
     one = joined(sort).begun()
     if sort == "auctioneer":
-        one.link.comes("market/auctioneer/bid/1", bid(1, 1, 5, -3).to_bytes(), [("session", one.node.session.id)])
+        one.link.comes("market/auctioneer/bid/1", bid(1, 1, 5, -3).to_bytes(), [("session", one.node.session.id), ("version", "2")])
     else:
         one.control.offer(b'{"power": [5, -3]}')
     one.turned()
@@ -258,15 +271,15 @@ def test_which_topics_need_not_all_be_read_back(joined, sort, due, page, are_all
 def test_an_auctioneer_clears_after_news_and_tells_prices_with_time_and_session(joined):
     one = joined("auctioneer").begun()
     session = one.node.session
-    own = [("session", session.id)]
+    own = [("session", session.id), ("version", "2")]
     one.link.comes("market/auctioneer/bid/3", bid(3, 1, 21, -3).to_bytes(), own)
     one.turned()
     assert one.service.read == [b"", bid(3, 1, 21, -3).to_bytes(), Clear().to_bytes()]
-    resume = AuctioneerResume(1, numbers((3, 1)))
-    one.writes(resume, Price(3, 1, 1, 1))
-    price = one.link.newest["market/auctioneer/price/3"]
-    assert price.payload == Price(3, 1, 1, 1).to_bytes()
-    assert dict(price.properties) == {"time": one.node._store.load(session).time, "session": session.id}
+    resume = auctioneer_resume(1, numbers((3, 1)))
+    one.writes(resume, price(3, 1, 1, 1))
+    told = one.link.newest["market/auctioneer/price/3"]
+    assert told.payload == price(3, 1, 1, 1).to_bytes()
+    assert dict(told.properties) == {"time": one.node._store.load(session).time, "session": session.id, "version": "2"}
     assert one.stored(session) == resume.to_bytes()
 
 
@@ -301,36 +314,36 @@ def test_no_number_is_left(joined):
 
 def test_a_child_that_left_is_told_no_price_and_its_retained_price_is_cleared(joined):
     one = joined("relay").begun(("market/street/bid/1", bid(1, 1, 5, -3).to_bytes()))
-    one.writes(Price(1, 1, 7, 1))
+    one.writes(price(1, 1, 7, 1))
     one.link.comes("market/street/bid/1", gone(1, 2).to_bytes())
     one.turned()
-    one.writes(Price(1, 1, 8, 1))
-    assert one.link.of("market/street/price/1") == [Price(1, 1, 7, 1).to_bytes(), b""]
+    one.writes(price(1, 1, 8, 1))
+    assert one.link.of("market/street/price/1") == [price(1, 1, 7, 1).to_bytes(), b""]
     one.link.comes("market/street/bid/1", bid(1, 3, 5, -3).to_bytes())
     one.turned()
-    one.writes(Price(1, 3, 9, 0))
-    assert one.link.of("market/street/price/1")[-1] == Price(1, 3, 9, 0).to_bytes()
+    one.writes(price(1, 3, 9, 0))
+    assert one.link.of("market/street/price/1")[-1] == price(1, 3, 9, 0).to_bytes()
 
 
 def test_an_older_price_does_not_take_the_place_of_a_newer_one(joined):
     one = joined("relay").begun(("market/street/bid/1", bid(1, 1, 5, -3).to_bytes()))
-    one.writes(Price(1, 1, 7, 1), Price(1, 1, 6, 0), Price(1, 1, 7, 1))
-    assert one.link.of("market/street/price/1") == [Price(1, 1, 7, 1).to_bytes()] * 2
+    one.writes(price(1, 1, 7, 1), price(1, 1, 6, 0), price(1, 1, 7, 1))
+    assert one.link.of("market/street/price/1") == [price(1, 1, 7, 1).to_bytes()] * 2
 
 
 def test_prices_that_the_broker_retains_are_kept_if_the_child_is_there(joined):
     one = joined("relay").begun(
-        ("market/street/price/1", Price(1, 1, 7, 1).to_bytes()),
-        ("market/street/price/2", Price(2, 4, 7, 1).to_bytes()),
+        ("market/street/price/1", price(1, 1, 7, 1).to_bytes()),
+        ("market/street/price/2", price(2, 4, 7, 1).to_bytes()),
         ("market/street/bid/2", gone(2, 5).to_bytes()),
     )
-    assert one.link.newest["market/street/price/1"].payload == Price(1, 1, 7, 1).to_bytes()
+    assert one.link.newest["market/street/price/1"].payload == price(1, 1, 7, 1).to_bytes()
     assert dict(one.link.newest["market/street/price/1"].properties) == dict(MARKED)
     assert one.link.newest["market/street/price/2"].payload == b""
     one.link.comes("market/street/price/1", b"")
-    one.link.comes("market/street/price/9", Price(9, 1, 7, 1).to_bytes(), [("session", LATER.id)])
+    one.link.comes("market/street/price/9", price(9, 1, 7, 1).to_bytes(), [("session", LATER.id)])
     one.turned()
-    assert one.link.newest["market/street/price/1"].payload == Price(1, 1, 7, 1).to_bytes()
+    assert one.link.newest["market/street/price/1"].payload == price(1, 1, 7, 1).to_bytes()
     assert one.link.newest["market/street/price/9"].payload == b""
 
 
@@ -373,9 +386,9 @@ def test_topics_of_nobody_are_dropped(joined):
 
 WRONG_PRICES = [
     (b"", MARKED, False),
-    (Price(3, 1, 7, 1).to_bytes(), (), False),
-    (Price(3, 1, 7, 2).to_bytes(), MARKED, True),
-    (Price(4, 1, 7, 1).to_bytes(), MARKED, True),
+    (price(3, 1, 7, 1).to_bytes(), (), False),
+    (price(3, 1, 7, 2).to_bytes(), MARKED, True),
+    (price(4, 1, 7, 1).to_bytes(), MARKED, True),
 ]
 
 
@@ -391,15 +404,15 @@ def test_a_price_that_would_end_the_service_never_reaches_it(joined, payload, pr
 def test_a_relay_passes_the_time_of_the_clearing_on(joined):
     one = joined("relay").begun(("market/street/bid/1", bid(1, 1, 5, -3).to_bytes()))
     for index in (7, 8, 6):
-        one.link.comes("market/auctioneer/price/3", Price(3, 1, index, 1).to_bytes(), [("time", f"time {index}"), ("session", SESSION.id)])
+        one.link.comes("market/auctioneer/price/3", price(3, 1, index, 1).to_bytes(), [("time", f"time {index}"), ("session", SESSION.id)])
         one.turned()
-    assert Price(3, 1, 6, 1).to_bytes() not in one.service.read, "a newer one came"
-    one.writes(Price(1, 1, 7, 1))
+    assert price(3, 1, 6, 1).to_bytes() not in one.service.read, "a newer one came"
+    one.writes(price(1, 1, 7, 1))
     assert dict(one.link.newest["market/street/price/1"].properties)["time"] == "time 7"
-    one.writes(Price(1, 1, 9, 1))
+    one.writes(price(1, 1, 9, 1))
     assert dict(one.link.newest["market/street/price/1"].properties)["time"] == ""
     for index in range(10, 90):
-        one.link.comes("market/auctioneer/price/3", Price(3, 1, index, 1).to_bytes(), [("time", "t"), ("session", SESSION.id)])
+        one.link.comes("market/auctioneer/price/3", price(3, 1, index, 1).to_bytes(), [("time", "t"), ("session", SESSION.id)])
         one.turned()
     assert len(one.node.serving._times) == 64
 
@@ -412,31 +425,33 @@ def test_offers_become_bids_and_prices_become_setpoints(joined):
     one.control.offer(b'{"power": [500, -300]}')
     one.turned()
     assert one.service.read == [b"", Offer((500, -300)).to_bytes()]
-    one.writes(DeviceResume(1, 0, (500, -300)), bid(2, 1, 500, -300))
-    one.link.comes("market/street/price/2", Price(2, 1, 7, 1).to_bytes())
+    one.writes(device_resume(1, 0, (500, -300)), bid(2, 1, 500, -300))
+    one.link.comes("market/street/price/2", price(2, 1, 7, 1).to_bytes())
     one.turned()
-    assert one.service.read[-1] == Price(2, 1, 7, 1).to_bytes()
+    assert one.service.read[-1] == price(2, 1, 7, 1).to_bytes()
     one.writes(Setpoint(1, 7, 1, -300))
     due = {"power": -300, "step": 1, "price": 9, "bid": 1, "clearing": 7, "time": MOMENT}
-    assert [json.loads(it) for it in one.control.told] == [due]
-    assert json.loads(one.link.newest["market/house/setpoint"].payload) == due
+    (told,) = [json.loads(it) for it in one.control.told]
+    assert datetime.fromisoformat(told.pop("until")) > datetime.now(timezone.utc)
+    assert told == due
+    assert one.link.newest["market/house/setpoint"].payload == one.control.told[0]
 
 
 def test_offers_come_by_the_topic_too(joined):
     one = joined("device").begun(("market/house/offer", b'{"power": [500, -300]}'))
     assert one.service.read == [b"", Offer((500, -300)).to_bytes()]
-    one.writes(DeviceResume(1, 0, (500, -300)), bid(2, 1, 500, -300))
+    one.writes(device_resume(1, 0, (500, -300)), bid(2, 1, 500, -300))
     one.link.comes("market/house/offer", b"")
     one.link.comes("market/house/offer", b'{"leave": true}')
     one.turned()
     assert one.service.read[-1] == Leave().to_bytes()
-    one.writes(ResumeGone(2, 0), gone(2, 2))
+    one.writes(resume_gone(2, 0), gone(2, 2))
     assert one.link.of("market/street/bid/2")[-1] == gone(2, 2).to_bytes()
     assert one.link.newest["market/house/setpoint"].payload == b""
 
 
 def test_an_offer_that_the_broker_sends_again_does_not_say_that_the_control_lives(joined):
-    one = joined("device", validity=100).begun(("market/house/offer", b'{"power": [500, -300]}'))
+    one = joined("device", offer_validity=100).begun(("market/house/offer", b'{"power": [500, -300]}'))
     until = one.node.serving.offers._until
     one.link.comes("market/house/offer", b'{"power": [500, -300]}', retained=True)
     one.turned()
@@ -446,31 +461,36 @@ def test_an_offer_that_the_broker_sends_again_does_not_say_that_the_control_live
     assert one.node.serving.offers._until > until
 
 
+def without_until(told):
+    """A setpoint that the control was told, as it is stored."""
+    return json.dumps({name: it for name, it in json.loads(told).items() if name != "until"}).encode()
+
+
 SETPOINT = b'{"power": -300, "clearing": 7, "time": "2026-01-31T06:30:00.000Z"}'
 
 
 def test_a_device_that_comes_back_tells_the_control_its_stored_setpoint_and_not_the_brokers(joined, tmp_path):
-    saved(tmp_path, "device", "house", DeviceResume(1, 6, (500, -300)), setpoint=SETPOINT.decode())
+    saved(tmp_path, "device", "house", device_resume(2, 6, (500, -300)), setpoint=SETPOINT.decode())
     one = joined("device").begun(("market/house/setpoint", b'{"power": 500, "clearing": 6, "time": "t"}'))
-    assert one.control.told == [SETPOINT]
-    assert set(one.link.of("market/house/setpoint")) == {SETPOINT}
-    assert one.service.read == [DeviceResume(1, 6, (500, -300)).to_bytes()]
+    assert [without_until(it) for it in one.control.told] == [SETPOINT]
+    assert set(one.link.of("market/house/setpoint")) == set(one.control.told)
+    assert one.service.read == [device_resume(2, 6, (500, -300)).to_bytes()]
 
 
 def test_a_setpoint_is_stored_before_it_is_told(joined, monkeypatch):
     one = joined("device").begun()
-    one.writes(DeviceResume(1, 0, (500, -300)), bid(2, 1, 500, -300))
+    one.writes(device_resume(1, 0, (500, -300)), bid(2, 1, 500, -300))
     done = []
     save, write = one.node._store.save, one.control.write
     monkeypatch.setattr(one.node._store, "save", lambda it: (done.append(it.setpoint), save(it)))
     monkeypatch.setattr(one.control, "write", lambda it: (done.append("told"), write(it)))
     one.writes(Setpoint(1, 7, 1, -300))
-    assert done == [one.control.told[0].decode(), "told"]
-    assert one.stored() == DeviceResume(1, 0, (500, -300)).to_bytes()
+    assert done == [without_until(one.control.told[0]).decode(), "told"]
+    assert one.stored() == device_resume(1, 0, (500, -300)).to_bytes()
     one.link.confirm()
-    one.writes(DeviceResume(1, 7, (500, -300)))
-    assert one.node._store.newest().setpoint == one.control.told[0].decode()
-    one.writes(ResumeGone(2, 7), gone(2, 2))
+    one.writes(device_resume(1, 7, (500, -300)))
+    assert one.node._store.newest().setpoint == without_until(one.control.told[0]).decode()
+    one.writes(resume_gone(2, 7), gone(2, 2))
     assert one.node._store.newest().setpoint == ""
 
 
@@ -481,8 +501,8 @@ def test_a_setpoint_is_stored_before_it_is_told(joined, monkeypatch):
 def test_a_device_without_a_disk_takes_the_brokers_setpoint_of_its_session(joined, payload, session, told):
     one = joined("device")
     one.link.comes("market/house/setpoint", payload, [("session", session.id)])
-    one.begun(("market/house/resume", DeviceResume(1, 7, (500, -300)).to_bytes()))
-    assert one.control.told == told
+    one.begun(("market/house/resume", device_resume(2, 7, (500, -300)).to_bytes()))
+    assert [without_until(it) for it in one.control.told] == told
 
 
 def test_the_full_window_lets_an_offer_wait(joined):
@@ -497,10 +517,10 @@ def test_the_full_window_lets_an_offer_wait(joined):
 
 
 def test_a_device_told_to_leave_ends_once_the_broker_knows(joined, tmp_path):
-    saved(tmp_path, "device", "house", DeviceResume(4, 2, (5, -3)))
+    saved(tmp_path, "device", "house", device_resume(4, 2, (5, -3)))
     one = joined("device", leave=True).begun(("market/house/offer", b'{"power": [500, -300]}'))
-    assert one.service.read == [DeviceResume(4, 2, (5, -3)).to_bytes(), Leave().to_bytes()]
-    one.writes(bid(2, 4, 5, -3), ResumeGone(5, 2))
+    assert one.service.read == [device_resume(4, 2, (5, -3)).to_bytes(), Leave().to_bytes()]
+    one.writes(bid(2, 4, 5, -3), resume_gone(5, 2))
     one.link.confirm()
     assert not one.node.serving.has_left, "its Gone is not there yet"
     one.writes(gone(2, 5))

@@ -9,12 +9,12 @@ import time
 from datetime import datetime, timedelta, timezone
 
 import pytest
-from pretended import BASIS, LATER, MOMENT, SESSION
+from pretended import BASIS, LATER, MOMENT, SESSION, device_resume, resume_gone
 
 from cogmaula.live.asking import Asking
 from cogmaula.live.control import StandardControl
 from cogmaula.live.errors import BadMessage
-from cogmaula.live.frames import DeviceResume, Leave, Offer, ResumeGone, Setpoint
+from cogmaula.live.frames import Leave, Offer, Setpoint
 from cogmaula.live.messages import BasisMessage, OfferMessage, SetpointMessage, StateMessage, setpoint_bytes
 from cogmaula.live.offers import Offers
 from cogmaula.live.sessions import Session, new_session, time_of, time_text
@@ -92,9 +92,9 @@ def test_an_offer_is_fed_once_and_the_newest_alone_waits():
     one.take(power(4, -3), 1)
     one.take(power(3, -3), 2)
     assert one.due(2) is None, "the first is not answered"
-    one.resumed(DeviceResume(1, 0, (5, -3)))
+    one.resumed(device_resume(1, 0, (5, -3)))
     assert one.due(3) == Offer((3, -3))
-    one.resumed(DeviceResume(2, 0, (3, -3)))
+    one.resumed(device_resume(2, 0, (3, -3)))
     assert one.due(4) is None
     assert one.current == (3, -3)
 
@@ -103,12 +103,12 @@ def test_a_resume_after_a_price_answers_no_offer():
     one, _ = offers()
     one.take(power(5, -3), 0)
     one.due(0)
-    one.resumed(DeviceResume(1, 0, (5, -3)))
+    one.resumed(device_resume(1, 0, (5, -3)))
     one.take(power(4, -3), 1)
     assert one.due(1) == Offer((4, -3))
-    one.resumed(DeviceResume(1, 9, (5, -3)))
+    one.resumed(device_resume(1, 9, (5, -3)))
     assert one.since == 1
-    one.resumed(DeviceResume(2, 9, (4, -3)))
+    one.resumed(device_resume(2, 9, (4, -3)))
     assert one.since is None
     assert one.due(2) is None
 
@@ -118,7 +118,7 @@ def test_the_same_offer_again_is_no_new_bid():
     one.take(power(5, -3), 0)
     one.due(0)
     one.take(power(5, -3), 0)
-    one.resumed(DeviceResume(1, 0, (5, -3)))
+    one.resumed(device_resume(1, 0, (5, -3)))
     one.take(power(5, -3), 0)
     assert one.due(1) is None
 
@@ -144,11 +144,11 @@ def test_a_silent_control_lets_its_device_leave_once():
     one, said = offers(validity=10)
     one.take(power(5, -3), 0)
     one.due(0)
-    one.resumed(DeviceResume(1, 0, (5, -3)))
+    one.resumed(device_resume(1, 0, (5, -3)))
     one.take(power(5, -3), 8)
     assert one.due(18) is None
     assert one.due(18.1) == Leave()
-    one.resumed(ResumeGone(2, 0))
+    one.resumed(resume_gone(2, 0))
     assert one.due(30) is None
     assert len(said) == 1
     assert "silent" in said[0]
@@ -159,7 +159,7 @@ def test_a_silent_control_lets_its_device_leave_once():
 
 def test_an_agent_that_comes_back_has_the_validity_anew():
     one, _ = offers(validity=10)
-    one.begin(DeviceResume(4, 2, (5, -3)), 100)
+    one.begin(device_resume(4, 2, (5, -3)), 100)
     assert one.due(110) is None
     assert one.due(110.1) == Leave()
 
@@ -168,7 +168,7 @@ def test_a_message_may_say_for_how_long_it_holds():
     one, _ = offers()
     one.take(power(5, -3), 0, expiry=7)
     one.due(0)
-    one.resumed(DeviceResume(1, 0, (5, -3)))
+    one.resumed(device_resume(1, 0, (5, -3)))
     assert one.due(7) is None
     assert one.due(7.1) == Leave()
 
@@ -181,7 +181,7 @@ def test_an_offer_is_as_old_as_it_says():
     assert "older than its validity" in said[0]
     one.take(power(5, -3, time=time_text(now - timedelta(seconds=50))), 0)
     assert one.due(0) == Offer((5, -3))
-    one.resumed(DeviceResume(1, 0, (5, -3)))
+    one.resumed(device_resume(1, 0, (5, -3)))
     assert one.due(5) is None
     assert one.due(11) == Leave()
 
@@ -193,9 +193,9 @@ def test_leaving_twice_is_leaving_once():
     one.take(power(5, -3), 0)
     one.due(0)
     one.take(b'{"leave": true}', 0)
-    one.resumed(DeviceResume(1, 0, (5, -3)))
+    one.resumed(device_resume(1, 0, (5, -3)))
     assert one.due(0) == Leave()
-    one.resumed(ResumeGone(2, 0))
+    one.resumed(resume_gone(2, 0))
     one.take(b'{"leave": true}', 0)
     assert one.due(0) is None
     assert one.is_out
@@ -282,7 +282,7 @@ def test_a_message_of_another_form(kind, change, why):
 
 def test_a_state_of_the_version_before_has_no_place():
     told = {"state": "up", "run": "0" * 16, "started": MOMENT, "session": SESSION.id, "time": MOMENT, "why": ""}
-    assert StateMessage.of(json.dumps(told).encode()) == StateMessage("up", "0" * 16, MOMENT, SESSION.id, MOMENT)
+    assert StateMessage.of(json.dumps(told).encode()) == StateMessage("up", "0" * 16, MOMENT, SESSION.id, MOMENT, version=1)
 
 
 def test_a_setpoint_comes_back():

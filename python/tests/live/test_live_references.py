@@ -7,10 +7,10 @@ import json
 import shutil
 
 import pytest
-from pretended import BASIS, Joined
+from pretended import BASIS, Joined, device_resume, resume_gone
 
 from cogmaula.live import BadMessage
-from cogmaula.live.frames import DeviceResume, Leave, Offer, ResumeGone, Setpoint
+from cogmaula.live.frames import Leave, Offer, Setpoint
 from cogmaula.live.messages import LAST_REFERENCE, OfferMessage, with_reference
 from cogmaula.live.offers import Offers
 
@@ -62,7 +62,7 @@ class Made:
         return self
 
     def has(self, number, demands):
-        self.offers.resumed(DeviceResume(number, 0, demands))
+        self.offers.resumed(device_resume(number, 0, demands))
         return self.offers.references
 
 
@@ -105,7 +105,7 @@ def test_what_is_before_the_answered_one_is_let_go():
     made.has(2, LOW)
     made.offers.forget_before(2)
     assert made.offers.references == {2: 2}
-    made.offers.resumed(ResumeGone(3, 0))
+    made.offers.resumed(resume_gone(3, 0))
     assert made.offers.references == {}
 
 
@@ -117,9 +117,9 @@ def test_a_device_tells_and_stores_the_reference(joined):
     one = joined("device").begun()
     one.link.confirms = True
     one.control.offer(offer(HIGH, 17))
-    one.turned().writes(DeviceResume(1, 0, HIGH))
+    one.turned().writes(device_resume(1, 0, HIGH))
     assert one.node._store.newest().references == {1: 17}
-    one.writes(Setpoint(1, 7, 1, -300), DeviceResume(1, 7, HIGH))
+    one.writes(Setpoint(1, 7, 1, -300), device_resume(1, 7, HIGH))
     assert [it["reference"] for it in setpoints(one)] == [17]
     # The same offer under another number: the setpoint comes again with that, and both are on disk.
     one.control.offer(offer(HIGH, 18))
@@ -130,9 +130,9 @@ def test_a_device_tells_and_stores_the_reference(joined):
     assert (stored.references, json.loads(stored.setpoint)["reference"]) == ({1: 18}, 18)
     # An offer that is not answered yet does not change the setpoint of the one before.
     one.control.offer(offer(LOW, 19))
-    one.turned().writes(DeviceResume(2, 7, LOW))
+    one.turned().writes(device_resume(2, 7, LOW))
     assert len(one.control.told) == 2
-    one.writes(Setpoint(1, 8, 0, 500), DeviceResume(2, 8, LOW), Setpoint(2, 9, 1, -700), DeviceResume(2, 9, LOW))
+    one.writes(Setpoint(1, 8, 0, 500), device_resume(2, 8, LOW), Setpoint(2, 9, 1, -700), device_resume(2, 9, LOW))
     assert [it["reference"] for it in setpoints(one)] == [17, 18, 18, 19]
     assert one.node._store.newest().references == {2: 19}
 
@@ -140,11 +140,11 @@ def test_a_device_tells_and_stores_the_reference(joined):
 def test_the_reference_holds_over_a_restart(joined, tmp_path):
     first = joined("device").begun()
     first.control.offer(offer(HIGH, 17))
-    first.turned().writes(DeviceResume(1, 0, HIGH))
+    first.turned().writes(device_resume(2, 0, HIGH))
     shutil.copytree(tmp_path / "device", tmp_path / "again")
     second = Joined("device", tmp_path / "again").begun()
-    assert second.service.read == [DeviceResume(1, 0, HIGH).to_bytes()]
-    second.writes(Setpoint(1, 7, 1, -300))
+    assert second.service.read == [device_resume(2, 0, HIGH).to_bytes()]
+    second.writes(Setpoint(2, 7, 1, -300))
     assert [it["reference"] for it in setpoints(second)] == [17]
     second.node._store.close()
 
@@ -152,18 +152,18 @@ def test_the_reference_holds_over_a_restart(joined, tmp_path):
 def test_a_device_that_leaves_has_none(joined):
     one = joined("device").begun()
     one.control.offer(offer(HIGH, 17))
-    one.turned().writes(DeviceResume(1, 0, HIGH))
+    one.turned().writes(device_resume(1, 0, HIGH))
     one.control.offer(b'{"leave": true}')
     one.turned()
     assert one.service.read[-1] == Leave().to_bytes()
-    one.writes(ResumeGone(2, 0))
+    one.writes(resume_gone(2, 0))
     assert one.node._store.newest().references == {}
 
 
 def test_a_file_of_before_has_none(joined):
     one = joined("device").begun()
     one.control.offer(offer(HIGH, 17))
-    one.turned().writes(DeviceResume(1, 0, HIGH))
+    one.turned().writes(device_resume(1, 0, HIGH))
     path = one.node._store.path(one.node.session)
     first, _, line, frame = path.read_bytes().split(b"\n", 3)
     told = json.loads(line)
@@ -181,6 +181,6 @@ def test_the_resume_and_the_reference_are_stored_in_one_piece(joined, monkeypatc
     saved = []
     monkeypatch.setattr(one.node._store, "save", saved.append)
     one.control.offer(offer(HIGH, 17))
-    one.turned().writes(DeviceResume(1, 0, HIGH), Setpoint(1, 7, 1, -300), DeviceResume(1, 7, HIGH))
+    one.turned().writes(device_resume(1, 0, HIGH), Setpoint(1, 7, 1, -300), device_resume(1, 7, HIGH))
     assert [it.references for it in saved] == [{1: 17}] * 3
-    assert saved[0].frame == DeviceResume(1, 0, HIGH).to_bytes()
+    assert saved[0].frame == device_resume(1, 0, HIGH).to_bytes()

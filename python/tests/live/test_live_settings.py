@@ -20,7 +20,7 @@ parent = "street"
 child = 2
 state = "/var/lib/cogmaula/house"
 live = "/usr/lib/market/live"
-validity = 300
+offer_validity = 300
 
 [basis]
 min = 0
@@ -47,7 +47,7 @@ def test_a_whole_file(tmp_path):
         "broker.example", prefix="towns/delft", user="house", password_file="/etc/cogmaula/password", ca="/etc/cogmaula/ca.crt"
     )
     due = Settings(
-        "device", "house", "/var/lib/cogmaula/house", BASIS, "/usr/lib/market/live", "street", 2, validity=300, broker=broker
+        "device", "house", "/var/lib/cogmaula/house", BASIS, "/usr/lib/market/live", "street", 2, offer_validity=300, broker=broker
     )
     assert settings_of("device", read_toml(written(tmp_path, WHOLE))) == due
     assert due.broker.address == "broker.example:8883"
@@ -91,13 +91,18 @@ MISTAKES = [
     ("child = 0", "", "child is 0: give 1 to 256"),
     ("child = 257", "", "child is 257"),
     ('parent = "house"', "", "parent is the node itself"),
-    ("validity = 0", "", "validity is 0: give 0.01 seconds or more"),
+    ("offer_validity = 0", "", "offer_validity is 0: give 0.01 seconds or more"),
     ('period = "day"', "", "node.period is 'day': give a number"),
     ("floor = 1", "", "floor and ceiling are 1 and 1000000000"),
     ("ceiling = -1", "", "floor and ceiling are"),
     ("colour = 1", "", "node.colour is not known: basis, broker, ceiling, child"),
     ("new_session = true", "", "new_session is for an auctioneer, and leave for a device"),
-    ('sort = "relay"', "", "node has a member sort, basis, broker or page"),
+    ("validity = 300", "", "validity of a device is offer_validity now: write that"),
+    ("grace = 300", "", "validity, heartbeat and grace are the auctioneer's"),
+    ("limits_from = true", "", "limits_from is for a relay"),
+    ("giver = 257", "", "giver is 257: give 1 to 256"),
+    ("fallback = 1000000001", "", "fallback is 1000000001"),
+    ('sort = "relay"', "", "node has a member sort, basis, broker, page or children"),
     ("", "steps = 1", "give 2 to 1000 steps"),
     ("", "max = 0", "from min to a greater max"),
     ("", "min = 1\nsteps = 4", "max - min has to be a multiple of steps - 1"),

@@ -1,0 +1,94 @@
+"""What a device's control is told: its setpoint and until when that holds, and its fallback while the market is silent."""
+
+from __future__ import annotations
+
+from collections.abc import Callable
+
+from .control import Control
+from .frames import Setpoint
+from .keeping import Keeping
+from .messages import SilentMessage, back_bytes, setpoint_bytes, with_reference, with_until
+from .offers import Offers
+from .sessions import now_text
+from .settings import Settings
+from .silence import Silence
+
+
+class Controlling:
+    """The control of one device. All calls are of the node's one thread; times are seconds of a clock that only rises."""
+
+    def __init__(
+        self,
+        settings: Settings,
+        keeping: Keeping,
+        offers: Offers,
+        silence: Silence,
+        control: Control | None,
+        say: Callable[[str], None],
+    ) -> None:
+        """Takes what the node has."""
+        self._settings = settings
+        self._keeping = keeping
+        self._offers = offers
+        self._silence = silence
+        self._control = control
+        self._say = say
+        # The stored setpoint and the heartbeat that the control was told last.
+        self._told: tuple[str, str] | None = None
+        self.is_silent = False
+
+    def begin(self) -> None:
+        """Begins a session: the stored setpoint is told anew."""
+        self._told = None
+
+    def setpoint(self, setpoint: Setpoint, moment: str, now: float, has_bid: bool) -> None:
+        """Stores a setpoint and then tells it, so that after a restart the control is told none that is older.
+
+        moment: when the market cleared
+        """
+        reference = self._offers.references.get(setpoint.number)
+        told = setpoint_bytes(setpoint, self._settings.basis, moment, reference)
+        self._offers.forget_before(setpoint.number)
+        self._keeping.change(setpoint=told.decode(), references=self._offers.references)
+        self._silence.counts(setpoint.number)
+        self.tick(now, has_bid)
+
+    def keep_references(self, last: int) -> None:
+        """Stores the reference of the last offer, which the control made again."""
+        stored = self._keeping.stored
+        assert stored is not None
+        references = self._offers.references
+        self._keeping.change(setpoint=with_reference(stored.setpoint, last, references.get(last)), references=references)
+
+    def tick(self, now: float, has_bid: bool) -> None:
+        """Tells what is news. `has_bid` says whether the node has a bid at its parent, which it renews."""
+        is_silent = self._silence.is_silent(now, has_bid)
+        if is_silent:
+            if not self.is_silent and not self._offers.is_out:
+                self.is_silent = True
+                self._tell_silence()
+            return
+        if self.is_silent:
+            self.is_silent, self._told = False, None
+            self._say("the market is back")
+            self._write(back_bytes(self._silence.newest or now_text()))
+        stored = self._keeping.stored
+        if stored is None or not stored.setpoint:
+            return
+        due = stored.setpoint, self._silence.newest
+        if due != self._told:
+            self._told = due
+            told = with_until(stored.setpoint, self._silence.until)
+            self._write(told)
+            self._keeping.publish(self._settings.own_topic("setpoint"), told, now_text())
+
+    def _tell_silence(self) -> None:
+        silence = self._silence
+        self._say(f"the market is silent: {silence.why}. The control is told its fallback, {self._settings.fallback} W")
+        told = SilentMessage(silence.since, self._settings.fallback, silence.why).to_bytes()
+        self._write(told)
+        self._keeping.publish(self._settings.own_topic("setpoint"), told, now_text())
+
+    def _write(self, told: bytes) -> None:
+        if self._control is not None:
+            self._control.write(told)

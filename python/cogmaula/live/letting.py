@@ -1,0 +1,195 @@
+"""What a parent does with its children: it hears their bids, bounds them, lets devices go, and lets them come back."""
+
+from __future__ import annotations
+
+import json
+from collections.abc import Callable
+
+from .broker import Link, Message
+from .children import Children
+from .errors import BadMessage, BadSettings
+from .frames import AuctioneerResume, Bound, Expire, Gone, Old, RelayResume, TooMuch
+from .keeping import Keeping
+from .lapses import Lapses
+from .messages import StateMessage
+from .sessions import now_text
+from .settings import Settings
+from .times import Times
+from .topics import require_name
+
+
+class Letting:
+    """The children of one node. All calls are of the node's one thread; times are seconds of a clock that only rises."""
+
+    def __init__(
+        self,
+        settings: Settings,
+        keeping: Keeping,
+        link: Link,
+        children: Children,
+        say: Callable[[str], None],
+        feed: Callable[[bytes], None],
+        has_news: Callable[[], None],
+    ) -> None:
+        """Takes what the node has. `feed` takes frames for the service, and `has_news` notes that it has to be asked."""
+        self._settings = settings
+        self._keeping = keeping
+        self._link = link
+        self._children = children
+        self._say = say
+        self._feed = feed
+        self._has_news = has_news
+        self.lapses = Lapses()
+        self._numbers: tuple[int, ...] = ()
+        self._are_missed = False
+
+    def begin(self, resume: RelayResume | AuctioneerResume | None, times: Times) -> None:
+        """Begins a session with its Resume."""
+        self.lapses.begin(times)
+        self._numbers = () if resume is None else resume.numbers
+        self._are_missed = resume is not None
+
+    def resumed(self, resume: RelayResume | AuctioneerResume) -> None:
+        """Goes by a newer Resume."""
+        self._numbers = resume.numbers
+
+    @property
+    def _lapsed(self) -> dict[int, int]:
+        """The number under which each child that was let go counts as gone."""
+        return {} if self._keeping.stored is None else dict(self._keeping.stored.lapsed)
+
+    def _is_device(self, child: int) -> bool:
+        """Whether a child may be let go: it is no relay, and not the place in which limits are given."""
+        stored = self._keeping.stored
+        return stored is not None and child not in stored.relays and child != self._settings.place_of_limits
+
+    @property
+    def bounds(self) -> list[bytes]:
+        """The frames that bound children, for a service that starts."""
+        return [Bound(it.child, it.least, it.greatest).to_bytes() for it in self._settings.children]
+
+    @property
+    def expiries(self) -> list[bytes]:
+        """The frames that let children go again, for a service that starts."""
+        return [Expire(it).to_bytes() for it in sorted(self._lapsed)]
+
+    # Bids.
+
+    def take_bid(self, child: int, message: Message, now: float) -> None:
+        """Takes a message on the topic of a child's bids. One that renews a bid is not fed, unless the child was let go."""
+        if child == self._settings.place_of_limits:
+            self._say(f"{message.topic} is not taken: child {child} is the place in which limits are given")
+            return
+        heard = self._children.taken(child, message)
+        if heard is None:
+            return
+        self._note_sender(child, heard.sort, heard.node, heard.valid, isinstance(heard.frame, Gone), now)
+        lapsed = self._lapsed.get(child, 0)
+        if lapsed and heard.frame.number > lapsed:
+            self._comes_back(child)
+        elif not heard.is_new and not lapsed:
+            return
+        elif lapsed:
+            self.lapses.forget(child)
+        self._clear("refused", child)
+        self._has_news()
+        self._feed(heard.frame.to_bytes())
+
+    def _note_sender(self, child: int, sort: str, node: str, valid: float, is_gone: bool, now: float) -> None:
+        stored = self._keeping.stored
+        if sort == "relay" and stored is not None and child not in stored.relays:
+            self._keeping.change(relays=tuple(sorted({*stored.relays, child})))
+        if sort != "device" or is_gone:
+            self.lapses.forget(child)
+            return
+        self.lapses.heard(child, node, valid, now)
+        try:
+            self._link.also_read(self._settings.topics.of(require_name(node, "node"), "state"))
+        except BadSettings:
+            self._say(f"child {child} does not say a name: its last will is not seen")
+
+    def _clear(self, what: str, child: int) -> None:
+        """Clears a topic of a child, if something was published there."""
+        topic = self._settings.topics.at(self._settings.name, what, child)
+        kept = self._link.kept(topic)
+        if kept is not None and kept.payload:
+            self._keeping.clear(topic)
+
+    def too_much(self, frame: TooMuch) -> None:
+        """Tells that the service did not take a bid, which is outside the child's bound."""
+        self._children.too_much(frame.child, frame.number)
+        bound = next((it for it in self._settings.children if it.child == frame.child), None)
+        told = {"number": frame.number, "time": now_text()}
+        if bound is not None:
+            told |= {"least": bound.least, "greatest": bound.greatest}
+            why = f"outside {bound.least} to {bound.greatest} watts"
+        else:
+            why = "too much"
+        self._say(f"bid {frame.number} of child {frame.child} is {why}: it does not count, and the one before does")
+        topic = self._settings.topics.at(self._settings.name, "refused", frame.child)
+        self._keeping.publish(topic, json.dumps({**told, "why": why}).encode(), now_text())
+
+    # Letting go.
+
+    def take_state(self, message: Message, now: float) -> None:
+        """Takes the state of a child's node."""
+        try:
+            told = StateMessage.of(message.payload) if message.payload else None
+        except BadMessage as error:
+            self._say(f"{message.topic} is not taken: {error}")
+            return
+        if told is not None and told.parent == self._settings.name and told.child is not None:
+            self.lapses.state(message.topic.split("/")[-2], told.child, told.state == "up", now)
+
+    def drop(self, child: int) -> None:
+        """Lets a child go by the word of an operator, if it is a device that bids."""
+        if not self._is_device(child):
+            self._say(f"child {child} is not let go: it is a relay, or the place in which limits are given")
+        elif child in self._lapsed:
+            self._tell_lapse(child, "it was let go before")
+        elif not self._number(child):
+            self._say(f"child {child} is not let go: it has not bid in this session")
+        else:
+            self._let_go(child, "by the word of an operator")
+
+    def tick(self, now: float, is_connected: bool) -> None:
+        """Lets go who is due."""
+        if self._keeping.stored is None:
+            return
+        self.lapses.connected(is_connected, now)
+        if self._are_missed:
+            lacking = self._children.lacking(self._numbers)
+            missed = [it for it in lacking if self._is_device(it) and it not in self._lapsed]
+            self.lapses.missed(missed, now)
+            self._are_missed = bool(lacking)
+        for child, why in self.lapses.due(now).items():
+            self._let_go(child, why)
+
+    def _number(self, child: int) -> int:
+        """The newest number that is known of a child, 0 without one."""
+        return max(self._children.number(child), self._numbers[child - 1] if self._numbers else 0)
+
+    def _let_go(self, child: int, why: str) -> None:
+        """Stores that a child is let go, and then lets it go: so that a restart does it again."""
+        self._keeping.change(lapsed={**self._lapsed, child: self._number(child) | 1})
+        self.lapses.forget(child)
+        self._children.clear(child)
+        self._say(f"child {child} is let go, {why}: its bid does not count any more")
+        self._tell_lapse(child, why)
+        self._has_news()
+        self._feed(Expire(child).to_bytes())
+
+    def _tell_lapse(self, child: int, why: str) -> None:
+        told = {"number": self._lapsed[child], "why": why, "time": now_text()}
+        topic = self._settings.topics.at(self._settings.name, "lapsed", child)
+        self._keeping.publish(topic, json.dumps(told).encode(), now_text())
+
+    def _comes_back(self, child: int) -> None:
+        self._say(f"child {child} is back")
+        self._keeping.change(lapsed={it: number for it, number in self._lapsed.items() if it != child})
+        self._keeping.clear(self._settings.topics.at(self._settings.name, "lapsed", child))
+
+    def old(self, frame: Old) -> None:
+        """Hands an Old to a device that was let go and lives: by it the device bids anew."""
+        if self._is_device(frame.child) and 0 < self._children.number(frame.child) < frame.kept:
+            self._children.pass_on(frame, now_text())
