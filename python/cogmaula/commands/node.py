@@ -8,7 +8,7 @@ import sys
 from typing import Any
 
 from .. import cli
-from ..live.errors import BadSettings, NodeRefused
+from ..live.errors import BadSettings, NodeRefused, OtherTerms
 from ..live.frames import SORTS
 from ..live.settings import PASSWORD_VARIABLE, read_toml, settings_of
 from ..program import LIVE_VARIABLE
@@ -18,9 +18,11 @@ HELP = "runs a node of a market across machines, joined to an MQTT broker"
 MORE = (
     "The settings come from the file of --config, and options go before them; docs/LIVE.md has the file. A device reads offers at"
     ' standard input, {"power": [WATTS, ..]} with a number for each step or {"leave": true}, a line each, and writes its setpoints at'
-    " standard output. The exit status is 0 after SIGTERM or SIGINT, 2 for settings that are wrong, and 5 if a person has to look before"
-    " the node may go on, as if another process runs as it."
+    " standard output. The exit status is 0 after SIGTERM or SIGINT, 2 for settings that are wrong, 5 if a person has to look before"
+    " the node may go on, as if another process runs as it, and 6 if its Resume is of other limits, another basis or an older form."
 )
+# The exit status if the node's terms are not those of its Resume.
+OTHER_TERMS = 6
 
 # Of each option the table and the member of the settings that it sets, its type, its word in the help, and what it is.
 _OPTIONS: list[tuple[str, str, type, str, str]] = [
@@ -33,7 +35,11 @@ _OPTIONS: list[tuple[str, str, type, str, str]] = [
     ("node", "ceiling", int, "WATTS", "the greatest power that a relay announces, 0 or above"),
     ("node", "period", float, "SECONDS", "clears or sends by the clock; without it after news"),
     ("node", "pause", float, "SECONDS", "after news, not faster than this; default 1"),
-    ("node", "validity", float, "SECONDS", "a device whose control is silent for so long leaves; default never"),
+    ("node", "validity", float, "SECONDS", "an auctioneer's: setpoints hold so long without a heartbeat; default 120"),
+    ("node", "heartbeat", float, "SECONDS", "an auctioneer's: from one heartbeat to the next; default a quarter of validity"),
+    ("node", "grace", float, "SECONDS", "an auctioneer's: a device that is silent for so long is let go; default 1.25 times validity"),
+    ("node", "fallback", int, "WATTS", "the power that a device's control is told while the market is silent; default 0"),
+    ("node", "offer_validity", float, "SECONDS", "a device whose control is silent for so long leaves; default never"),
     ("node", "record", str, "FOLDER", "records all frames of the node there, for cogmaula judge"),
     ("node", "record_size", int, "BYTES", "a file of the recording ends at so many bytes; default 67108864"),
     ("node", "record_files", int, "N", "keeps the newest so many files of the recording; default all"),
@@ -56,6 +62,7 @@ _FLAGS = [
     ("broker", "tls", "connects by TLS, with the CAs of the system if no CA is given"),
     ("page", "whole", "the page shows the whole market, by a connection that reads all of its topics"),
     ("page", "insecure", "the page may be served at an address that others reach, though it has no login"),
+    ("node", "limits_from", "a relay takes limits that are given while the market lives, at its topic limits"),
     ("node", "new_session", "an auctioneer begins a new session, in which all nodes count from 1"),
     ("node", "leave", "a device leaves the market, and the command ends"),
 ]
@@ -68,7 +75,7 @@ def _option(member: str) -> str:
 def add_arguments(parser: argparse.ArgumentParser) -> None:
     """Adds the arguments of node."""
     parser.add_argument("sort", choices=SORTS, help="what the node is")
-    parser.add_argument("--config", metavar="FILE", help="a TOML file with the tables [node], [basis], [broker] and [page]")
+    parser.add_argument("--config", metavar="FILE", help="a TOML file with the tables [node], [basis], [broker], [page] and [children.NAME]")
     for table, member, kind, word, what in _OPTIONS:
         parser.add_argument(_option(member), dest=f"{table}.{member}", type=kind, metavar=word, help=what)
     for table, member, what in _FLAGS:
@@ -101,5 +108,5 @@ def main(arguments: argparse.Namespace) -> int:
         node.run()
     except NodeRefused as error:
         print(f"cogmaula: {error}", file=sys.stderr)
-        return cli.REFUSED
+        return OTHER_TERMS if isinstance(error, OtherTerms) else cli.REFUSED
     return 0

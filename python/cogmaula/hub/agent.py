@@ -11,7 +11,7 @@ from collections.abc import Callable
 from typing import Protocol
 
 from .running import Running
-from .words import LEAVE_OFFER, price_update
+from .words import LEAVE_OFFER, update_of
 
 
 class Listener(Protocol):
@@ -55,7 +55,7 @@ class Agent:
 
     def write(self, setpoint: bytes) -> None:
         """See Control. Of several that the agent did not read, the newest counts."""
-        self.newest = price_update(setpoint)
+        self.newest = update_of(setpoint)
         self._loop.call_soon_threadsafe(self._has_news)
 
     def forget(self) -> None:

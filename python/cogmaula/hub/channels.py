@@ -63,7 +63,9 @@ def open_socket(host: str, port: int) -> socket.socket:
         found.setsockopt(socket.SOL_SOCKET, socket.SO_KEEPALIVE, 1)
         if family == socket.AF_INET6:
             found.setsockopt(socket.IPPROTO_IPV6, socket.IPV6_V6ONLY, 1)
-        for name, value in (("TCP_KEEPIDLE", SILENCE), ("TCP_KEEPINTVL", SILENCE // PROBES), ("TCP_KEEPCNT", PROBES)):
+        probes = (("TCP_KEEPIDLE", SILENCE), ("TCP_KEEPINTVL", SILENCE // PROBES), ("TCP_KEEPCNT", PROBES))
+        # What is on its way and is not confirmed counts as silence too.
+        for name, value in (*probes, ("TCP_USER_TIMEOUT", 2_000 * SILENCE)):
             if hasattr(socket, name):
                 found.setsockopt(socket.IPPROTO_TCP, getattr(socket, name), value)
         found.bind(address)

@@ -14,6 +14,7 @@ from ..cluster import Basis
 from ..live.errors import BadSettings
 from ..live.page_settings import PageSettings
 from ..live.settings import Settings, read_toml, value_of
+from ..live.times import MARGIN, VALIDITY
 from ..live.topics import Topics, require_name
 from ..program import live_command
 from .words import Cluster
@@ -63,6 +64,7 @@ class HubSettings:
     certificate: the file of the hub's certificate and those above it, and `key` that of its key; with them all is by TLS
     insecure:    whether to listen without TLS where other machines reach it
     gone:        the seconds after which an agent that is disconnected leaves the market
+    validity:    the seconds for which a priceUpdate holds without a newer one, and `heartbeat` those between two
     period:      the seconds from one clearing to the next, by the clock; None clears after news
     pause:       the least seconds between two clearings after news
     clusterId, commodity, currency: how the market names itself to agents; the first is by default the hub's name
@@ -81,7 +83,9 @@ class HubSettings:
     certificate: str | None = None
     key: str | None = None
     insecure: bool = False
-    gone: float = 60.0
+    gone: float = MARGIN * VALIDITY
+    validity: float = VALIDITY
+    heartbeat: float | None = None
     period: float | None = None
     pause: float = 1.0
     clusterId: str = ""
@@ -107,8 +111,11 @@ class HubSettings:
                     f"the hub would listen at {address} without TLS, where other machines reach it: give certificate and key, "
                     "or say insecure = true"
                 )
-        if not 0 <= self.gone <= 1e9:
-            raise BadSettings(f"hub.gone is {self.gone}: give 0 seconds or more")
+        if not MARGIN * self.validity <= self.gone <= 1e9:
+            raise BadSettings(
+                f"hub.gone is {self.gone:g} and hub.validity {self.validity:g}: give a gone of {MARGIN * self.validity:g} seconds or more, so that "
+                "an agent has fallen back before it leaves"
+            )
         if self.page is not None and (self.page.whole or self.page.user is not None):
             raise BadSettings("page.whole and page.user are for a node at a broker: a hub shows its whole market")
         # Those of the nodes are refused here, and not when the first agent comes.
@@ -133,6 +140,7 @@ class HubSettings:
         """The settings of the auctioneer's node."""
         folder = str(Path(self.state) / "auctioneer")
         more: dict[str, Any] = {"period": self.period, "pause": self.pause, "new_session": self.new_session, "record": self.record}
+        more |= {"validity": self.validity, "heartbeat": self.heartbeat, "grace": self.gone}
         return Settings("auctioneer", self.name, folder, self.basis, self.live, **more)
 
     def of_agent(self, agent: str, child: int) -> Settings:

@@ -172,14 +172,16 @@ def welcome(agent: str, cluster: Cluster, basis: Basis, session: str, time: str)
     return _line({"agentId": agent, "clusterId": cluster.id, "marketBasis": market, "session": session, "time": time})
 
 
-def price_update(setpoint: bytes) -> bytes:
-    """A setpoint of the agent's device, as the agent is told it."""
+def update_of(setpoint: bytes) -> bytes:
+    """What the control of the agent's device is told, as the agent is told it: a priceUpdate, or that the market is silent or back."""
     told = json.loads(setpoint)
+    if "market" in told:
+        return _line({"marketUpdate": told})
     update = {"price": told["price"]}
     if "reference" in told:
         update["bidNumber"] = told["reference"]
     update |= {it: told[it] for it in ("step", "power")}
-    update |= {"offer": told["bid"], "clearing": told["clearing"], "time": told["time"]}
+    update |= {"offer": told["bid"], "clearing": told["clearing"], "time": told["time"], "until": told["until"]}
     return _line({"priceUpdate": update})
 
 

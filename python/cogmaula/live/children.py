@@ -93,17 +93,17 @@ class Children:
         if frame.child != child:
             self._say_once(child, f"names child {frame.child}, and is not taken")
             return None
+        heard: Bid | Gone = frame
         before = self._newest.get(child)
         if before is not None and frame.number < before.number:
             self._say_once(child, f"has number {frame.number}, below its last, {before.number}: the child came back with an older Resume")
             return None
-        if before is not None and frame != before:
+        if before is not None and heard != before:
             self._before[child] = before
-        self._newest[child] = frame
+        self._newest[child] = heard
         self._price_topics.setdefault(child, self._topics.price(self._node, child))
-        if isinstance(frame, Gone):
+        if isinstance(heard, Gone):
             self.clear(child)
-        heard: Bid | Gone = frame
         return Heard(heard, heard != before, *_sender(message))
 
     def too_much(self, child: int, number: int) -> None:

@@ -9,8 +9,8 @@ from typing import TypeVar
 from .broker import Message
 from .children import SESSION, TIME
 from .errors import BadFrame, BadMessage
-from .frames import BIDS, PRICES, Bid, Gone, Kinds, Price, frame_of
-from .messages import BasisMessage, SetpointMessage, StateMessage
+from .frames import BIDS, PRICES, Bid, Gone, Kinds, Old, Price, frame_of
+from .messages import BasisMessage, LapseMessage, SetpointMessage, SilentMessage, StateMessage
 from .sessions import time_of
 from .topics import Topics
 
@@ -44,6 +44,8 @@ class Heard:
     bids:      by its place, the newest Bid or Gone of a child, and when it was sent
     prices:    by its place, the newest Price for a child, and when the market cleared
     setpoints: by the name of a device
+    silent:    by the name of a device, that its control is told that the market is silent
+    lapsed:    by its place, that a child was let go
     not_taken: the messages that are none of these
     """
 
@@ -55,6 +57,8 @@ class Heard:
         self.bids: dict[Place, tuple[Bid | Gone, str | None]] = {}
         self.prices: dict[Place, tuple[Price, str | None]] = {}
         self.setpoints: dict[str, SetpointMessage] = {}
+        self.silent: dict[str, SilentMessage] = {}
+        self.lapsed: dict[Place, LapseMessage] = {}
         self.not_taken: list[NotTaken] = []
         if (message := messages.get(self._topics.basis)) is not None:
             self._read_basis(message)
@@ -79,13 +83,20 @@ class Heard:
         if parts is None:
             return
         node, word, child = parts
-        if child is not None:
+        if child is not None and word in ("bid", "price"):
             self._read_frame(message, (node, child), BIDS if word == "bid" else PRICES)
+        elif child is not None:
+            if word == "lapsed" and self._is_of_session(message):
+                lapse = self._read_as(message, LapseMessage.of)
+                if lapse is not None:
+                    self.lapsed[node, child] = lapse
         elif word == "state":
             self.states[node] = self._read_as(message, StateMessage.of)
         elif word == "setpoint" and self._is_of_session(message):
-            setpoint = self._read_as(message, SetpointMessage.of)
-            if setpoint is not None:
+            setpoint = self._read_as(message, lambda data: SilentMessage.of(data) or SetpointMessage.of(data))
+            if isinstance(setpoint, SilentMessage):
+                self.silent[node] = setpoint
+            elif isinstance(setpoint, SetpointMessage):
                 self.setpoints[node] = setpoint
 
     def _is_of_session(self, message: Message) -> bool:
@@ -101,7 +112,7 @@ class Heard:
         steps = self.basis.basis.steps
         frame = self._read_as(message, lambda data: frame_of(data, kinds, steps))
         time = time_or_none(message.properties.get(TIME, ""))
-        if isinstance(frame, Bid | Gone | Price) and frame.child != place[1]:
+        if isinstance(frame, Bid | Gone | Price | Old) and frame.child != place[1]:
             self._refuse(message, f"it names child {frame.child}")
         elif isinstance(frame, Bid | Gone):
             self.bids[place] = frame, time

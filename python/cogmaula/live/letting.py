@@ -11,7 +11,7 @@ from .errors import BadMessage, BadSettings
 from .frames import AuctioneerResume, Bound, Expire, Gone, Old, RelayResume, TooMuch
 from .keeping import Keeping
 from .lapses import Lapses
-from .messages import StateMessage
+from .messages import LapseMessage, StateMessage
 from .sessions import now_text
 from .settings import Settings
 from .times import Times
@@ -180,9 +180,8 @@ class Letting:
         self._feed(Expire(child).to_bytes())
 
     def _tell_lapse(self, child: int, why: str) -> None:
-        told = {"number": self._lapsed[child], "why": why, "time": now_text()}
-        topic = self._settings.topics.at(self._settings.name, "lapsed", child)
-        self._keeping.publish(topic, json.dumps(told).encode(), now_text())
+        told = LapseMessage(self._lapsed[child], why, now_text())
+        self._keeping.publish(self._settings.topics.at(self._settings.name, "lapsed", child), told.to_bytes(), told.time)
 
     def _comes_back(self, child: int) -> None:
         self._say(f"child {child} is back")

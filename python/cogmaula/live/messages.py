@@ -258,6 +258,26 @@ class SilentMessage:
         return SilentMessage(_text(told, "since", what), _whole(told, "power", what), _text(told, "why", what))
 
 
+@dataclass(frozen=True)
+class LapseMessage:
+    """That a parent has let a child go: under which number it counts as gone, why in words, and when (RFC 3339)."""
+
+    number: int
+    why: str
+    time: str
+
+    def to_bytes(self) -> bytes:
+        """The message."""
+        return json.dumps(dict(vars(self))).encode()
+
+    @staticmethod
+    def of(data: bytes) -> LapseMessage:
+        """The lapse that a message tells. Raises BadMessage."""
+        what = "the lapse"
+        told = object_of(data, what)
+        return LapseMessage(_whole(told, "number", what), _text(told, "why", what), _text(told, "time", what))
+
+
 def back_bytes(since: str) -> bytes:
     """What a control is told once the market is back. `since` is when its heartbeat was."""
     return json.dumps({"market": "live", "since": since}).encode()

@@ -64,7 +64,7 @@ class Reader:
     def topics(self) -> list[str]:
         """The topics that are read, one after the other: a broker keeps few messages for a client that has not taken them."""
         prefix = self.settings.prefix
-        return [f"{prefix}/{it}" for it in ("basis", "+/state", "+/bid/+", "+/price/+", "+/setpoint")]
+        return [f"{prefix}/{it}" for it in ("basis", "+/state", "+/bid/+", "+/price/+", "+/setpoint", "+/lapsed/+")]
 
     def _run(self) -> None:
         keep_connected(self._connection, self._closing, self._say, self.settings.address, self._pauses)

@@ -52,13 +52,13 @@ class PowerView:
     """The power of a node, in watts.
 
     power:   positive if the node takes power; None if it is not known of all that is below
-    by:      what tells it: the setpoint of a device, the demand of an answered bid, or the sum of what is below
+    by:      what tells it: the setpoint of a device, its fallback, the demand of an answered bid, or the sum of what is below
     first:   the oldest clearing that a part of the power is of, and `last` the newest; None without a part
     lacking: the number of nodes below whose power is not known
     """
 
     power: int | None
-    by: Literal["setpoint", "bid", "sum"]
+    by: Literal["setpoint", "fallback", "bid", "sum"]
     first: int | None
     last: int | None
     lacking: int = 0
@@ -71,7 +71,10 @@ class NodeView:
     depth:         how many nodes are above it here
     state:         up or down, and `why` in words; `since` is when that was told
     session:       the session that the node says it is in
-    floor:         the least power that a relay announces, in watts, and `ceiling` the greatest
+    floor:         the least power that a relay announces now, in watts, and `ceiling` the greatest
+    alarm:         what is wrong with its limits or its prices, in words
+    silent:        since when it hears no heartbeat (RFC 3339), None if it does
+    lapsed:        since when its parent has let it go, and `why_lapsed` in words
     price:         its newest price; of the auctioneer that of its newest clearing
     passed:        the newest price that it passed to the nodes below
     is_within:     whether the power is within the limits; None if one of them is not known
@@ -89,6 +92,10 @@ class NodeView:
     session: str | None = None
     floor: int | None = None
     ceiling: int | None = None
+    alarm: str = ""
+    silent: str | None = None
+    lapsed: str | None = None
+    why_lapsed: str = ""
     bid: BidView | None = None
     price: PriceView | None = None
     passed: PriceView | None = None
@@ -177,7 +184,9 @@ class _Nodes:
     def _named(self, name: str) -> NodeView:
         state = self._heard.states.get(name)
         passed = self._price_view(self._passed.get(name))
-        node = NodeView(name, setpoint=self._heard.setpoints.get(name), passed=None if passed is None else replace(passed, bid=None))
+        fallback = self._heard.silent.get(name)
+        power = None if fallback is None else PowerView(fallback.power, "fallback", None, None)
+        node = NodeView(name, setpoint=self._heard.setpoints.get(name), power=power, passed=None if passed is None else replace(passed, bid=None))
         if state is None:
             return node
         node = replace(
@@ -191,6 +200,8 @@ class _Nodes:
             session=state.session or None,
             floor=state.floor,
             ceiling=state.ceiling,
+            alarm=state.alarm,
+            silent=time_or_none(state.silent or ""),
         )
         if state.sort == "auctioneer":
             return replace(node, price=node.passed)
@@ -211,7 +222,9 @@ class _Nodes:
 
     def _at_place(self, node: NodeView, place: Place) -> NodeView:
         """The node that has a place, with the bid and the price of it."""
-        told, heard = self._heard.prices.get(place), self._heard.bids.get(place)
+        told, heard, lapse = self._heard.prices.get(place), self._heard.bids.get(place), self._heard.lapsed.get(place)
+        if lapse is not None and (heard is None or heard[0].number < lapse.number):
+            node = replace(node, lapsed=time_or_none(lapse.time), why_lapsed=lapse.why)
         price = None if told is None else told[0]
         return replace(node, bid=None if heard is None else _bid_view(*heard, price), price=self._price_view(told))
 
@@ -275,7 +288,9 @@ def _with_powers(nodes: list[NodeView], own: str | None) -> list[NodeView]:
 def _own_power(node: NodeView) -> PowerView | None:
     """The power of a node below which none is seen: by its setpoint, or by its bid if that is answered. None if neither tells it."""
     bid, price, setpoint = node.bid, node.price, node.setpoint
-    if bid is not None and bid.is_gone:
+    if node.power is not None:
+        return node.power
+    if node.lapsed is not None or (bid is not None and bid.is_gone):
         return None
     if setpoint is not None:
         return PowerView(setpoint.power, "setpoint", setpoint.clearing, setpoint.clearing)
@@ -288,9 +303,9 @@ def _sum_of(nodes: list[NodeView]) -> PowerView | None:
     """The sum of the powers of these nodes. One that bids and whose power is not known makes the sum unknown."""
     parts = [it.power for it in nodes if it.power is not None]
     lacking = sum(it.lacking for it in parts)
-    lacking += sum(it.power is None and it.bid is not None and not it.bid.is_gone for it in nodes)
+    lacking += sum(it.power is None and it.bid is not None and not it.bid.is_gone and it.lapsed is None for it in nodes)
     clearings = [index for it in parts for index in (it.first, it.last) if index is not None]
-    if not clearings and not lacking:
+    if not parts and not lacking:
         return None
     power = sum(it.power for it in parts if it.power is not None)
     return PowerView(None if lacking else power, "sum", min(clearings, default=None), max(clearings, default=None), lacking)

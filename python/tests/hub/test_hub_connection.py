@@ -77,6 +77,7 @@ async def until(holds):
 
 def price(index):
     told = {"power": 1, "step": 0, "price": 0, "bid": 1, "clearing": index, "time": "2026-01-31T06:30:00.000Z"}
+    told["until"] = "2026-01-31T06:32:00.000Z"
     return json.dumps(told).encode()
 
 

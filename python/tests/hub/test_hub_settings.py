@@ -37,7 +37,7 @@ def test_what_a_hub_has_by_default(monkeypatch):
     monkeypatch.delenv("COGMAULA_LIVE", raising=False)
     monkeypatch.setattr("cogmaula.hub.settings.live_command", lambda: "/opt/live")
     found = hub_settings_of(TABLES)
-    assert (found.name, found.gone, found.pause, found.period, found.live) == ("hub", 60.0, 1.0, None, "/opt/live")
+    assert (found.name, found.gone, found.pause, found.period, found.live) == ("hub", 150.0, 1.0, None, "/opt/live")
     assert (found.cluster.id, found.cluster.commodity, found.cluster.currency) == ("hub", "electricity", "EUR")
     assert (found.addresses, found.addresses_tcp) == ((Address("127.0.0.1", 8443),), ())
     auctioneer, house = found.of_auctioneer(), found.of_agent("house", 7)
@@ -80,6 +80,7 @@ def test_no_address(text):
         ({"listen_tcp": ["market.example:8444"]}, "at market.example:8444 without TLS"),
         ({"certificate": "hub.crt"}, "go together"),
         ({"gone": -1}, "hub.gone is -1"),
+        ({"gone": 149}, "hub.gone is 149 and hub.validity 120: give a gone of 150 seconds or more"),
         ({"gone": "60"}, "hub.gone is '60': give a number"),
         ({"pause": 0}, "pause is 0"),
         ({"name": "a/b"}, "name is 'a/b'"),

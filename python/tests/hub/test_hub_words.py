@@ -9,7 +9,7 @@ from hypothesis import given
 from hypothesis import strategies as st
 
 from cogmaula.cluster import Basis
-from cogmaula.hub.words import Cluster, LeaveWord, Login, demands_of, error_line, price_update, quoted, welcome, word_of
+from cogmaula.hub.words import Cluster, LeaveWord, Login, demands_of, error_line, update_of, quoted, welcome, word_of
 from cogmaula.live import BadMessage
 from cogmaula.live.messages import OfferMessage
 
@@ -163,10 +163,13 @@ def test_a_leave():
 
 def test_what_the_hub_says():
     told = {"power": 200, "step": 4, "price": 4, "bid": 12, "clearing": 33, "time": "2026-01-31T06:30:00.000Z", "reference": 5}
-    due = {"price": 4, "bidNumber": 5, "step": 4, "power": 200, "offer": 12, "clearing": 33, "time": told["time"]}
-    assert json.loads(price_update(json.dumps(told).encode())) == {"priceUpdate": due}
+    told["until"] = "2026-01-31T06:32:00.000Z"
+    due = {"price": 4, "bidNumber": 5, "step": 4, "power": 200, "offer": 12, "clearing": 33, "time": told["time"], "until": told["until"]}
+    assert json.loads(update_of(json.dumps(told).encode())) == {"priceUpdate": due}
     del told["reference"], due["bidNumber"]
-    assert json.loads(price_update(json.dumps(told).encode())) == {"priceUpdate": due}
+    assert json.loads(update_of(json.dumps(told).encode())) == {"priceUpdate": due}
+    silent = {"market": "silent", "since": "2026-01-31T06:30:00.000Z", "power": 0, "why": "no heartbeat"}
+    assert json.loads(update_of(json.dumps(silent).encode())) == {"marketUpdate": silent}
     assert json.loads(error_line("wrong\nthing")) == {"error": "wrong\nthing"}
     assert b"\n" not in error_line("wrong\nthing")
     assert json.loads(welcome("house", Cluster("street", "heat", "GBP"), Basis(-5, 5, 3), "0123456789abcdef", "now")) == {

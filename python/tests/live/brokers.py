@@ -18,7 +18,7 @@ from cogmaula.program import live_command
 
 TOP = Path(__file__).resolve().parents[3]
 MOSQUITTO = shutil.which("mosquitto") or shutil.which("mosquitto", path="/usr/sbin")
-SECONDS = 60
+SECONDS = int(os.environ.get("TEST_SECONDS", "60"))
 
 
 def require_broker():

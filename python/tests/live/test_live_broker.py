@@ -342,11 +342,11 @@ def test_other_reasons_have_their_lines():
     """Those that mosquitto gives no cause for: a busy server, a topic that may not be read, an end with a reason."""
     said = []
     broker = Broker(BrokerSettings(), "nobody", lambda _: None, said.append)
-    broker._topics = ["market/basis", "market/x"]
+    broker._asked = {(None, 7): ["market/basis", "market/x"]}
     words = []
     broker._on_connect(None, Code(137), words)
     assert words == ["the broker refuses the connection: reason 137"]
-    broker._on_subscribe([Code(1), Code(135)])
+    broker._on_subscribe(None, 7, [Code(1), Code(135)])
     assert said == ["127.0.0.1:1883 does not let this node read market/x (reason 135)"]
     assert words_of_end(Code(139), was_there=True) == "the broker ends the connection: reason 139"
     assert words_of(ValueError("no host"), broker.settings) == "the settings of the broker are refused: no host"

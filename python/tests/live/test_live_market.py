@@ -58,12 +58,13 @@ def test_prices_come_down_with_time_and_session(market, onlooker):
     market.offers(house=falls_at(8, 200, 100))
     market.settles_at(8, house=100, store=-150)
     session = market.nodes["auctioneer"].session
-    assert json.loads(onlooker.payload("market/basis")) == {"min": 0, "max": 9, "steps": 10, "session": session.id, "begun": session.begun}
+    due = {"min": 0, "max": 9, "steps": 10, "session": session.id, "begun": session.begun, "version": 2}
+    assert json.loads(onlooker.payload("market/basis")) == {**due, "validity": 120.0, "heartbeat": 30.0, "grace": 150.0}
     told = onlooker.newest
     wait_until(lambda: frame_of(told["market/street/price/2"][0], PRICES, STEPS).step == 8, "the price at the broker")
     payload, properties = told["market/street/price/2"]
     price = frame_of(payload, PRICES, STEPS)
-    assert (price.child, price.number) == (2, 1)
+    assert (price.child, price.number) == (2, 2)
     assert properties["session"] == session.id
     cleared = datetime.fromisoformat(properties["time"])
     assert session.begun <= properties["time"]
@@ -146,7 +147,7 @@ topic read market/basis
 
 
 def test_a_device_whose_control_is_silent_leaves_and_its_price_is_cleared(market, onlooker):
-    market.start("auctioneer").start("street", "house").start("store", validity=1.0)
+    market.start("auctioneer").start("street", "house").start("store", offer_validity=1.0)
     market.offers(house=falls_at(9, 100, 0), store=falls_at(4, 0, -150))
     market.settles_at(4, house=100, store=-150)
     market.settles_at(9, house=0)
@@ -199,10 +200,10 @@ def test_a_device_that_is_gone_for_good_is_made_to_leave_from_elsewhere(market, 
     market.start("store", leave=True, state=str(market.folder / "elsewhere"))
     market.threads.pop("store").join(10)
     market.settles_at(9, house=0)
-    assert frame_of(onlooker.payload("market/street/bid/2"), BIDS, STEPS) == Gone(2, 2)
+    assert frame_of(onlooker.payload("market/street/bid/2"), BIDS, STEPS) == Gone(2, 4)
     market.start("store").offers(store=falls_at(4, 0, -150))
     market.settles_at(4, house=100, store=-150)
-    assert frame_of(onlooker.payload("market/street/bid/2"), BIDS, STEPS).number == 3
+    assert frame_of(onlooker.payload("market/street/bid/2"), BIDS, STEPS).number == 6
 
 
 def test_a_new_session_takes_all_nodes_along(market):

@@ -17,7 +17,7 @@ class Told:
     """The newest messages of a market of ten prices."""
 
     def __init__(self, prefix="market", basis=BASIS):
-        self.prefix, self.messages = prefix, {}
+        self.prefix, self.messages, self.basis = prefix, {}, basis or BASIS
         if basis is not None:
             self.put("basis", BasisMessage(basis, SESSION).to_bytes())
 
@@ -37,7 +37,7 @@ class Told:
         return self.put(f"{parent}/bid/{child}", Gone(child, number).to_bytes())
 
     def price(self, parent, child, number, index, step, **more):
-        return self.put(f"{parent}/price/{child}", Price(child, number, index, step).to_bytes(), **more)
+        return self.put(f"{parent}/price/{child}", Price(child, number, index, step, self.basis.min, self.basis.max, self.basis.steps).to_bytes(), **more)
 
     def setpoint(self, name, power, number, index, step, **more):
         return self.put(f"{name}/setpoint", setpoint_bytes(Setpoint(number, index, step, power), BASIS, MOMENT), **more)

@@ -1,0 +1,145 @@
+"""What an operator says to a market at its broker: lets a device go, or gives limits to a relay. Each call waits for the answer."""
+
+from __future__ import annotations
+
+import json
+import threading
+import time
+from collections.abc import Callable
+from typing import Any
+
+from .children import SORT
+from .connection import REFUSED, connect, new_client, paho, words_of, words_of_refusal
+from .errors import BadMessage, LiveError
+from .given import LimitsMessage
+from .messages import LapseMessage, StateMessage, object_of
+from .settings import BrokerSettings
+from .topics import Topics
+
+TICK = 0.05
+# The seconds without a retained message after which the broker has told all that it retains.
+QUIET = 0.3
+
+
+class Words:
+    """A connection of an operator, which reads some topics, from `with` to its end. Raises LiveError if it cannot be made."""
+
+    def __init__(self, settings: BrokerSettings, topics: list[str], seconds: float) -> None:
+        """Takes the broker, the topics to read, and for how long each answer is waited for."""
+        self._settings = settings
+        self._topics = topics
+        self._end = time.monotonic() + seconds
+        self._lock = threading.Lock()
+        # The newest message of each topic: its payload, its user properties, and whether the broker had kept it.
+        self._newest: dict[str, tuple[bytes, dict[str, str], bool]] = {}
+        self._words: list[str] = []
+        self._ended = threading.Event()
+        self._is_there = False
+        self._came = 0.0
+
+    def __enter__(self) -> Words:
+        """Connects, and reads all that the broker retains."""
+        settings = self._settings
+        try:
+            client = self._client = new_client(settings, "", self._ended, self._words)
+            client.on_connect = lambda it, _data, _flags, code, _more: self._on_connect(it, code)
+            client.on_message = lambda _it, _data, message: self._on_message(message)
+            connect(client, settings)
+        except (OSError, ValueError) as error:
+            raise LiveError(f"{settings.address}: {words_of(error, settings)}") from None
+        client.loop_start()
+        self.wait(lambda: self._is_there and time.monotonic() > self._came + QUIET, "the broker does not answer")
+        return self
+
+    def __exit__(self, *_: object) -> None:
+        """Ends the connection."""
+        self._client.disconnect()
+        self._client.loop_stop()
+
+    def _on_connect(self, client: Any, code: Any) -> None:
+        if code.value >= REFUSED:
+            self._words.append(words_of_refusal(code, self._settings))
+            self._ended.set()
+            return
+        client.subscribe([(it, paho().SubscribeOptions(qos=1)) for it in self._topics])
+        self._came = time.monotonic()
+        self._is_there = True
+
+    def _on_message(self, message: Any) -> None:
+        properties = dict(getattr(message.properties, "UserProperty", []))
+        with self._lock:
+            self._newest[message.topic] = bytes(message.payload), properties, bool(message.retain)
+        self._came = time.monotonic()
+
+    def newest(self, topic: str) -> tuple[bytes, dict[str, str], bool]:
+        """The newest message of a topic: its payload, its user properties, and whether the broker had kept it."""
+        with self._lock:
+            return self._newest.get(topic, (b"", {}, True))
+
+    def publish(self, topic: str, payload: bytes, retain: bool) -> None:
+        """Publishes a message."""
+        self._client.publish(topic, payload, 1, retain)
+
+    def wait(self, holds: Callable[[], bool], why: str) -> None:
+        """Waits until something holds. Raises LiveError if it does not in time."""
+        while not holds():
+            if self._ended.is_set() or time.monotonic() > self._end:
+                raise LiveError(f"{self._settings.address}: {self._words[0] if self._words else why}")
+            time.sleep(TICK)
+
+
+def _require_up(words: Words, topics: Topics, node: str, sorts: tuple[str, ...]) -> None:
+    """Raises LiveError unless a node is one of these sorts, and up."""
+    payload = words.newest(topics.of(node, "state"))[0]
+    try:
+        state = StateMessage.of(payload) if payload else None
+    except BadMessage as error:
+        raise LiveError(f"the state of {node} cannot be read: {error}") from None
+    if state is None:
+        raise LiveError(f"no node {node} is seen: look at the name and the prefix, and let this login read {topics.of(node, 'state')}")
+    if state.sort not in sorts:
+        raise LiveError(f"{node} is a {state.sort}, and no {' or '.join(sorts)}")
+    if state.state != "up":
+        raise LiveError(f"{node} is down ({state.why}): start it first")
+
+
+def drop(broker: BrokerSettings, node: str, child: int, seconds: float = 10.0) -> str:
+    """Lets child CHILD of a node go, and says so in a line. Raises LiveError if the node does not, and why."""
+    topics = Topics(broker.prefix)
+    bid, lapsed = topics.bid(node, child), topics.at(node, "lapsed", child)
+    with Words(broker, [topics.of(node, "state"), bid, lapsed], seconds) as words:
+        _require_up(words, topics, node, ("relay", "auctioneer"))
+        payload, properties, _ = words.newest(bid)
+        if payload and properties.get(SORT) == "relay":
+            raise LiveError(f"child {child} of {node} is a relay, which counts for all below it: let its devices go at it")
+        words.publish(topics.at(node, "drop", child), b'{"drop": true}', False)
+        words.wait(
+            lambda: bool(words.newest(lapsed)[0]) and not words.newest(lapsed)[2],
+            f"{node} has not let child {child} go in {seconds:g} s: its log says why, or this login may not write {node}/drop",
+        )
+        told = LapseMessage.of(words.newest(lapsed)[0])
+        return f"child {child} of {node} is let go as of number {told.number}: {told.why}"
+
+
+def give_limits(broker: BrokerSettings, node: str, limits: LimitsMessage, seconds: float = 10.0) -> str:
+    """Gives limits to a relay, and says in a line from which clearing on setpoints keep them. Raises LiveError if they are refused."""
+    LimitsMessage.of(limits.to_bytes())
+    topics = Topics(broker.prefix)
+    answer = topics.of(node, "limits/state")
+
+    def told() -> dict[str, Any]:
+        payload, _, retained = words.newest(answer)
+        return {} if retained or not payload else object_of(payload, "the answer")
+
+    with Words(broker, [topics.of(node, "state"), answer], seconds) as words:
+        _require_up(words, topics, node, ("relay",))
+        words.publish(topics.of(node, "limits"), limits.to_bytes(), True)
+        late = f"{node} has not answered in {seconds:g} s: has it limits_from = true, and may this login write {topics.of(node, 'limits')}?"
+        words.wait(lambda: bool(told()), late)
+        try:
+            words.wait(lambda: told()["state"] != "waits", "")
+        except LiveError:
+            return f"{node} has the limits, and no clearing has kept them yet: {json.dumps(told())}"
+        if told()["state"] == "refused":
+            raise LiveError(f"{node} refuses the limits: {told()['why']}")
+        return f"{node}: {json.dumps(told())}"
