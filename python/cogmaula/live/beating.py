@@ -67,7 +67,11 @@ class Beating:
         topic = self._settings.own_topic("bid")
         kept = self._link.kept(topic)
         if kept is None or not self.has_bid:
+            self._bid = None
             return
+        if self._bid is None:
+            # The first bid has validity to be confirmed.
+            self.silence.renewed(now)
         if kept is not self._bid:
             self._bid, self._sent = kept, now
         elif is_up and self._link.is_settled and now >= self._sent + self.silence.times.heartbeat:

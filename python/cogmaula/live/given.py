@@ -100,6 +100,10 @@ class GivenLimits:
             return self.over()
         message = LimitsMessage.of(data)
         self._refused_reference = message.reference
+        before = self.given
+        if is_over(message.until) and before is not None and before.until == message.until:
+            # Those that count have ended, and the topic has them still.
+            return self.over()
         if is_over(message.until):
             raise BadMessage(f"they come too late: {message.until} has passed")
         floor = self._floor if message.floor is None else message.floor
@@ -107,7 +111,6 @@ class GivenLimits:
         if not are_limits(floor, ceiling) or floor < self._floor or ceiling > self._ceiling:
             raise BadMessage(f"{floor} to {ceiling} watts are not within the relay's own {self._floor} to {self._ceiling}, with 0 between")
         self.refused = ""
-        before = self.given
         if before is not None and (floor, ceiling, message.until, message.reference) == (
             before.floor,
             before.ceiling,

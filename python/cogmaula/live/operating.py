@@ -114,7 +114,7 @@ def drop(broker: BrokerSettings, node: str, child: int, seconds: float = 10.0) -
             raise LiveError(f"child {child} of {node} is a relay, which counts for all below it: let its devices go at it")
         words.publish(topics.at(node, "drop", child), b'{"drop": true}', False)
         words.wait(
-            lambda: bool(words.newest(lapsed)[0]) and not words.newest(lapsed)[2],
+            lambda: words.newest(lapsed)[0] != b"" and not words.newest(lapsed)[2],
             f"{node} has not let child {child} go in {seconds:g} s: its log says why, or this login may not write {node}/drop",
         )
         told = LapseMessage.of(words.newest(lapsed)[0])
@@ -137,7 +137,7 @@ def give_limits(broker: BrokerSettings, node: str, limits: LimitsMessage, second
         late = f"{node} has not answered in {seconds:g} s: has it limits_from = true, and may this login write {topics.of(node, 'limits')}?"
         words.wait(lambda: bool(told()), late)
         try:
-            words.wait(lambda: told()["state"] != "waits", "")
+            words.wait(lambda: bool(told()["state"] != "waits"), "")
         except LiveError:
             return f"{node} has the limits, and no clearing has kept them yet: {json.dumps(told())}"
         if told()["state"] == "refused":

@@ -1,0 +1,349 @@
+"""When a parent lets a device go, what it tells and feeds then, and how the device comes back. Times are by hand."""
+
+from __future__ import annotations
+
+import json
+
+import pytest
+from pretended import BASIS_TOPIC, LATER, MARKED, basis_payload, bid, device_resume, gone, numbers, price, relay_resume, saved, state_payload
+
+from cogmaula.live import BadSettings
+from cogmaula.live.frames import Expire, Old, Send, TooMuch
+from cogmaula.live.lapses import Lapses
+from cogmaula.live.settings import ChildSettings
+from cogmaula.live.times import Times
+
+TIMES = Times(validity=100, heartbeat=25, grace=125)
+
+
+def lapses_of(*children):
+    """A parent of devices that were heard at second 0: child 1 has node n1, and so on."""
+    found = Lapses()
+    found.begin(TIMES)
+    for child in children:
+        found.heard(child, f"n{child}", 130.0, 0.0)
+    return found
+
+
+@pytest.mark.parametrize(
+    ("validity", "heartbeat", "grace", "why"),
+    [
+        (100, 51, 125, "give a validity of 2 heartbeats or more"),
+        (100, 50, 124.9, "give a grace of 125 or more"),
+        (0, 1, 1, "are seconds"),
+    ],
+)
+def test_times_that_do_not_go_together(validity, heartbeat, grace, why):
+    with pytest.raises(BadSettings, match=why):
+        Times(validity, heartbeat, grace)
+    Times(100, 50, 125)
+
+
+def test_a_device_has_fallen_back_before_it_is_let_go_if_clocks_are_within_one_percent():
+    """Its node counts validity by a clock that is slow by 1 %, and its parent grace by one that is fast by 1 %."""
+    times = Times.of(None, None, None)
+    assert (times.validity, times.heartbeat, times.grace) == (120, 30, 150)
+    assert times.validity * 1.01 < times.grace / 1.01
+
+
+def test_a_last_will_lets_go_after_grace_and_a_node_that_is_back_in_time_stays():
+    one = lapses_of(1, 2)
+    one.state("n1", 1, False, 10.0)
+    one.state("n2", 2, False, 10.0)
+    one.state("n2", 2, True, 100.0)
+    for child in (1, 2):
+        one.heard(child, f"n{child}", 130.0, 50.0)
+    assert one.due(134.9) == {}
+    assert one.due(135.0) == {1: "its node n1 has been down for 125 s"}
+
+
+def test_the_state_of_another_node_says_nothing_of_a_child():
+    one = lapses_of(1)
+    one.state("n2", 1, False, 0.0)
+    assert one.due(129.0) == {}
+
+
+def test_a_bid_that_is_not_renewed_lapses():
+    one = lapses_of(1, 2)
+    one.heard(2, "n2", 130.0, 60.0)
+    assert one.due(129.9) == {}
+    assert one.due(130.0) == {1: "its bid was not renewed for 130 s"}
+    assert set(one.due(190.0)) == {1, 2}
+
+
+def test_a_bid_never_holds_shorter_than_grace():
+    one = Lapses()
+    one.begin(TIMES)
+    one.heard(1, "n1", 5.0, 0.0)
+    assert one.due(124.9) == {}
+    assert one.due(125.0) == {1: "its bid was not renewed for 125 s"}
+
+
+def test_nobody_is_let_go_while_the_broker_is_away_and_all_counts_anew_behind_it():
+    one = lapses_of(1, 2)
+    one.missed([3], 0.0)
+    one.state("n2", 2, False, 0.0)
+    one.connected(False, 10.0)
+    assert one.due(1000.0) == {}
+    one.connected(True, 1000.0)
+    assert one.due(1124.9) == {}
+    assert set(one.due(1125.0)) == {2, 3}
+    assert set(one.due(1130.0)) == {1, 2, 3}
+
+
+def test_a_device_that_a_restarted_parent_misses():
+    one = lapses_of()
+    one.missed([3, 4], 10.0)
+    one.missed([3], 20.0)
+    assert one.due(134.9) == {}
+    assert one.due(135.0) == {3: "it was in the newest sum, and was not heard for 125 s since the restart"}
+    one.heard(3, "n3", 130.0, 135.0)
+    assert one.due(136.0) == {}
+
+
+# A relay with its parts pretended.
+
+
+def of(sort, node):
+    return (*MARKED, ("sort", sort), ("node", node), ("valid", "150"))
+
+
+def with_children(joined, **more):
+    """The street with a device as child 1, and a relay as child 2. What was fed before is forgotten."""
+    one = joined("relay", **more).begun()
+    one.link.comes("market/street/bid/1", bid(1, 4, 5, -3).to_bytes(), of("device", "house"))
+    one.link.comes("market/street/bid/2", bid(2, 7, 9, 9).to_bytes(), of("relay", "lane"))
+    one.turned()
+    one.service.read.clear()
+    return one
+
+
+def passes(one, seconds):
+    """Lets so many seconds pass for what the node knows of its children."""
+    for it in one.node.serving.letting.lapses._children.values():
+        it.heard -= seconds
+    down = one.node.serving.letting.lapses._down
+    for it in down:
+        down[it] -= seconds
+    one.turned()
+
+
+def lapsed(one, child):
+    payload = one.link.newest[f"market/street/lapsed/{child}"].payload
+    return json.loads(payload) if payload else None
+
+
+def test_a_device_that_is_silent_is_let_go_and_a_relay_never(joined):
+    one = with_children(joined)
+    one.link.comes("market/street/price/1", price(1, 4, 7, 1).to_bytes(), retained=True)
+    one.turned()
+    passes(one, 149)
+    assert "market/street/lapsed/1" not in one.link.newest
+    passes(one, 2)
+    assert one.service.read[0] == Expire(1).to_bytes()
+    assert Expire(2).to_bytes() not in one.service.read
+    assert lapsed(one, 1)["number"] == 5
+    assert one.link.newest["market/street/price/1"].payload == b"", "nobody is told a price for it"
+    assert one.node._store.newest().lapsed == {1: 5}
+    assert one.node._store.newest().relays == (2,)
+    assert any("child 1 is let go, its bid was not renewed for 150 s" in it for it in one.said)
+
+
+def test_a_bid_that_is_renewed_is_not_fed_again_and_holds_on(joined):
+    one = with_children(joined)
+    passes(one, 140)
+    one.link.comes("market/street/bid/1", bid(1, 4, 5, -3).to_bytes(), of("device", "house"))
+    one.turned()
+    passes(one, 140)
+    assert [it for it in one.service.read if it != Send().to_bytes()] == []
+    assert "market/street/lapsed/1" not in one.link.newest
+
+
+def test_the_last_will_of_a_childs_node_counts(joined):
+    one = with_children(joined)
+    assert "market/house/state" in one.link.topics
+    assert "market/lane/state" not in one.link.topics
+    one.link.comes("market/house/state", state_payload("a" * 16, "2026-01-31T06:30:00.000Z", "down", parent="street", child=1))
+    one.turned()
+    for _ in range(2):
+        one.link.comes("market/street/bid/1", bid(1, 4, 5, -3).to_bytes(), of("device", "house"))
+        one.turned()
+        passes(one, 76)
+    assert "its node house has been down for 150 s" in lapsed(one, 1)["why"]
+
+
+def test_the_state_of_a_node_elsewhere_does_not_count(joined):
+    one = with_children(joined)
+    one.link.comes("market/house/state", state_payload("a" * 16, "2026-01-31T06:30:00.000Z", "down", parent="lane", child=1))
+    one.turned()
+    assert one.node.serving.letting.lapses._down == {}
+
+
+@pytest.mark.parametrize(
+    ("child", "retained", "is_dropped", "why"),
+    [
+        (1, False, True, "child 1 is let go, by the word of an operator"),
+        (1, True, False, ""),
+        (2, False, False, "child 2 is not let go: it is a relay"),
+        (3, False, False, "child 3 is not let go: it has not bid in this session"),
+        (256, False, False, "child 256 is not let go: it is a relay, or the place in which limits are given"),
+    ],
+)
+def test_the_word_of_an_operator(joined, child, retained, is_dropped, why):
+    one = with_children(joined, limits_from=True)
+    one.link.comes(f"market/street/drop/{child}", b"{}", retained=retained)
+    one.turned()
+    assert (Expire(child).to_bytes() in one.service.read) == is_dropped
+    assert why in " ".join(one.said)
+
+
+def let_go(joined):
+    one = with_children(joined)
+    one.link.comes("market/street/drop/1", b"{}")
+    one.turned()
+    one.service.read.clear()
+    return one
+
+
+def test_a_device_that_lives_hears_old_and_is_back_by_its_next_bid(joined):
+    one = let_go(joined)
+    one.link.comes("market/street/bid/1", bid(1, 4, 5, -3).to_bytes(), of("device", "house"))
+    one.turned()
+    assert one.service.read[0] == bid(1, 4, 5, -3).to_bytes(), "it is fed again, so that an Old comes"
+    one.writes(Old(1, 5))
+    assert one.link.newest["market/street/price/1"].payload == Old(1, 5).to_bytes()
+    one.link.comes("market/street/bid/1", bid(1, 8, 5, -3).to_bytes(), of("device", "house"))
+    one.turned()
+    assert bid(1, 8, 5, -3).to_bytes() in one.service.read
+    assert lapsed(one, 1) is None
+    assert one.node._store.newest().lapsed == {}
+    one.writes(price(1, 8, 9, 1))
+    assert one.link.newest["market/street/price/1"].payload == price(1, 8, 9, 1).to_bytes()
+
+
+def test_an_old_that_says_nothing_new_is_not_handed_on(joined):
+    one = with_children(joined)
+    one.writes(Old(1, 4), Old(2, 9))
+    assert "market/street/price/1" not in one.link.newest
+    assert "market/street/price/2" not in one.link.newest
+
+
+def test_a_lapse_is_given_again_after_a_restart_that_forgot_it(joined, tmp_path):
+    """The Resume has the device's own number: the lapse was in no bid yet."""
+    saved(tmp_path, "relay", "street", relay_resume(3, 0, 0, numbers((1, 4))), lapsed={1: 5}, relays=(2,))
+    one = joined("relay").begun()
+    assert one.service.read[:2] == [relay_resume(3, 0, 0, numbers((1, 4))).to_bytes(), Expire(1).to_bytes()]
+    one.link.comes("market/street/bid/1", bid(1, 4, 5, -3).to_bytes(), of("device", "house"))
+    one.turned()
+    one.service.ends()
+    one.turned()
+    one.node.serving._restart_at = 0
+    one.turned()
+    assert one.service.read[1:3] == [bid(1, 4, 5, -3).to_bytes(), Expire(1).to_bytes()]
+
+
+def test_a_restarted_parent_lets_a_device_go_that_it_misses_and_waits_for_a_relay(joined, tmp_path):
+    saved(tmp_path, "relay", "street", relay_resume(3, 0, 0, numbers((1, 4), (2, 7))), relays=(2,))
+    one = joined("relay").begun()
+    missed = one.node.serving.letting.lapses._missed
+    assert set(missed) == {1}
+    missed[1] -= 151
+    one.turned()
+    assert Expire(1).to_bytes() in one.service.read
+    assert Expire(2).to_bytes() not in one.service.read
+    assert lapsed(one, 1)["number"] == 5
+
+
+def test_a_later_session_forgets_who_was_let_go(joined):
+    one = let_go(joined)
+    one.link.comes(BASIS_TOPIC, basis_payload(LATER))
+    one.turned()
+    assert Expire(1).to_bytes() not in one.service.read
+    assert one.node._store.load(LATER) is None or one.node._store.load(LATER).lapsed == {}
+
+
+def test_a_child_that_left_by_itself_is_not_let_go(joined):
+    one = with_children(joined)
+    one.link.comes("market/street/bid/1", gone(1, 6).to_bytes(), of("device", "house"))
+    one.turned()
+    passes(one, 500)
+    assert "market/street/lapsed/1" not in one.link.newest
+
+
+def test_a_bid_of_another_version_is_not_taken(joined):
+    one = with_children(joined)
+    properties = [it for it in of("device", "house") if it[0] != "version"]
+    one.link.comes("market/street/bid/3", bid(3, 1, 5, -3).to_bytes(), properties)
+    one.turned()
+    assert bid(3, 1, 5, -3).to_bytes() not in one.service.read
+    assert any("market/street/bid/3 comes from a node of another version" in it for it in one.said)
+
+
+# Bounds.
+
+
+def test_bounds_come_directly_behind_the_resume(joined, tmp_path):
+    saved(tmp_path, "relay", "street", relay_resume(3, 0, 0, numbers((1, 4))))
+    one = joined("relay", children=(ChildSettings(1, -300, 500), ChildSettings(9))).begun()
+    due = ["15 0001 FFFFFED4 000001F4", "15 0009 C4653600 3B9ACA00"]
+    assert one.service.read[1:3] == [bytes.fromhex(it) for it in due]
+
+
+def test_a_bid_that_is_too_much_is_told_and_the_one_before_counts(joined):
+    one = with_children(joined, children=(ChildSettings(1, -300, 500),))
+    one.link.comes("market/street/bid/1", bid(1, 6, 501, 0).to_bytes(), of("device", "house"))
+    one.turned()
+    one.writes(TooMuch(1, 6))
+    told = json.loads(one.link.newest["market/street/refused/1"].payload)
+    assert (told["number"], told["least"], told["greatest"]) == (6, -300, 500)
+    assert any("bid 6 of child 1 is outside -300 to 500 watts" in it for it in one.said)
+    one.service.ends()
+    one.turned()
+    one.node.serving._restart_at = 0
+    one.turned()
+    assert bid(1, 4, 5, -3).to_bytes() in one.service.read
+    assert bid(1, 6, 501, 0).to_bytes() not in one.service.read
+    one.link.comes("market/street/bid/1", bid(1, 8, 500, 0).to_bytes(), of("device", "house"))
+    one.turned()
+    assert one.link.newest["market/street/refused/1"].payload == b""
+
+
+def test_a_child_is_told_that_its_bid_is_too_much(joined):
+    one = joined("device").begun(("market/street/refused/2", b'{"number": 6, "why": "outside -300 to 500 watts", "time": "t"}'))
+    assert "street does not take bid 6: it is outside -300 to 500 watts. The one before counts" in one.said
+
+
+# A device that was let go.
+
+
+def test_a_device_that_was_let_go_feeds_the_old_once(joined, tmp_path):
+    saved(tmp_path, "device", "house", device_resume(4, 2, (5, -3)))
+    one = joined("device").begun()
+    for _ in range(2):
+        one.link.comes("market/street/price/2", Old(2, 5).to_bytes())
+        one.turned()
+        one.writes(device_resume(8, 2, (5, -3)), bid(2, 8, 5, -3))
+        one.link.confirm()
+        one.turned()
+    assert one.service.read[1:] == [Old(2, 5).to_bytes()]
+    assert dict(one.link.newest["market/street/bid/2"].properties)["valid"] == "150"
+
+
+def test_a_device_that_hears_that_it_was_let_go_renews_its_bid_and_tells_its_control(joined, tmp_path):
+    saved(tmp_path, "device", "house", device_resume(4, 2, (5, -3)), setpoint='{"power": 5, "bid": 4, "time": "t"}')
+    one = joined("device", fallback=-1).begun()
+    one.writes(bid(2, 4, 5, -3))
+    assert len(one.link.of("market/street/bid/2")) == 1
+    lapse = b'{"number": 5, "why": "by the word of an operator", "time": "2026-01-31T06:30:00.000Z"}'
+    one.link.comes("market/street/lapsed/2", lapse)
+    one.turned()
+    assert one.link.of("market/street/bid/2") == [bid(2, 4, 5, -3).to_bytes()] * 2
+    told = json.loads(one.control.told[-1])
+    assert (told["market"], told["power"], told["why"]) == ("silent", -1, "street has let it go, by the word of an operator")
+
+
+def test_a_device_that_was_let_go_is_told_so_before_its_stored_setpoint(joined, tmp_path):
+    saved(tmp_path, "device", "house", device_resume(4, 2, (5, -3)), setpoint='{"power": 5, "bid": 4, "time": "t"}')
+    lapse = b'{"number": 5, "why": "w", "time": "2026-01-31T06:30:00.000Z"}'
+    one = joined("device").begun(("market/street/lapsed/2", lapse))
+    assert [json.loads(it).get("market") for it in one.control.told] == ["silent"]
