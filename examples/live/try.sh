@@ -38,7 +38,7 @@ wait_for_lines() {
 }
 
 port="$(python3 -c 'import socket; one = socket.socket(); one.bind(("127.0.0.1", 0)); print(one.getsockname()[1])')"
-bash "$here/keys.sh" "$work" 127.0.0.1 auctioneer street house store storecontrol operator
+bash "$here/keys.sh" "$work" 127.0.0.1 auctioneer street house store storecontrol operator gridoperator
 for file in mosquitto.conf mosquitto.acl auctioneer.toml street.toml house.toml store.toml; do here_alone "$file"; done
 mkdir -p "$work/state"
 [ "$(id -u)" != 0 ] || echo "user root" >>"$work/mosquitto.conf"

@@ -6,6 +6,7 @@ the whole path above has lived at its time. Times without a zone here are second
 
 from __future__ import annotations
 
+import time
 from datetime import datetime, timedelta, timezone
 
 from .errors import BadMessage
@@ -27,8 +28,8 @@ class Silence:
     """What a node knows of the life of its market."""
 
     def __init__(self) -> None:
-        """Has heard nothing."""
-        self.begin(Times(), 0.0)
+        """Has heard nothing, and waits for its first session as long as the default says."""
+        self.begin(Times(), time.monotonic())
 
     def begin(self, times: Times, now: float) -> None:
         """Begins a session: for a while it counts as if a heartbeat had come now."""
@@ -41,15 +42,15 @@ class Silence:
         self.let_go_since = self._why = ""
         self._gone = 0
 
-    def hear(self, time: str, now: float, retained: bool) -> bool:
+    def hear(self, moment: str, now: float, retained: bool) -> bool:
         """Takes a heartbeat, and says whether it is newer than the one before.
 
         The age of one that the broker had kept is taken from the clock of this machine.
         """
-        if self.newest and time_of(time) <= time_of(self.newest):
+        if self.newest and time_of(moment) <= time_of(self.newest):
             return False
-        age = (datetime.now(timezone.utc) - time_of(time)).total_seconds() if retained else 0.0
-        self.newest, self.heard = time, now - max(0.0, age)
+        age = (datetime.now(timezone.utc) - time_of(moment)).total_seconds() if retained else 0.0
+        self.newest, self.heard = moment, now - max(0.0, age)
         return True
 
     def renewed(self, sent: float) -> None:

@@ -114,12 +114,15 @@ def test_login_and_tls(live, tmp_path):
 user auctioneer
 topic readwrite market/auctioneer/#
 topic readwrite market/basis
+topic read market/+/state
 
 user street
 topic readwrite market/street/#
 topic readwrite market/auctioneer/bid/1
 topic read market/auctioneer/price/1
-topic read market/auctioneer/state
+topic read market/auctioneer/refused/1
+topic read market/auctioneer/heartbeat
+topic read market/+/state
 topic read market/basis
 """
     for child, name in ((1, "house"), (2, "store")):
@@ -128,6 +131,9 @@ user {name}
 topic readwrite market/{name}/#
 topic readwrite market/street/bid/{child}
 topic read market/street/price/{child}
+topic read market/street/lapsed/{child}
+topic read market/street/refused/{child}
+topic read market/street/heartbeat
 topic read market/street/state
 topic read market/basis
 """
@@ -143,7 +149,7 @@ topic read market/basis
             market.offers(house=CONSTANT, store=falls_at(4, 0, -150))
             market.settles_at(4, house=100, store=-150)
             time.sleep(0.5)
-            assert [it for said in market.said.values() for it in said if "back" in it] == []
+            assert [it for said in market.said.values() for it in said if "back" in it or "let" in it] == []
 
 
 def test_a_device_whose_control_is_silent_leaves_and_its_price_is_cleared(market, onlooker):

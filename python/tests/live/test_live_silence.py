@@ -227,6 +227,15 @@ def test_a_first_bid_long_after_the_start_is_no_silence(joined):
     assert [it["market"] for it in told(one)] == ["silent"]
 
 
+def test_a_node_that_waits_for_its_market_is_silent_after_a_while_and_not_before(joined):
+    one = joined("device", fallback=3)
+    one.control.offer(b'{"power": [500, -300]}')
+    one.turned()
+    assert told(one) == []
+    passes(one, 121)
+    assert [(it["market"], it["power"]) for it in told(one)] == [("silent", 3)]
+
+
 def test_a_relay_says_that_it_is_silent(joined):
     one = joined("relay").begun()
     passes(one, 500)
