@@ -46,20 +46,20 @@ def test_three_agents_over_tcp_and_websocket_with_tls(live, tmp_path):
         assert house.welcome["clusterId"] == "street"
         market = {"commodity": "electricity", "currency": "GBP", "minimumPrice": 0, "maximumPrice": 9, "priceSteps": 10}
         assert house.welcome["marketBasis"] == market
-        house.waits_for(price=9, power=100, bidNumber=5, offer=1, clearing=1)
+        house.waits_for(price=9, power=100, bidNumber=5, offer=2, clearing=1)
         store = WebSocketAgent(hub.websocket_port, ca).login("store", hub.tokens["store"]).bids(falls_at(4, 0, -150), 9)
         assert store.welcome["session"] == house.welcome["session"]
         assert store.welcome["agentId"] == "store"
-        store.waits_for(price=4, step=4, power=-150, bidNumber=9, offer=1, clearing=2)
-        house.waits_for(price=4, step=4, power=100, bidNumber=5, offer=1, clearing=2)
+        store.waits_for(price=4, step=4, power=-150, bidNumber=9, offer=2, clearing=2)
+        house.waits_for(price=4, step=4, power=100, bidNumber=5, offer=2, clearing=2)
         mill = hub.agent("mill", ca=ca)
         # 60, 50, 40, 30, 20, 10, 0 W at the prices 0 to 6.
         mill.says({"bidUpdate": {"pricePoints": [{"price": 0, "demand": 60}, {"price": 6, "demand": 0}]}})
-        mill.waits_for(step=4, power=20, offer=1)
+        mill.waits_for(step=4, power=20, offer=2)
         assert "bidNumber" not in mill.prices[-1]
         mill.says({"bidUpdate": {"pricePoints": [{"price": 0, "demand": 160}, {"price": 8, "demand": 0}], "bidNumber": 77}})
         # At 4: 100 - 150 + 80 = 30. At 5: 100 - 150 + 60 = 10. At 6: -10.
-        mill.waits_for(step=6, power=40, bidNumber=77, offer=2)
+        mill.waits_for(step=6, power=40, bidNumber=77, offer=4)
         settles(6, house=(house, 100), store=(store, -150))
         assert all(it["time"].endswith("Z") for it in house.prices + store.prices + mill.prices)
         for agent in (house, store, mill):
@@ -92,12 +92,12 @@ def test_a_leave_and_a_bid_without_a_number(hub):
 
 
 def test_the_same_bid_under_another_number_is_answered_by_it(hub):
-    house = hub.agent("house").bids(CONSTANT, 1).waits_for(bidNumber=1, offer=1, clearing=1)
-    house.bids(CONSTANT, 2).waits_for(bidNumber=2, offer=1, clearing=1)
+    house = hub.agent("house").bids(CONSTANT, 1).waits_for(bidNumber=1, offer=2, clearing=1)
+    house.bids(CONSTANT, 2).waits_for(bidNumber=2, offer=2, clearing=1)
 
 
 def test_a_disconnected_agent_is_gone_after_a_while_and_comes_back(live, tmp_path):
-    with HubInThread(tmp_path, live, gone=1.0) as hub:
+    with HubInThread(tmp_path, live, gone=1.0, validity=0.8) as hub:
         house = hub.agent("house").bids(CONSTANT, 1)
         store = hub.agent("store").bids(falls_at(4, 0, -150), 1)
         settles(4, house=(house, 100), store=(store, -150))
@@ -310,14 +310,14 @@ def test_it_ends_in_order_and_goes_on(process):
     assert seconds < 5
     assert (process.folder / "state" / "agents" / "store").is_dir()
     process.start()
-    again = process.agent("store").waits_for(step=4, power=-150, bidNumber=8, offer=1, clearing=2)
+    again = process.agent("store").waits_for(step=4, power=-150, bidNumber=8, offer=2, clearing=2)
     assert again.welcome["session"] == store.welcome["session"]
-    again.bids(falls_at(6, 0, -150), 9).waits_for(step=6, bidNumber=9, offer=2, clearing=3)
-    process.agent("house").waits_for(step=6, power=100, bidNumber=1, offer=1, clearing=3)
+    again.bids(falls_at(6, 0, -150), 9).waits_for(step=6, bidNumber=9, offer=4, clearing=3)
+    process.agent("house").waits_for(step=6, power=100, bidNumber=1, offer=2, clearing=3)
 
 
 def test_agents_that_do_not_come_back_leave_after_a_restart(live, tmp_path):
-    with HubProcess(tmp_path, live, gone=1.0) as process:
+    with HubProcess(tmp_path, live, gone=1.0, validity=0.8) as process:
         house = process.agent("house").bids(CONSTANT, 1)
         store = process.agent("store").bids(falls_at(4, 0, -150), 1)
         settles(4, house=(house, 100), store=(store, -150))
@@ -334,7 +334,7 @@ def test_a_new_session(live, tmp_path):
         process.start()
         house = process.agent("house")
         assert house.welcome["session"] != first
-        house.bids(CONSTANT, 6).waits_for(clearing=1, offer=1, bidNumber=6)
+        house.bids(CONSTANT, 6).waits_for(clearing=1, offer=2, bidNumber=6)
         assert len(house.prices) == 1
 
 

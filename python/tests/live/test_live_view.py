@@ -272,3 +272,35 @@ def test_the_json_has_the_members_of_the_page():
         "demand": 300,
         "is_answered": False,
     }
+
+
+# Silence, lapses and alarms.
+
+
+def test_a_device_that_is_let_go_counts_nowhere_until_it_bids_again():
+    lapse = b'{"number": 5, "why": "by the word of an operator", "time": "2026-01-31T06:30:00.000Z"}'
+    told = village().without("store/setpoint").put("street/lapsed/2", lapse)
+    store, street = told.node("store"), told.node("street")
+    assert (store.lapsed, store.why_lapsed, store.power) == (MOMENT, "by the word of an operator", None)
+    assert (street.power.power, street.power.lacking) == (100, 0)
+    told.bid("street", 2, 8, *falls_at(4, 0, -150))
+    assert told.node("store").lapsed is None
+
+
+def test_a_control_that_was_told_silence_takes_its_fallback():
+    told = village().put("store/setpoint", b'{"market": "silent", "since": "2026-01-31T06:30:00.000Z", "power": -7, "why": "w"}')
+    told.state("store", "device", "street", 2, silent=MOMENT)
+    store, street = told.node("store"), told.node("street")
+    assert (store.power.power, store.power.by, store.silent) == (-7, "fallback", MOMENT)
+    assert street.power.power == 93
+
+
+def test_an_alarm_is_shown():
+    told = village().state("street", "relay", "auctioneer", 1, None, 50, alarm="no price brings the power within -5 to 50 W")
+    assert told.node("street").alarm == "no price brings the power within -5 to 50 W"
+
+
+@pytest.mark.parametrize("below", ["street/lapsed/2", "store/setpoint"])
+def test_a_lapse_or_a_silence_that_is_none_is_told(below):
+    told = village().put(below, b'{"market": "silent", "number": "5"}')
+    assert [it.topic for it in told.view().not_taken] == [f"market/{below}"]

@@ -26,8 +26,8 @@ class Told:
         self.messages[topic] = Message(topic, payload, {"time": time, "session": session})
         return self
 
-    def state(self, name, sort=None, parent=None, child=None, floor=None, ceiling=None, state="up", why="", session=SESSION.id):
-        told = StateMessage(state, "0" * 16, MOMENT, session, MOMENT, why, sort, parent, child, floor, ceiling)
+    def state(self, name, sort=None, parent=None, child=None, floor=None, ceiling=None, state="up", why="", session=SESSION.id, **more):
+        told = StateMessage(state, "0" * 16, MOMENT, session, MOMENT, why, sort, parent, child, floor, ceiling, **more)
         return self.put(f"{name}/state", told.to_bytes())
 
     def bid(self, parent, child, number, *demands, **more):
