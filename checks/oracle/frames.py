@@ -102,7 +102,16 @@ def old(child, kept):
 
 
 def price(child, number, index, step):
+    """A Price of `serve`. That of a node of a tree has the basis too."""
     return struct.pack(">BHIIH", PRICE, child, number, index, step)
+
+
+def bid(child, number, demands):
+    return struct.pack(f">BHI{len(demands)}i", BID, child, number, *demands)
+
+
+def gone(child, number):
+    return struct.pack(">BHI", GONE, child, number)
 
 
 def clearing_step(total):

@@ -1,141 +1,49 @@
 """Answers what a node of a market across machines reads, by docs/RELAY.md, docs/SERVE.md and docs/DEFINITIONS.md alone.
 
-    python3 -m checks.oracle.nodes relay CHILD FLOOR CEILING | auctioneer | device CHILD
+    python3 -m checks.oracle.nodes relay CHILD FLOOR CEILING [GIVER] | auctioneer | device CHILD
 
 takes the place of the node: it reads standard input in pieces and answers as frames come, with the same exit status.
 """
 
 import re
-import struct
 import sys
 from dataclasses import dataclass
 
-from checks.oracle import frames
+from checks.oracle import frames, node_frames
 from checks.oracle.frames import (
-    BID, CHILDREN, CLEAR, GONE, HELLO_FORM, MOST, NOT_CHANGED, OLD, PRICE, Bid, Clear, Hello, Right, bid_forms, clearing_step, is_bid,
-    old, price, sum_of,
+    BID, CHILDREN, CLEAR, GONE, HELLO_FORM, MOST, NOT_CHANGED, OLD, Bid, Clear, Gone, Hello, bid, bid_forms, clearing_step, gone, old, sum_of,
+)
+from checks.oracle.node_frames import (
+    AUCTIONEER_RESUME_FORM, BOUND, EXPIRE, LEAVE, LIMITS, NOT_CAUGHT_UP, OFFER, OUT_OF_NUMBERS, PRICE, RESUME, RESUME_GONE, RESUME_GONE_FORM,
+    SEND, WINDOW_FULL, AuctioneerResume, Bound, DeviceResume, Expire, Leave, Limits, Offer, Old, Price, RelayResume, ResumeGone, Send,
+    are_limits, device_resume, device_resume_form, dropped, other_basis, out_of_limits, price, price_form, relay_resume,
+    relay_resume_form, resume_gone, setpoint, too_much,
 )
 
-SEND, WINDOW_FULL, DROPPED, RESUME, OFFER, LEAVE, SETPOINT, RESUME_GONE, NOT_CAUGHT_UP, OUT_OF_NUMBERS = range(9, 19)
 WINDOW, LAST_NUMBER = 8, 4_294_967_295
-USAGE_LINE = b"usage: live relay CHILD FLOOR CEILING | live auctioneer | live device CHILD\n"
-
-
-@dataclass(frozen=True)
-class Send(Right):
-    pass
-
-
-@dataclass(frozen=True)
-class Leave(Right):
-    pass
-
-
-@dataclass(frozen=True)
-class Offer:
-    demands: tuple
-
-    def is_right(self, basis):
-        return is_bid(self.demands, basis)
-
-
-@dataclass(frozen=True)
-class Price:
-    reader: int
-    child: int
-    number: int
-    index: int
-    step: int
-
-    def is_right(self, basis):
-        return self.child == self.reader and self.number > 0 and self.step < basis.steps
-
-
-@dataclass(frozen=True)
-class Old:
-    reader: int
-    child: int
-    kept: int
-
-    def is_right(self, _):
-        return self.child == self.reader
-
-
-@dataclass(frozen=True)
-class RelayResume:
-    last: int
-    answered: int
-    index: int
-    numbers: dict
-
-    def is_right(self, _):
-        return self.answered <= self.last
-
-
-@dataclass(frozen=True)
-class AuctioneerResume(Right):
-    index: int
-    numbers: dict
-
-
-@dataclass(frozen=True)
-class DeviceResume:
-    last: int
-    index: int
-    demands: tuple
-
-    def is_right(self, basis):
-        return is_bid(self.demands, basis)
-
-
-@dataclass(frozen=True)
-class ResumeGone(Right):
-    last: int
-    index: int
-
-
-def price_forms(child):
-    """The frames that a node reads of its parent."""
-    return {
-        PRICE: (">HIIH", lambda *it: Price(child, *it)),
-        OLD: (">HI", lambda *it: Old(child, *it)),
-    }
-
-
-def gone(child, number):
-    return struct.pack(">BHI", GONE, child, number)
-
-
-def bid(child, number, demands):
-    return struct.pack(f">BHI{len(demands)}i", BID, child, number, *demands)
-
-
-def dropped(number, index):
-    return struct.pack(">BII", DROPPED, number, index)
-
-
-def by_child(numbers):
-    """The numbers of 256 children as a frame has them, 0 for a child without one."""
-    return [numbers.get(it, 0) for it in range(1, CHILDREN + 1)]
+USAGE_LINE = b"usage: live relay CHILD FLOOR CEILING [GIVER] | live auctioneer | live device CHILD\n"
 
 
 def sum_of_heard(heard, steps):
     return sum_of([it.demands for it in heard.values() if isinstance(it, Bid)], steps)
 
 
-def without_zeros(numbers):
-    """The numbers of 256 children by child, for those that have one."""
-    return {child: it for child, it in enumerate(numbers, 1) if it}
+def parents_number(number):
+    """The number under which a parent counts a child as gone, of which it knows this number: the odd one that is not below."""
+    return number if number % 2 else number + 1
 
 
-def local_step(total, floor, ceiling, step):
-    """The step of the nodes below a relay with these limits, for a price of this step."""
+def settled_step(total, floor, ceiling, step):
+    """The step for which a relay with this sum and these limits settles if this step is told to it."""
     last = len(total) - 1
-    if total[step] > ceiling:
-        return next((it for it in range(last + 1) if total[it] <= ceiling), last)
-    if total[step] < floor:
-        return next((it for it in range(last, -1, -1) if total[it] >= floor), 0)
-    return step
+    first = next((it for it in range(last + 1) if total[it] <= ceiling), last)
+    return max(first, min(step, next((it for it in range(last, -1, -1) if total[it] >= floor), 0)))
+
+
+def announced(total, floor, ceiling):
+    """What a relay announces: at each step what its sum is at the step for which it settles, as far as a bid may say it."""
+    settled = (total[settled_step(total, floor, ceiling, it)] for it in range(len(total)))
+    return [min(max(it, -MOST), MOST) for it in settled]
 
 
 class Node:
@@ -153,32 +61,57 @@ class Node:
     def to(self, frame):
         """The bytes of the answers to a frame."""
         self.read += 1
-        if not isinstance(frame, Hello):
-            return self.answer(frame)
-        self.basis = frame
-        return b""
+        if isinstance(frame, Hello):
+            self.basis = frame
+            return b""
+        if isinstance(frame, Price) and frame.basis != self.basis:
+            return other_basis(frame.number, frame.index)
+        return self.answer(frame)
 
 
 class Parent(Node):
     """What a relay and the auctioneer hear of their children.
 
-    `heard` has of each child the Bid or Gone with the greatest number since the start, and `numbers` the number of each child in
-    what was sent last. `is_lost` says whether a restart lost what was sent last.
+    `heard` has of each child the Bid, Gone or Limits with the greatest number since the start, and `numbers` the number of each child
+    in what was sent last. `is_lost` says whether a restart lost what was sent last. `bounds` has the least and the greatest power of
+    a child that has any.
     """
 
     def __init__(self):
         super().__init__()
         self.heard, self.numbers, self.has_news, self.is_lost = {}, {}, False, False
+        self.bounds = {}
+
+    def forms_of_children(self):
+        return bid_forms(self.basis.steps) | {EXPIRE: (">H", Expire), BOUND: (">Hii", Bound)}
 
     def kept(self, child):
         """The number that is kept of a child, 0 if nothing was heard of it."""
         return self.heard[child].number if child in self.heard else 0
 
-    def counted(self, frame):
-        """The answers to a Bid or a Gone, if nothing was lost."""
-        if frame.number <= self.kept(frame.child):
-            return old(frame.child, self.kept(frame.child))
-        self.heard[frame.child], self.has_news = frame, True
+    def of_child(self, frame):
+        """The answers to a Bid, a Gone or an Expire."""
+        if isinstance(frame, Expire):
+            known = max(self.kept(frame.child), self.numbers.get(frame.child, 0))
+            frame = Gone(frame.child, parents_number(known))
+            return b"" if frame.number <= self.kept(frame.child) else self.counted(frame.child, frame)
+        if isinstance(frame, Bid) and self.is_too_much(frame):
+            return too_much(frame.child, frame.number)
+        return self.counted(frame.child, frame)
+
+    def is_too_much(self, frame):
+        least, greatest = self.bounds.get(frame.child, (-MOST, MOST))
+        return any(not least <= it <= greatest for it in frame.demands)
+
+    def counted(self, child, frame):
+        """The answers to what a child sent under a number: it counts if its number is the greatest."""
+        if frame.number <= self.kept(child):
+            return old(child, self.kept(child)) + self.tried_again()
+        self.heard[child], self.has_news = frame, True
+        return self.found_again() + self.tried_again()
+
+    def tried_again(self):
+        """The answers to what waits at a parent."""
         return b""
 
     def compared(self):
@@ -199,41 +132,75 @@ class Parent(Node):
         self.numbers = {child: it.number for child, it in self.heard.items()}
         self.has_news = self.is_lost = False
 
+    def prices_for(self, heard, index, step):
+        """A Price for each child that was not gone, in the order of the children."""
+        told = [heard[child] for child in sorted(heard)]
+        return b"".join(price(to.child, to.number, index, step, self.basis) for to in told if isinstance(to, Bid))
+
 
 @dataclass(frozen=True)
 class Record:
-    """What went into a bid of a relay: of each child its Bid or Gone, and the sum of their demands."""
+    """What went into a bid of a relay: what was heard of each child, the sum of their demands, and the floor and the ceiling."""
 
     heard: dict
     total: list
+    limits: tuple
 
 
 class Relay(Parent):
-    def __init__(self, child, floor, ceiling):
+    """`limits` are those of the next bid, and `newest` those of the newest bid."""
+
+    def __init__(self, child, floor, ceiling, giver=0):
         super().__init__()
-        self.child, self.floor, self.ceiling = child, floor, ceiling
+        self.child, self.given, self.giver = child, (floor, ceiling, giver), giver
+        self.limits = self.newest = floor, ceiling
         self.last = self.answered = self.index = 0
         self.records, self.waiting = {}, None
 
     def resume_forms(self):
-        return {RESUME: (f">III{CHILDREN}I", lambda *it: RelayResume(*it[:3], without_zeros(it[3:])))}
+        return {RESUME: relay_resume_form(self.given)}
 
     def later_forms(self):
-        return bid_forms(self.basis.steps) | price_forms(self.child) | {SEND: (">", Send)}
+        own = {PRICE: price_form(self.child), OLD: (">HI", lambda *it: Old(self.child, *it)), SEND: (">", Send)}
+        if self.giver == 0:
+            return self.forms_of_children() | own
+        return self.without_giver(self.forms_of_children()) | own | {LIMITS: (">Iii", Limits)}
+
+    def without_giver(self, forms):
+        """These forms, of which a frame with the giver as child is refused."""
+        def refusing(make):
+            def made(*fields):
+                return make(*(0 if at == 0 and it == self.giver else it for at, it in enumerate(fields)))
+            return made
+        return {kind: (fields, refusing(make)) for kind, (fields, make) in forms.items()}
 
     def answer(self, frame):
         match frame:
             case RelayResume():
-                self.last, self.answered, self.index, self.numbers = frame.last, frame.answered, frame.index, frame.numbers
-                self.is_lost = self.last > 0
-                return b""
+                return self.come_back(frame)
             case Old():
+                return b""
+            case Bound():
+                self.bounds[frame.child] = frame.least, frame.greatest
                 return b""
             case Price():
                 return self.priced(frame)
             case Send():
                 return self.asked() + self.tried_again()
-        return self.counted(frame) + self.found_again() + self.tried_again()
+            case Limits():
+                return self.counted(self.giver, frame)
+        return self.of_child(frame)
+
+    def come_back(self, it):
+        self.last, self.answered, self.index, self.numbers, self.newest = it.last, it.answered, it.index, it.numbers, it.newest
+        self.is_lost = self.last > 0
+        number = self.numbers.get(self.giver, 0) if self.giver else 0
+        return self.counted(self.giver, Limits(number, *it.newest)) if number else b""
+
+    def counted(self, child, frame):
+        if isinstance(frame, Limits) and frame.number > self.kept(child):
+            self.limits = frame.floor, frame.ceiling
+        return super().counted(child, frame)
 
     def found_again(self):
         """The last bid, if the relay just had its record again."""
@@ -245,10 +212,15 @@ class Relay(Parent):
     def record(self):
         """Notes what was heard as what went into the last bid."""
         self.sent()
-        self.records[self.last] = Record(dict(self.heard), sum_of_heard(self.heard, self.basis.steps))
+        self.newest = self.limits
+        self.records[self.last] = Record(dict(self.heard), sum_of_heard(self.heard, self.basis.steps), self.limits)
 
     def last_bid(self):
-        return bid(self.child, self.last, [min(max(it, self.floor), self.ceiling) for it in self.records[self.last].total])
+        record = self.records[self.last]
+        floor, ceiling = record.limits
+        is_kept = any(floor <= it <= ceiling for it in record.total)
+        told = b"" if is_kept else out_of_limits(self.last)
+        return bid(self.child, self.last, announced(record.total, floor, ceiling)) + told
 
     def asked(self):
         if not self.is_caught_up():
@@ -264,7 +236,7 @@ class Relay(Parent):
         return self.resume() + self.last_bid()
 
     def resume(self):
-        return struct.pack(f">BIII{CHILDREN}I", RESUME, self.last, self.answered, self.index, *by_child(self.numbers))
+        return relay_resume(self.last, self.answered, self.index, self.basis, self.given, self.newest, self.numbers)
 
     def priced(self, it):
         """The answers to a Price that comes, or that waited."""
@@ -293,9 +265,7 @@ class Relay(Parent):
         return self.priced(it)
 
     def passed(self, record, it):
-        step = local_step(record.total, self.floor, self.ceiling, it.step)
-        told = [record.heard[child] for child in sorted(record.heard)]
-        return b"".join(price(to.child, to.number, it.index, step) for to in told if isinstance(to, Bid))
+        return self.prices_for(record.heard, it.index, settled_step(record.total, *record.limits, it.step))
 
 
 class Auctioneer(Parent):
@@ -304,10 +274,10 @@ class Auctioneer(Parent):
         self.index = 0
 
     def resume_forms(self):
-        return {RESUME: (f">I{CHILDREN}I", lambda index, *it: AuctioneerResume(index, without_zeros(it)))}
+        return {RESUME: AUCTIONEER_RESUME_FORM}
 
     def later_forms(self):
-        return bid_forms(self.basis.steps) | {CLEAR: (">", Clear)}
+        return self.forms_of_children() | {CLEAR: (">", Clear)}
 
     def answer(self, frame):
         match frame:
@@ -315,9 +285,12 @@ class Auctioneer(Parent):
                 self.index, self.numbers = frame.index, frame.numbers
                 self.is_lost = self.index > 0
                 return b""
+            case Bound():
+                self.bounds[frame.child] = frame.least, frame.greatest
+                return b""
             case Clear():
                 return self.cleared()
-        return self.counted(frame) + self.found_again()
+        return self.of_child(frame)
 
     def found_again(self):
         """The prices of the last clearing, if the auctioneer just had it again."""
@@ -335,16 +308,14 @@ class Auctioneer(Parent):
             return bytes([OUT_OF_NUMBERS])
         self.index += 1
         self.sent()
-        return struct.pack(f">BI{CHILDREN}I", RESUME, self.index, *by_child(self.numbers)) + self.prices()
+        return node_frames.auctioneer_resume(self.index, self.basis, self.numbers) + self.prices()
 
     def prices(self):
-        step = clearing_step(sum_of_heard(self.heard, self.basis.steps))
-        told = [self.heard[child] for child in sorted(self.heard)]
-        return b"".join(price(to.child, to.number, self.index, step) for to in told if isinstance(to, Bid))
+        return self.prices_for(self.heard, self.index, clearing_step(sum_of_heard(self.heard, self.basis.steps)))
 
 
 class Device(Node):
-    """The agent of one device.
+    """The agent of one device. Its own numbers are even: the odd one after each is its parent's.
 
     `offers` has by its number the offer answered last, which is number `answered`, and each later one. An offer that came back is
     held for answered. `newest` is the last offer, or None if the device has left or never offered.
@@ -356,13 +327,12 @@ class Device(Node):
         self.offers, self.answered, self.newest = {}, 0, None
 
     def resume_forms(self):
-        return {
-            RESUME: (f">II{self.basis.steps}i", lambda last, index, *it: DeviceResume(last, index, it)),
-            RESUME_GONE: (">II", ResumeGone),
-        }
+        return {RESUME: device_resume_form(self.basis.steps), RESUME_GONE: RESUME_GONE_FORM}
 
     def later_forms(self):
-        return price_forms(self.child) | {
+        return {
+            PRICE: price_form(self.child),
+            OLD: (">HI", lambda *it: Old(self.child, *it)),
             OFFER: (f">{self.basis.steps}i", lambda *it: Offer(it)),
             LEAVE: (">", Leave),
         }
@@ -383,7 +353,7 @@ class Device(Node):
                 return self.left()
             case Price():
                 return self.priced(frame)
-        return b""
+        return self.let_go(frame.kept)
 
     def keep(self, demands):
         self.newest = self.offers[self.last] = demands
@@ -391,25 +361,43 @@ class Device(Node):
     def last_bid(self):
         return bid(self.child, self.last, self.newest)
 
+    def has_numbers(self, count):
+        """Whether so many own numbers are left, each with the parent's behind it."""
+        return self.last + 2 * count + 1 <= LAST_NUMBER
+
     def offered(self, demands):
         if sum(number > self.answered for number in self.offers) >= WINDOW:
             return bytes([WINDOW_FULL])
-        if self.last >= LAST_NUMBER - 1:
+        # One is left for leaving.
+        if not self.has_numbers(2):
             return bytes([OUT_OF_NUMBERS])
-        self.last += 1
+        self.last += 2
         self.keep(demands)
         return self.resume() + self.last_bid()
 
     def left(self):
-        if self.last == LAST_NUMBER:
+        if not self.has_numbers(1):
             return bytes([OUT_OF_NUMBERS])
-        self.last, self.offers, self.newest = self.last + 1, {}, None
+        self.leave()
         return self.resume() + gone(self.child, self.last)
+
+    def leave(self):
+        self.last, self.offers, self.newest = self.last + 2, {}, None
+
+    def let_go(self, kept):
+        """The answers to an Old: a device that its parent let go leaves, and makes its newest offer anew."""
+        if kept <= self.last or self.newest is None or not self.has_numbers(3):
+            return b""
+        demands = self.newest
+        self.leave()
+        self.answered, self.last = self.last, self.last + 2
+        self.keep(demands)
+        return self.resume() + self.last_bid()
 
     def resume(self):
         if self.newest is None:
-            return struct.pack(">BII", RESUME_GONE, self.last, self.index)
-        return struct.pack(f">BII{len(self.newest)}i", RESUME, self.last, self.index, *self.newest)
+            return resume_gone(self.last, self.index, self.basis)
+        return device_resume(self.last, self.index, self.basis, self.newest)
 
     def priced(self, it):
         if it.index <= self.index:
@@ -419,8 +407,7 @@ class Device(Node):
             return dropped(it.number, it.index)
         self.answered = it.number
         self.offers = {number: kept for number, kept in self.offers.items() if number >= it.number}
-        power = self.offers[it.number][it.step]
-        return struct.pack(">BIIHi", SETPOINT, it.number, it.index, it.step, power) + self.resume()
+        return setpoint(it.number, it.index, it.step, self.offers[it.number][it.step]) + self.resume()
 
 
 def number_of(word, least, greatest):
@@ -432,8 +419,8 @@ def number_of(word, least, greatest):
 def node_of(arguments):
     """The node that the arguments are a command for, or None."""
     match arguments:
-        case ["relay", *words] if len(words) == 3:
-            ranges = [(1, CHILDREN), (-MOST, 0), (0, MOST)]
+        case ["relay", *words] if len(words) in (3, 4):
+            ranges = [(1, CHILDREN), (-MOST, 0), (0, MOST), (1, CHILDREN)]
             numbers = [number_of(word, *it) for word, it in zip(words, ranges)]
             return None if None in numbers else Relay(*numbers)
         case ["auctioneer"]:
