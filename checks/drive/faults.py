@@ -139,6 +139,20 @@ def file_that_takes(program, arguments, text, size, folder):
     return child.returncode, path.read_bytes()
 
 
+def killed_at(program, arguments, text, size, folder):
+    """A run that the system kills once it has written so many bytes: the signal of a file that may not grow ends it."""
+    def limit():
+        signal.signal(signal.SIGXFSZ, signal.SIG_DFL)
+        resource.setrlimit(resource.RLIMIT_CORE, (0, 0))
+        resource.setrlimit(resource.RLIMIT_FSIZE, (size, size))
+
+    path = folder / "killed"
+    with open(path, "wb") as file:
+        child = subprocess.run([program, *arguments], input=text, stdout=file, stderr=subprocess.DEVNULL, preexec_fn=limit,
+                               timeout=SECONDS)
+    return child.returncode, path.read_bytes()
+
+
 def reader_that_goes(program, arguments, text, size):
     """A run whose standard output is a pipe that is closed after so many bytes were read."""
     its, ours = os.pipe()

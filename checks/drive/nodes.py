@@ -8,6 +8,7 @@ With `all` many more streams are tried, and those of a gigabyte.
 import os
 import random
 import select
+import signal
 import struct
 import subprocess
 import sys
@@ -18,9 +19,12 @@ from pathlib import Path
 
 from checks.drive import faults
 from checks.drive.built import Hangs, differs, ended, sampled
-from checks.make.node_streams import random_frames, random_stream
-from checks.make.nodes import AUCTIONEER, DEVICE, LEAVE, RELAY, SEND, fault, offer, resume_gone, rows
-from checks.make.streams import CLEAR, bid, gone, hello, old, price, random_pieces
+from checks.make.node_bytes import (
+    AUCTIONEER, CLEAR, DEVICE, GIVEN, LEAVE, RELAY, SEND, bid, bound, expire, fault, gone, hello, limits, offer, old, price, resume_gone,
+)
+from checks.make.node_streams import answers_in, random_frames, random_stream, resume_length, resumes_in
+from checks.make.nodes import rows
+from checks.make.streams import random_pieces
 from checks.oracle import frames, nodes
 
 SEED = 11
@@ -28,6 +32,8 @@ SECONDS = 20
 RANDOM_STREAMS, MANY_RANDOM_STREAMS = 1_000, 20_000
 # How many answers that cannot be written are tried of a stream, and how many streams are waited for.
 SAMPLE, WAITED = 40, 30
+# How many nodes are killed within their answers.
+KILLS, MANY_KILLS = 200, 4_000
 NO_TEXT = 8
 
 
@@ -61,10 +67,12 @@ def try_random(program, number):
 
 def small_streams():
     """A stream of each node with each frame that it reads behind the Hello except a Resume."""
-    yield RELAY, hello() + bid(1, 1, 5, -3) + SEND + gone(2, 1) + old(3, 1) + price(3, 1, 1, 1)
-    yield AUCTIONEER, hello() + bid(1, 1, 5, -3) + CLEAR + gone(2, 1) + bid(1, 1, 5, -3)
-    yield DEVICE, hello() + offer(5, -3) + price(2, 1, 1, 1) + old(2, 1) + LEAVE
-    yield DEVICE, hello() + resume_gone(3, 1) + LEAVE
+    other = (0, 18, 2)
+    yield GIVEN, hello() + bound(1, -9, 9) + bid(1, 2, 5, -3) + bid(1, 4, 10, 0) + limits(2, 0, 1) + SEND + gone(2, 1) + expire(1) \
+        + old(3, 1) + price(3, 1, 1, 1, other) + price(3, 1, 1, 1)
+    yield AUCTIONEER, hello() + bound(1, -9, 9) + bid(1, 2, 5, -3) + CLEAR + gone(2, 1) + bid(1, 2, 5, -3) + bid(1, 4, 10, 0) + expire(1)
+    yield DEVICE, hello() + offer(5, -3) + price(2, 2, 1, 1) + price(2, 2, 2, 1, other) + old(2, 3) + LEAVE
+    yield DEVICE, hello() + resume_gone(4, 1) + LEAVE
 
 
 def try_faults(program, folder):
@@ -83,6 +91,47 @@ def try_faults(program, folder):
             yield named(arguments, f"answers of which {size} bytes can be written"), differs(found, due)
         found = faults.reader_that_goes(program, arguments, data, 0)
         yield named(arguments, "nobody reads"), differs(found, (frames.WRITE_FAULT, b""))
+
+
+def first_of_each(parts):
+    """These frames, of those of one child and number only the first: no number is of two bids."""
+    seen, kept = set(), []
+    for part in parts:
+        child = {frames.BID: part[1:7], frames.GONE: part[1:7], nodes.LIMITS: part[1:5]}.get(part[0])
+        if child is None or child not in seen:
+            kept.append(part)
+            seen.add(child)
+    return kept
+
+
+def of_two_bids(arguments, steps, *written):
+    """A number under which a node bid two things in its lives, or None."""
+    bids = {}
+    for answer in (it for data in written for it in answers_in(data, arguments, steps)):
+        if answer[0] in (frames.BID, frames.GONE) and bids.setdefault(answer[3:7], answer) != answer:
+            return int.from_bytes(answer[3:7], "big")
+    return None
+
+
+def try_kills(program, number, folder):
+    """Nodes that are killed between any two bytes of their answers, and come back with the newest whole Resume among these."""
+    for seed in range(number):
+        chance = random.Random(f"kills {SEED} {seed}")
+        arguments = [GIVEN, AUCTIONEER, DEVICE][seed % 3]
+        steps, parts = random_frames(chance, arguments)
+        first = b"".join(parts := first_of_each(parts))
+        answers = nodes.answers_to(arguments, first)[1]
+        size = chance.randrange(len(answers)) if answers else 0
+        status, written = faults.killed_at(program, arguments, first, size, folder)
+        due = (-signal.SIGXFSZ, answers[:size]) if answers else (frames.DONE, b"")
+        yield named(arguments, f"killed {seed} at byte {size}"), differs((status, written), due)
+        kept = ([b"", *resumes_in(parts[1], arguments, steps)] + resumes_in(written, arguments, steps))[-1]
+        later = [it for it in parts[1:] if it[0] not in (nodes.RESUME, nodes.RESUME_GONE)]
+        second = parts[0] + kept + b"".join(later[chance.randint(0, len(later)) :])
+        found, due = ended(program, arguments, second, SECONDS), nodes.answers_to(arguments, second)
+        yield named(arguments, f"back {seed} from byte {size}"), differs(found, due)
+        twice = of_two_bids(arguments, steps, written, found[1])
+        yield named(arguments, f"the numbers of two lives {seed}"), twice and f"number {twice} is of two bids"
 
 
 def start(program, arguments):
@@ -125,7 +174,7 @@ def waits(program, arguments, parts):
 def try_waiting(program):
     for seed in range(WAITED):
         chance = random.Random(f"waiting {SEED} {seed}")
-        arguments = [RELAY, AUCTIONEER, DEVICE][seed % 3]
+        arguments = [GIVEN, AUCTIONEER, DEVICE][seed % 3]
         parts = random_frames(chance, arguments)[1]
         yield named(arguments, f"answers that are waited for, {seed}"), waits(program, arguments, parts)
 
@@ -154,7 +203,7 @@ def many_frames(number, steps=100):
         yield bid(at % 256 + 1, at // 256 + 1) + demands, 0
         if at % 256 == 255:
             told = at // 256 + 1
-            yield SEND + price(3, told, told, 1), 2 * 1037 + 7 + len(demands) + 256 * 13
+            yield SEND + price(3, told, told, 1, (0, steps - 1, steps)), 2 * resume_length(RELAY, steps) + 7 + len(demands) + 256 * 23
 
 
 def peak_after(program, number):
@@ -220,6 +269,7 @@ def tried(program, folder, everything):
     yield from try_rows(program)
     yield from try_random(program, MANY_RANDOM_STREAMS if everything else RANDOM_STREAMS)
     yield from try_faults(program, folder)
+    yield from try_kills(program, MANY_KILLS if everything else KILLS, folder)
     yield from try_waiting(program)
     yield from try_open_ends(program)
     yield from try_memory(program, 1_024, 102_400)

@@ -2,44 +2,29 @@
 
 import os
 import select
-import struct
 import subprocess
 
+from checks.make.node_bytes import bid, bound, dropped, price, too_much
+from checks.make.node_streams import answers_in
 from checks.oracle import frames, nodes
-from checks.oracle.cuts import AUCTIONEER, RELAY
+from checks.oracle.cuts import AUCTIONEER
 
 SECONDS = 20
-RESUME_BYTES = {RELAY: 1037, AUCTIONEER: 1029}
-# The bytes of each answer that has fields and the same length everywhere. The others are of one byte.
-BYTES = {
-    frames.GONE: 7, frames.PRICE: 13, frames.OLD: 7, frames.FAULT: 9, nodes.DROPPED: 9, nodes.SETPOINT: 15, nodes.RESUME_GONE: 9,
-}
-# What the auctioneer answers to a Clear that makes no clearing.
-NO_CLEARING = {frames.NOT_CHANGED, nodes.NOT_CAUGHT_UP, nodes.OUT_OF_NUMBERS}
 
 
 class Wrong(Exception):
     """A node did what it should not."""
 
 
-def lengths_of(kind, steps):
-    """The bytes of each answer of a node of a kind, except those of one byte."""
-    return BYTES | {frames.BID: 7 + 4 * steps, nodes.RESUME: RESUME_BYTES.get(kind, 9 + 4 * steps)}
-
-
 class Node:
-    """A node of a tree, whose answers have these lengths."""
+    """A node of a tree, in a market of so many steps."""
 
     def __init__(self, place, steps):
-        self.place, self.lengths = place, lengths_of(place.kind, steps)
+        self.place, self.steps = place, steps
 
     def cut(self, data):
         """The whole answers among these bytes."""
-        at, found = 0, []
-        while at < len(data) and at + (length := self.lengths.get(data[at], 1)) <= len(data):
-            found.append(data[at : at + length])
-            at += length
-        return found
+        return answers_in(data, self.place.arguments(), self.steps)
 
 
 class Model(Node):
@@ -49,8 +34,9 @@ class Model(Node):
         super().__init__(place, steps)
         self.stream = frames.Stream(nodes.node_of(place.arguments()))
 
-    def answers(self, frame):
-        return self.cut(self.stream.feed(frame))
+    def answers(self, data, size=None):
+        """The answers to these frames, or the whole ones of their first bytes, of which there are so many."""
+        return self.cut(self.stream.feed(data)[:size])
 
     def stop(self):
         pass
@@ -59,9 +45,8 @@ class Model(Node):
 class Process(Node):
     """A node of the built program.
 
-    Whether an answer is still to come cannot be seen. So behind each frame goes one that changes nothing and has one answer: to a
-    relay and a device a Price of index 0, which is never new, to the auctioneer a Gone of number 1 of a child that it heard, or
-    another Clear. A Hello has no answer, and nothing may come between it and a Resume.
+    Whether an answer is still to come cannot be seen. So behind the frames goes one that changes nothing and has one answer: to a
+    relay and a device a Price of index 0, which is never new, to the auctioneer a Bid beyond the bound of a child that there is not.
     """
 
     def __init__(self, program, place, steps):
@@ -69,7 +54,10 @@ class Process(Node):
         self.child = subprocess.Popen(
             [program, *place.arguments()], stdin=subprocess.PIPE, stdout=subprocess.PIPE, stderr=subprocess.DEVNULL, bufsize=0
         )
-        self.heard = {}
+        self.marker, self.last = price(place.child, 1, 0, 0, (0, steps - 1, steps)), dropped(1, 0)
+        if place.kind == AUCTIONEER:
+            self.stranger = next(it for it in range(1, frames.CHILDREN + 1) if it not in place.children)
+            self.marker, self.last = bid(self.stranger, 1, *(1,) * steps), too_much(self.stranger, 1)
 
     def stop(self):
         self.child.kill()
@@ -77,43 +65,27 @@ class Process(Node):
         self.child.stdin.close()
         self.child.stdout.close()
 
-    def answers(self, frame):
-        if frame[0] == frames.HELLO:
-            return self.send(frame)
-        if self.place.kind == AUCTIONEER:
-            return self.answers_of_auctioneer(frame)
-        last = struct.pack(">BII", nodes.DROPPED, 1, 0)
-        return self.until(frame + frames.price(self.place.child, 1, 0, 0), lambda found: found[-1] == last)
+    def answers(self, data, size=None):
+        """The answers to these frames, or the whole ones of the first bytes that come, of which there are so many."""
+        if data[0] == frames.HELLO and self.place.kind == AUCTIONEER:
+            data += bound(self.stranger, 0, 0)
+        return self.until(data + self.marker, size)
 
-    def answers_of_auctioneer(self, frame):
-        if frame[0] == frames.CLEAR:
-            return self.until(frame * 2, lambda found: found[-1][0] in NO_CLEARING and len(found) > 1)
-        if frame[0] == nodes.RESUME:
-            return self.send(frame)
-        child, number = struct.unpack_from(">HI", frame, 1)
-        olds = 2 if number <= self.heard.get(child, 0) else 1
-        self.heard[child] = max(number, self.heard.get(child, 0))
-        return self.until(frame + nodes.gone(child, 1), lambda found: sum(it[0] == frames.OLD for it in found) == olds)
-
-    def send(self, data):
-        """No answers to these bytes, once they were sent."""
+    def until(self, data, size):
         try:
             self.child.stdin.write(data)
-            return []
         except OSError:
             raise Wrong(f"{self.place} has ended with status {self.child.wait(SECONDS)}") from None
-
-    def until(self, data, is_last):
-        """The answers to these bytes up to the last, and without it."""
-        self.send(data)
-        read, found, out = b"", [], self.child.stdout
-        while not found or sum(map(len, found)) < len(read) or not is_last(found):
-            piece = os.read(out.fileno(), 1 << 16) if select.select([out], [], [], SECONDS)[0] else b""
+        read, out = b"", self.child.stdout
+        while not read.endswith(self.last) or self.cut(read)[-1:] != [self.last]:
+            if size is not None and len(read) >= size:
+                return self.cut(read)
+            most = 1 << 16 if size is None else size - len(read)
+            piece = os.read(out.fileno(), most) if select.select([out], [], [], SECONDS)[0] else b""
             if not piece:
                 raise Wrong(f"{self.place} answers {read[-60:].hex()} to {data[:60].hex()} and no more")
             read += piece
-            found = self.cut(read)
-        return found[:-1]
+        return self.cut(read)[:-1]
 
 
 def started(program, place, steps):

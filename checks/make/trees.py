@@ -1,6 +1,6 @@
-"""Random trees of relays and devices below an auctioneer, and random bids, for the network of nodes."""
+"""Random trees of relays and devices below an auctioneer, random limits and random bids, for the network of nodes."""
 
-from checks.oracle.cuts import AUCTIONEER, DEVICE, RELAY, Place, Tree
+from checks.oracle.cuts import AUCTIONEER, DEVICE, GIVER, RELAY, Place, Tree
 from checks.oracle.frames import CHILDREN, MOST
 
 # The most levels of relays. The most relays and devices of a small tree and of a large one.
@@ -13,6 +13,11 @@ def random_limits(chance, widest):
     """A floor and a ceiling: as wide as they can be, or so that they may bind."""
     if chance.random() < 0.3:
         return -MOST, MOST
+    return narrow_limits(chance, widest)
+
+
+def narrow_limits(chance, widest):
+    """A floor and a ceiling that may bind."""
     floor, ceiling = (min(chance.choice([0, widest // 5, widest, 4 * widest]), MOST) for _ in range(2))
     return -floor, ceiling
 
@@ -26,13 +31,28 @@ def add(places, chance, above, kind, *limits):
     places.append(Place(len(places), kind, above.at, child, above.depth + 1, *limits))
 
 
+def add_relay(places, chance, above, widest, limits=None):
+    """Adds a relay, and for every second one a giver of its limits below it."""
+    add(places, chance, above, RELAY, *(limits or random_limits(chance, widest)))
+    relay = places[-1]
+    if chance.random() < 0.5:
+        add(places, chance, relay, GIVER)
+        relay.giver = places[-1].child
+
+
 def random_tree(chance, widest):
+    """A tree of relays and devices. Every second one has limits nested three deep."""
     places = [Place(0, AUCTIONEER, 0, 0, 0)]
     levels, size = chance.randint(1, LEVELS), chance.choice([0, 0, 1])
+    if chance.random() < 0.5:
+        levels = LEVELS
+        for depth in range(LEVELS):
+            above = next(it for it in places if it.depth == depth and it.kind != GIVER)
+            add_relay(places, chance, above, widest, narrow_limits(chance, widest))
     for _ in range(chance.randint(1, RELAYS[size])):
-        above = chance.choice([it for it in places if it.depth < levels])
-        add(places, chance, above, RELAY, *random_limits(chance, widest))
-    inner = list(places)
+        above = chance.choice([it for it in places if it.depth < levels and it.kind != GIVER])
+        add_relay(places, chance, above, widest)
+    inner = [it for it in places if it.kind != GIVER]
     for _ in range(chance.randint(2, DEVICES[size])):
         add(places, chance, chance.choice(inner), DEVICE)
     return Tree(places, chance.choice(STEPS))
