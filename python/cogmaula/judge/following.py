@@ -2,15 +2,17 @@
 
 docs/NETWORK.md, "Why it holds", has the reasons. A number is made once its Resume is stored. A parent learns just before it
 publishes, and only the numbers that its Resume has. Each due clearing is passed to a relay before the next one. So a restart,
-a lost message and a price that comes again are no moves.
+a lost message and a price that comes again are no moves. Limits that a relay was given are numbers of a device below it that is
+never a member.
 """
 
 from __future__ import annotations
 
+import itertools
+
 from ..cluster import Basis
 from ..limits import MOST_EVENTS
 from ..live.frames import (
-    MOST,
     RESUMES,
     WRITES,
     AuctioneerResume,
@@ -26,6 +28,7 @@ from ..live.frames import (
 )
 from ..live.recording import IN, OUT, STORED
 from .journal import Journal
+from .lapses import lapses_of
 from .market import Market
 from .reading import Event, Start
 from .script import Script
@@ -35,7 +38,8 @@ class Following:
     """One session, of which all is recorded, and what its lines come to.
 
     script:  the changes of its devices, and journal the moves
-    full:    the relays that announced ±1,000,000,000 watts, the most that they can
+    givers:  of each relay whose limits may change the name that the trace has for the place in which they are given
+    bound:   of the first bid of which a step is outside the limits, its relay and its number, None without one
     """
 
     def __init__(self, market: Market) -> None:
@@ -44,9 +48,14 @@ class Following:
         self.starts: dict[str, Start] = {name: it.first for name, it in market.nodes.items() if it.first is not None}
         root = next(name for name, it in self.starts.items() if it.parent is None)
         self.basis: Basis = self.starts[root].basis
-        self.script = Script(name for name, it in self.starts.items() if it.sort == "device")
-        self.journal = Journal({name: it.parent for name, it in self.starts.items() if it.parent is not None}, root)
-        self.full: set[str] = set()
+        self.givers = {name: self._unused(name) for name, it in self.starts.items() if it.giver}
+        devices = [*(name for name, it in self.starts.items() if it.sort == "device"), *self.givers.values()]
+        self.script = Script(devices, lapses_of(market))
+        parents = {name: it.parent for name, it in self.starts.items() if it.parent is not None}
+        self.journal = Journal(parents | {giver: name for name, giver in self.givers.items()}, root)
+        self.bound: tuple[str, int] | None = None
+        # Of each node the demands of its bids, by number.
+        self._bids: dict[str, dict[int, tuple[int, ...]]] = {name: {} for name in self.starts}
         # Of each node the Resume that waits to be stored, and of each device the step of each clearing that it was told.
         self._waits: dict[str, bytes] = {}
         self._steps: dict[str, dict[int, int]] = {name: {} for name in self.script.devices}
@@ -67,6 +76,11 @@ class Following:
         elif event.what == IN and event.frame[0] == Price.KIND:
             self._hears(name, event.frame)
 
+    def _unused(self, name: str) -> str:
+        """A name for the place in which a relay's limits are given, which no node has."""
+        names = (f"{name[:20]}-limits{it or ''}" for it in itertools.count())
+        return next(it for it in names if it not in self.starts)
+
     def _sort(self, name: str) -> Sort:
         return self.starts[name].sort
 
@@ -78,8 +92,8 @@ class Following:
         if data[0] not in (Bid.KIND, Setpoint.KIND, Dropped.KIND):
             return
         match frame_of(data, WRITES[self._sort(name)], self.basis.steps):
-            case Bid() as bid if max(bid.demands[0], -bid.demands[-1]) >= MOST:
-                self.full.add(name)
+            case Bid() as it:
+                self._bids[name][it.number] = it.demands
             case Setpoint() as it:
                 self._takes(name, it.number, it.index, it.step)
             case Dropped() as it if self._sort(name) == "device":
@@ -104,11 +118,14 @@ class Following:
     def _keeps(self, name: str, data: bytes) -> None:
         """A Resume is stored. With a number above the newest it is a change, a bid or a clearing."""
         match frame_of(data, RESUMES[self._sort(name)], self.basis.steps):
-            case DeviceResume() as it if it.last >= len(self.script.devices[name].numbers):
-                self._changes(name, self.script.offers(name, it.demands))
-            case ResumeGone() as it if it.last >= len(self.script.devices[name].numbers):
-                self._changes(name, self.script.leaves(name))
-            case RelayResume() | AuctioneerResume() as it if it.last > self.journal.counts[name]:
+            case DeviceResume() as it if it.last > self.script.devices[name].last:
+                self._changes(name, self.script.reaches(name, it.last - 1) + self.script.offers(name, it.last, it.demands))
+            case ResumeGone() as it if it.last > self.script.devices[name].last:
+                self._changes(name, self.script.reaches(name, it.last - 1) + self.script.leaves(name, it.last))
+            case RelayResume() as it if it.last > self.journal.counts[name]:
+                self._look_at_limits(name, it)
+                self._publishes(name, it.numbers)
+            case AuctioneerResume() as it if it.last > self.journal.counts[name]:
                 self._publishes(name, it.numbers)
 
     def _changes(self, name: str, count: int) -> None:
@@ -118,8 +135,22 @@ class Following:
     def _publishes(self, name: str, numbers: tuple[int, ...]) -> None:
         """A parent learns the numbers of its children that went into its next number, and publishes or clears."""
         for child, number in enumerate(numbers, 1):
-            node = self.market.children.get((name, child)) if number else None
+            node = self._child(name, child) if number else None
             if node is not None:
                 device = self.script.devices.get(node)
+                if device is not None and number > device.last:
+                    # A number of its parent's, or of the relay's limits.
+                    self._changes(node, self.script.reaches(node, number - 1) + self.script.leaves(node, number))
                 self.journal.learn(node, number if device is None else device.numbers[number])
         self.journal.publish(name)
+
+    def _child(self, name: str, child: int) -> str | None:
+        """The node of a parent's child, or the place of its limits."""
+        return self.givers[name] if child == self.starts[name].giver else self.market.children.get((name, child))
+
+    def _look_at_limits(self, name: str, it: RelayResume) -> None:
+        """Adds up what goes into a relay's bid, and notes if some step of it is outside the limits."""
+        bids = [self._bids.get(self._child(name, child) or "", {}).get(number) for child, number in enumerate(it.numbers, 1) if number]
+        total = [sum(at) for at in zip(*(bid for bid in bids if bid is not None), strict=True)]
+        if total and not it.floor <= total[-1] <= total[0] <= it.ceiling and self.bound is None:
+            self.bound = name, it.last

@@ -55,7 +55,7 @@ def _judged(market: Market, live: str, visit: Visit | None) -> tuple[list[Counts
     counts, faulty = [], {}
     for name, one in market.nodes.items():
         try:
-            counts.append(replayed(one, live))
+            counts.append(replayed(one, live, market.relays_below(name)))
         except Faulty as error:
             # Without what was open where it was raised.
             faulty[name] = error.with_traceback(None)

@@ -4,6 +4,7 @@ from __future__ import annotations
 
 from dataclasses import dataclass, field
 
+from ..limits import MOST_DEPTH
 from .reading import Recorded, Start
 
 
@@ -25,6 +26,11 @@ class Market:
         """Notes that something was not recorded, once."""
         if what not in self.missing:
             self.missing.append(what)
+
+    def relays_below(self, node: str) -> frozenset[int]:
+        """The numbers of a node's children that are relays."""
+        below = {child: self.nodes[name].first for (parent, child), name in self.children.items() if parent == node}
+        return frozenset(child for child, start in below.items() if start is not None and start.sort == "relay")
 
     def is_known(self, node: str) -> bool:
         """Whether all that a node sent is in its recording."""
@@ -106,11 +112,13 @@ def _wrong_beside(start: Start, first: Start, market: Market, parents: dict[str,
     above = parents.get(start.parent)
     if above is not None and above.sort == "device":
         return f"its parent is {start.parent}, which is a device"
+    if above is not None and above.giver == start.child:
+        return f"it is child {start.child} of {start.parent}, and that place is of the limits of {start.parent}"
     return ""
 
 
 def _depth(one: Recorded, parents: dict[str, Start]) -> int:
-    """How many nodes are above a node. Raises Faulty if it is above itself."""
+    """How many nodes are above a node. Raises Faulty if it is above itself, or below more relays than a path may have."""
     depth, start = 0, one.first
     while start is not None and start.parent is not None:
         depth += 1
@@ -118,4 +126,8 @@ def _depth(one: Recorded, parents: dict[str, Start]) -> int:
             assert one.begin is not None
             raise one.fault(one.begin, "it is above itself by the parents of the nodes")
         start = parents.get(start.parent)
+    relays = depth - (one.first is not None and one.first.sort == "device")
+    if relays > MOST_DEPTH:
+        assert one.begin is not None
+        raise one.fault(one.begin, f"{relays} relays are on its path, and the law of the network is of at most {MOST_DEPTH}")
     return depth

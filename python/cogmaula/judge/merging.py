@@ -13,7 +13,7 @@ from collections import deque
 from collections.abc import Callable, Generator, Mapping
 from dataclasses import dataclass, field
 
-from ..live.frames import Bid, Gone, Old, Price
+from ..live.frames import Bid, Expire, Gone, Old, Price
 from ..live.recording import IN, OUT
 from .faults import Faulty
 from .market import Market
@@ -131,12 +131,20 @@ class Merge:
     def _count(self, name: str, event: Event) -> None:
         sender = self._sender(name, event)
         if sender is None:
+            if event.frame[0] == Expire.KIND:
+                self._require_child(name, event)
             return
         self.taken += 1
         if not sender or not self._market.is_known(sender):
             self.unmatched += 1
             if not sender and event.frame[0] in FROM_CHILD:
-                self._market.misses(f"child {int.from_bytes(event.frame[1:3], 'big')} of {name} has no recording")
+                self._require_child(name, event)
+
+    def _require_child(self, name: str, event: Event) -> None:
+        """Notes that the child of a frame has no recording, if so."""
+        child = int.from_bytes(event.frame[1:3], "big")
+        if (name, child) not in self._market.children:
+            self._market.misses(f"child {child} of {name} has no recording")
 
     # Where no node can go on.
 

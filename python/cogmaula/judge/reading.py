@@ -45,6 +45,12 @@ class Start:
     session: Session
     resume: bytes
 
+    @property
+    def giver(self) -> int:
+        """The place among a relay's own children in which its limits are given, 0 if there is none."""
+        given = self.arguments[4:5] if self.sort == "relay" else ()
+        return int(given[0]) if given and given[0].isdecimal() else 0
+
 
 @dataclass(frozen=True, slots=True)
 class Event:

@@ -17,9 +17,11 @@ from ..live.frames import (
     WRITES,
     AuctioneerResume,
     DeviceResume,
+    Expire,
     Frame,
     Hello,
     Kinds,
+    Limits,
     RelayResume,
     Resume,
     ResumeGone,
@@ -28,14 +30,14 @@ from ..live.frames import (
 from ..live.recording import IN, OUT, STORED
 from ..live.service import STATUSES
 from .reading import Event, Recorded, Start
-from .restarts import Keeping
+from .restarts import Giving, Keeping
 from .running import Late, Running
 from .words import difference_of, words_of_bytes
 
 # The seconds for which a frame is awaited before the end of the input asks for it, from try to try.
 PATIENCE = (2.0, 30.0, 300.0)
-# The statuses of a service that read all that it was fed, or all that it takes, and of one that refused a frame.
-WHOLE, REFUSED = (0, 4), 5
+# The statuses of a service that read all that it was fed, or all that it takes, of one that refused a frame, and of wrong arguments.
+WHOLE, REFUSED, USAGE = (0, 4), 5, 2
 
 
 @dataclass
@@ -48,13 +50,15 @@ class Counts:
     handled: Counter[str] = field(default_factory=Counter)
 
 
-def replayed(recorded: Recorded, live: str) -> Counts:
+def replayed(recorded: Recorded, live: str, relays: frozenset[int] = frozenset()) -> Counts:
     """Runs all lives of a recording again, by the program at the path `live`.
+
+    relays: the node's children that are relays, by their numbers, which it must never let go
 
     Raises Faulty at the first line that the program does not bear out, LiveError if the program cannot say, and OSError.
     """
     for patience in PATIENCE:
-        replay = _Replay(recorded, live, patience)
+        replay = _Replay(recorded, live, patience, relays)
         try:
             return replay.run()
         except Late:
@@ -67,9 +71,9 @@ def replayed(recorded: Recorded, live: str) -> Counts:
 class _Replay:
     """One try, with the patience in seconds of a wait for a frame."""
 
-    def __init__(self, recorded: Recorded, live: str, patience: float) -> None:
-        self._recorded, self._live, self._patience = recorded, live, patience
-        self._keeping = Keeping()
+    def __init__(self, recorded: Recorded, live: str, patience: float, relays: frozenset[int]) -> None:
+        self._recorded, self._live, self._patience, self._relays = recorded, live, patience, relays
+        self._keeping, self._giving = Keeping(), Giving()
         self._running: Running | None = None
         self._has_ended = False
         self._begin: Event | None = None
@@ -107,6 +111,7 @@ class _Replay:
         self._require(event, wrong_place(start, self._recorded.first))
         resume = self._resume(event, start.resume) if start.resume else None
         self._require(event, self._keeping.starts(resume, event.is_late))
+        self._require(event, self._giving.resumes(resume))
         self._running = Running(self._live, start, self._patience)
         self._counts.lives += 1
 
@@ -125,6 +130,8 @@ class _Replay:
         assert self._begin is not None
         if status == REFUSED:
             raise self._recorded.fault(self._begin, "the service refuses its Resume or a frame of this life")
+        if status == USAGE:
+            raise self._recorded.fault(self._begin, "its arguments are no command of the program live")
         if status not in WHOLE:
             told = STATUSES.get(status, "that is no status of live")
             raise LiveError(f"{self._live} ended with status {status} in a life of {self._recorded.node}: {told}")
@@ -135,6 +142,10 @@ class _Replay:
         sort = self._start.sort
         kinds = {it: kind for it, kind in READS[sort].items() if it != Hello.KIND and it not in RESUMES[sort]}
         frame = self._frame(event, event.frame, kinds, "is no frame that a node feeds to its service")
+        if isinstance(frame, Limits):
+            self._require(event, self._giving.takes(frame))
+        if isinstance(frame, Expire) and frame.child in self._relays:
+            raise self._recorded.fault(event, f"child {frame.child} is let go, and it is a relay: only a device may be")
         self._counts.fed[type(frame).__name__] += 1
         self._running.feed(event.frame)
 

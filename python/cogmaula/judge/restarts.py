@@ -1,12 +1,14 @@
 """What a node may come back with, by the law of the network: docs/NETWORK.md, "What must be stored".
 
-The last number, with the offer or the numbers of the children, is exact: it is what was stored last, or was written since and not
-yet noted as stored. The price that was taken may be of any age, or none.
+The last number, with the offer or the numbers of the children and the limits, is exact: it is what was stored last, or was written
+since and not yet noted as stored. The price that was taken may be of any age, or none.
 """
 
 from __future__ import annotations
 
-from ..live.frames import AuctioneerResume, DeviceResume, RelayResume, Resume, ResumeGone
+from dataclasses import replace
+
+from ..live.frames import AuctioneerResume, DeviceResume, Limits, RelayResume, Resume, ResumeGone
 from .words import words_of
 
 
@@ -14,11 +16,9 @@ def _exact(resume: Resume) -> Resume:
     """A Resume without the price that was taken."""
     match resume:
         case RelayResume():
-            return RelayResume(resume.last, 0, 0, resume.numbers)
-        case DeviceResume():
-            return DeviceResume(resume.last, 0, resume.demands)
-        case ResumeGone():
-            return ResumeGone(resume.last, 0)
+            return replace(resume, answered=0, index=0)
+        case DeviceResume() | ResumeGone():
+            return replace(resume, index=0)
         case AuctioneerResume():
             return resume
 
@@ -74,3 +74,25 @@ class Keeping:
             return "a Resume is stored, and none was handled since the one that was stored before"
         self._stored, self._waits = self._waits, None
         return ""
+
+
+class Giving:
+    """The limits that one relay was given in one session. A number is of one floor and one ceiling, over restarts too."""
+
+    def __init__(self) -> None:
+        """Nothing was given."""
+        self._given: dict[int, tuple[int, int]] = {}
+
+    def resumes(self, resume: Resume | None) -> str:
+        """A service starts from a Resume. That of a relay has the newest limits under the number of the place in which they are given."""
+        if not isinstance(resume, RelayResume) or not resume.giver or not resume.numbers[resume.giver - 1]:
+            return ""
+        return self.takes(Limits(resume.numbers[resume.giver - 1], resume.floor, resume.ceiling))
+
+    def takes(self, limits: Limits) -> str:
+        """Limits are given. Gives what is wrong, "" if nothing."""
+        now = limits.floor, limits.ceiling
+        before = self._given.setdefault(limits.number, now)
+        if now == before:
+            return ""
+        return f"limits {limits.number} are {now[0]} to {now[1]} W, and before in this session they were {before[0]} to {before[1]} W"

@@ -8,17 +8,23 @@ from ..live.frames import (
     WRITES,
     AuctioneerResume,
     Bid,
+    Bound,
     DeviceResume,
     Dropped,
+    Expire,
     Frame,
     Gone,
+    Limits,
     Old,
+    OtherBasis,
+    OutOfLimits,
     Price,
     RelayResume,
     ResumeGone,
     Setpoint,
     Sort,
     Splitter,
+    TooMuch,
 )
 
 
@@ -33,6 +39,18 @@ def words_of(frame: Frame) -> str:
             return f"Price for child {frame.child}: bid {frame.number}, clearing {frame.index}, step {frame.step}"
         case Old():
             return f"Old for child {frame.child}: number {frame.kept} is kept"
+        case Expire():
+            return f"Expire of child {frame.child}"
+        case Limits():
+            return f"Limits {frame.number}: {frame.floor} to {frame.ceiling} W"
+        case Bound():
+            return f"Bound of child {frame.child}: {frame.least} to {frame.greatest} W"
+        case TooMuch():
+            return f"TooMuch for child {frame.child}: bid {frame.number}"
+        case OtherBasis():
+            return f"OtherBasis: number {frame.number}, clearing {frame.index}"
+        case OutOfLimits():
+            return f"OutOfLimits: bid {frame.number}"
         case Setpoint():
             return f"Setpoint: offer {frame.number}, clearing {frame.index}, step {frame.step}, {frame.power} W"
         case Dropped():
