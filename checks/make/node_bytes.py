@@ -13,7 +13,6 @@ BASIS = (0, 9, 2)
 # The command of each node in the rows, and of a relay whose limits are given in place 9.
 RELAY, AUCTIONEER, DEVICE = ["relay", "3", "-1000", "1000"], ["auctioneer"], ["device", "2"]
 GIVEN = [*RELAY, "9"]
-__all__ = ["CLEAR", "NOT_CHANGED", "bid", "gone", "hello", "old"]
 
 
 def fault(offset):

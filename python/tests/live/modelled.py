@@ -1,7 +1,8 @@
 """Recordings of drawn markets, in which services are those of checks/oracle/nodes.py, and nobody waits for anybody.
 
-What happens is drawn: offers, sends, clears, frames that come late, again or never, kills between any two lines, and Resumes of
-which the price is an older one. So the recordings are those of runs of the network by docs/RELAY.md, and need no program.
+What happens is drawn: offers, sends, clears, frames that come late, again or never, devices that are let go, limits that change,
+bounds, kills between any two lines, and Resumes of which the price is an older one. So the recordings are those of runs of the
+network by docs/RELAY.md, and need no program.
 """
 
 from __future__ import annotations
@@ -15,7 +16,7 @@ from pretended import SESSION
 from checks.oracle import frames
 from checks.oracle.nodes import RESUME, RESUME_GONE, node_of
 from cogmaula.cluster import Basis
-from cogmaula.live.frames import MOST, WRITES, Clear, Hello, Leave, Offer, Send, Splitter
+from cogmaula.live.frames import MOST, WRITES, Bound, Clear, Expire, Hello, Leave, Limits, Offer, Send, Splitter
 from test_judge_any import BIDS, PRICES, exact
 
 BASIS = Basis(0, 6, 4)
@@ -30,6 +31,8 @@ class Modelled:
     parent: str | None = None
     child: int | None = None
     limits: tuple = NO_LIMITS
+    giver: int = 0
+    given: list = field(default_factory=list)
     stream: frames.Stream | None = None
     written: list = field(default_factory=list)
     lines: list = field(default_factory=list)
@@ -40,14 +43,15 @@ class Modelled:
 
     def arguments(self):
         own = [self.sort] if self.child is None else [self.sort, str(self.child)]
-        return own + (list(map(str, self.limits)) if self.sort == "relay" else [])
+        giver = [str(self.giver)] if self.giver else []
+        return own + ([*map(str, self.limits), *giver] if self.sort == "relay" else [])
 
 
 class DrawnMarket:
-    """Nodes by their names, each parent before its children."""
+    """Nodes by their names, each parent before its children. A bound of all children holds if one is named, in watts."""
 
-    def __init__(self, nodes, seed):
-        self.nodes, self.random = nodes, random.Random(seed)
+    def __init__(self, nodes, seed, bound=None):
+        self.nodes, self.random, self.bound = nodes, random.Random(seed), bound
         for name in nodes:
             self.start(name, b"")
 
@@ -62,6 +66,11 @@ class DrawnMarket:
         self.line(name, "start", **place, **basis, session=SESSION.id, begun=SESSION.begun, resume=resume.hex() or None)
         node.stream, node.written, node.stored, node.waits = frames.Stream(node_of(node.arguments())), [], resume, None
         self.take(node, Hello(BASIS.min, BASIS.max, BASIS.steps).to_bytes() + resume)
+        for child in self.children(name) if self.bound is not None else []:
+            self.feed(name, Bound(child, -self.bound, self.bound).to_bytes())
+
+    def children(self, name, sort="device"):
+        return [it.child for it in self.nodes.values() if it.parent == name and it.sort == sort]
 
     def take(self, node, data):
         node.written += [it.to_bytes() for it in Splitter(WRITES[node.sort], BASIS.steps).feed(node.stream.feed(data))]
@@ -126,11 +135,30 @@ class DrawnMarket:
         else:
             self.feed(name, (Clear() if sort == "auctioneer" else Send()).to_bytes())
 
+    def lets_go(self, name):
+        """A parent lets one of its devices go."""
+        children = self.children(name)
+        if children:
+            self.feed(name, Expire(self.random.choice(children)).to_bytes())
+
+    def gives(self, name):
+        """A relay whose limits may change is given others, or older ones again."""
+        node = self.nodes[name]
+        if node.giver:
+            if not node.given or self.random.random() < 0.7:
+                floor, ceiling = self.random.choice([node.limits, NO_LIMITS, (-5_000, 6_000)])
+                node.given.append(Limits(2 * len(node.given) + 2, floor, ceiling))
+            self.feed(name, self.random.choice([node.given[-1], *node.given[-2:]]).to_bytes())
+
     def step(self):
         name = self.random.choice(list(self.nodes))
         what = self.random.random()
         if what < 0.04:
             self.kill(name)
+        elif what < 0.08:
+            self.lets_go(name)
+        elif what < 0.12:
+            self.gives(name)
         elif what < 0.4:
             self.asks(name)
         elif self.nodes[name].parent is not None:
@@ -150,7 +178,7 @@ class DrawnMarket:
 
 
 def nodes_of(*places):
-    """The nodes of a tree, of the name, the sort, the parent and of a relay its limits. Children count in the order given."""
+    """The nodes of a tree, of the name, the sort, the parent and of a relay its limits and giver. Children count in the order given."""
     nodes, counts = {"auctioneer": Modelled("auctioneer")}, {}
     for name, sort, parent, *limits in places:
         counts[parent] = counts.get(parent, 0) + 1

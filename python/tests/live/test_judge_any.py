@@ -30,7 +30,8 @@ from cogmaula.live.frames import Hello
 
 PARENTS = {name: parent for name, (_, parent, _) in PLACES.items()}
 CHILDREN = {(parent, child): name for name, (_, parent, child) in PLACES.items()}
-BIDS, PRICES = {2, 3}, {5, 7}
+BIDS, PRICES, EXPIRE, LIMITS = {2, 3}, {23, 7}, 19, 20
+RELAYS = {(parent, child) for _, (sort, parent, child) in PLACES.items() if sort == "relay"}
 
 
 def lives_of(told):
@@ -74,11 +75,10 @@ def exact(data):
     """A Resume without the price that it has, and that price."""
     if not data:
         return b"", b""
-    if data[0] == RESUME_GONE:
-        return data[:5], data[5:]
-    if len(data) == 1037:
-        return data[:5] + data[13:], data[5:13]
-    return (data, b"") if len(data) == 1029 else (data[:5] + data[9:], data[5:9])
+    if len(data) == 1039:
+        return data, b""
+    end = 13 if len(data) == 1065 else 9
+    return data[:5] + data[end:], data[5:end]
 
 
 def comes_back_with_newest(lives):
@@ -102,6 +102,19 @@ def comes_back_with_newest(lives):
                     return False
                 stored, waits = waits, None
     return True
+
+
+def lets_devices_go_alone(name, lives):
+    """Whether no relay is let go."""
+    fed = (bytes.fromhex(it["frame"]) for life in lives for it in life if it["what"] == "in")
+    return not any(it[0] == EXPIRE and (name, int.from_bytes(it[1:3], "big")) in RELAYS for it in fed)
+
+
+def gives_a_number_once(lives):
+    """Whether limits of one number are the same."""
+    fed = [bytes.fromhex(it["frame"]) for life in lives for it in life if it["what"] == "in"]
+    given = {(it[1:5], it[5:]) for it in fed if it[0] == LIMITS}
+    return len({number for number, _ in given}) == len(given)
 
 
 def sender_of(name, data):
@@ -134,9 +147,11 @@ def is_run(lines):
     told = {name: [] for name in PLACES}
     for file in sorted(lines.files):
         told[file.split(".")[0]] += [json.loads(it) for it in lines.files[file]]
-    for them in told.values():
+    for name, them in told.items():
         lives = lives_of(them)
         if lives is None or not all(answers_as_recorded(it) for it in lives) or not comes_back_with_newest(lives):
+            return False
+        if not lets_devices_go_alone(name, lives) or not gives_a_number_once(lives):
             return False
     return has_an_order(told)
 
@@ -179,12 +194,20 @@ def quick(monkeypatch):
     monkeypatch.setattr(replay, "PATIENCE", (0.05, 2.0, 60.0))
 
 
+def lets_a_stranger_go(lines):
+    """Whether a child is let go that has no recording."""
+    let_go = {(file.split(".")[0], lines.frame(file, at).child) for name in PLACES for file, at in lines.of(name, "in", "Expire")}
+    return not let_go <= CHILDREN.keys()
+
+
 def require_as_worked_out(lines, live):
     """Judges lines, and compares."""
     with tempfile.TemporaryDirectory() as folder:
         lines.folder = Path(folder)
         verdict = judge(lines.write(), live)
     due = "valid" if is_run(lines) else "invalid"
+    if due == "valid" and lets_a_stranger_go(lines):
+        due = "incomplete"
     assert verdict.verdict == due, verdict
     return due
 
