@@ -14,6 +14,8 @@ from .reading import Start
 PIECE = 65_536
 # Input waits up to so many bytes before it is written, if no answer is asked for.
 WAITING = 1_048_576
+# How the line begins that the program writes to arguments that are no command, and no frame does.
+USAGE_LINE = b"usage: live "
 # The seconds in which the program has to end behind the end of its input.
 LAST_SECONDS = 600.0
 
@@ -88,6 +90,9 @@ class Running:
         if not self._came:
             return None
         kind = self._kinds.get(self._came[0])
+        if kind is None and USAGE_LINE.startswith(bytes(self._came[: len(USAGE_LINE)])):
+            # Its arguments are no command, which its status says too.
+            return None
         if kind is None:
             why = f"the byte {self._came[0]}, which begins no frame: is it the program live of this version?"
             raise LiveError(f"{self.live} wrote {why}")

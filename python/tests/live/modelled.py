@@ -141,10 +141,11 @@ class DrawnMarket:
         if children:
             self.feed(name, Expire(self.random.choice(children)).to_bytes())
 
-    def gives(self, name):
+    def gives(self):
         """A relay whose limits may change is given others, or older ones again."""
-        node = self.nodes[name]
-        if node.giver:
+        for name, node in self.nodes.items():
+            if not node.giver or self.random.random() < 0.3:
+                continue
             if not node.given or self.random.random() < 0.7:
                 floor, ceiling = self.random.choice([node.limits, NO_LIMITS, (-5_000, 6_000)])
                 node.given.append(Limits(2 * len(node.given) + 2, floor, ceiling))
@@ -158,7 +159,7 @@ class DrawnMarket:
         elif what < 0.08:
             self.lets_go(name)
         elif what < 0.12:
-            self.gives(name)
+            self.gives()
         elif what < 0.4:
             self.asks(name)
         elif self.nodes[name].parent is not None:

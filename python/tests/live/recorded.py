@@ -133,8 +133,8 @@ class RecordedMarket:
 class Lines:
     """The recordings of a folder as lines that a test looks up, changes and writes back."""
 
-    def __init__(self, folder):
-        self.folder = Path(folder)
+    def __init__(self, folder, places=PLACES, steps=STEPS):
+        self.folder, self.places, self.steps = Path(folder), places, steps
         self.files = {path.name: path.read_bytes().split(b"\n")[:-1] for path in sorted(self.folder.iterdir())}
 
     def of(self, node, what, name="", **fields):
@@ -154,8 +154,8 @@ class Lines:
 
     def frame(self, file, at):
         told = self.told(file, at)
-        sort = PLACES[file.split(".")[0]][0]
-        return frame_of(bytes.fromhex(told["frame"]), (READS if told["what"] == "in" else WRITES)[sort], STEPS)
+        sort = self.places[file.split(".")[0]][0]
+        return frame_of(bytes.fromhex(told["frame"]), (READS if told["what"] == "in" else WRITES)[sort], self.steps)
 
     def change(self, file, at, **members):
         self.files[file][at] = json.dumps({**self.told(file, at), **members}).encode()

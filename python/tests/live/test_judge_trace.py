@@ -1,4 +1,4 @@
-"""Recordings as a cluster file and a trace: over kills, losses, limits and levels `market check` takes it, and no changed one.
+"""Recordings as a cluster file and a trace: over kills, losses, lapses and levels `market check` takes it, and no changed one.
 
 Each trace is judged by the plain judge of checks/oracle, which was written apart from the program, and by the proved program.
 Without one the second half is skipped.
@@ -21,6 +21,7 @@ from modelled import BASIS as DRAWN_BASIS
 from modelled import DrawnMarket, nodes_of
 from recorded import Lines, Post, RecordedMarket
 
+from checks.oracle import nodes
 from checks.oracle.judge import answer, plan_of
 from cogmaula import Cluster, Invalid, Program, check
 from cogmaula.calls import envelope
@@ -57,18 +58,16 @@ def judges(request):
 
 @pytest.fixture(scope="module")
 def long(tmp_path_factory):
-    """The recordings of a market whose relay has limits and is killed, and loses prices, and whose mill leaves and comes back."""
+    """The recordings of a market whose relay has limits, is killed, and loses prices, and whose mill leaves and comes back."""
     post = Losing()
     market = RecordedMarket(tmp_path_factory.mktemp("long"), live_program(), post=post)
-    limits = {"floor": -100, "ceiling": 150}
+    limits = {"floor": -1_000, "ceiling": 1_000}
     try:
         market.start("auctioneer", "mill", "house", "store").start("street", **limits)
         market.offers(house=falls_at(4, 400, 100), store=falls_at(5, 0, -60), mill=CONSTANT)
         market.settles_at(9, mill=100, house=100)
-        # The price is the least one for the mill, and a higher one below the street, which takes at most 150 W.
         market.offers(mill=[-200] * STEPS)
-        market.settles_at(0, mill=-200)
-        market.settles_at(4, house=100)
+        market.settles_at(4, mill=-200, house=100)
         market.leaves("mill")
         market.offers(mill=falls_at(2, 60, -60))
         market.settles_at(5, house=100, store=-60)
@@ -138,18 +137,18 @@ def test_a_device_that_comes_back_with_another_offer_joins_and_changes(live, lon
     assert list(mills[4]["demand"]) == falls_at(2, 60, -60)
     # It came back a second time with the offer that it had: this is one change.
     assert [next(iter(it)) for it in mills[-2:]] == ["leave", "join"]
-    last = Lines(long).frame(*Lines(long).of("mill", "out", "Bid")[-1]).number
+    # It counts by two, and one number more for its first return.
+    last = Lines(long).frame(*Lines(long).of("mill", "out", "Bid")[-1]).number // 2
     assert f"change mill {last + 1}" in lines_in(traced) and f"change mill {last + 2}" not in lines_in(traced)
 
 
-def test_limits_at_work_are_those_of_a_limited_node(live, long, tmp_path):
+def test_a_price_that_the_relay_missed_is_passed_in_its_place(live, long, tmp_path):
     _, traced = judge_and_trace(long, tmp_path / "street", live, Plain())
-    street = Cluster.load(traced.cluster).node("street")
-    assert (street.kind, street.floor, street.ceiling) == ("limited", -100, 150)
+    assert Cluster.load(traced.cluster).node("street").kind == "concentrator"
     told = Lines(long)
     steps = {name: {it.index: it.step for at, it in
              ((at, told.frame(*at)) for at in told.of(name, "out", "Price"))} for name in ("auctioneer", "street")}
-    assert any(steps["auctioneer"][it] != step for it, step in steps["street"].items()), "limits moved a price"
+    assert all(steps["auctioneer"][it] == step for it, step in steps["street"].items()), "limits moved no price"
     missed = set(steps["auctioneer"]) - {told.frame(*at).index for at in told.of("street", "in", "Price")}
     passed = {int(it.split()[2]) for it in lines_in(traced)[: traced.settling - 1] if it.startswith("pass street ")}
     assert missed & passed, "a price that the relay missed is passed in its place"
@@ -211,14 +210,20 @@ def test_a_trace_of_which_a_line_is_changed_is_refused(judges, live, long, tmp_p
 
 # Drawn markets.
 
-LIMITS = (-150, 100)
+# Limits that no sum of two devices passes, and some that it may pass.
+WIDE, NARROW = (-5_000, 5_000), (-150, 100)
+GIVER = 256
 TREES = [
     [("a", "device", "auctioneer"), ("b", "device", "auctioneer")],
     [("r", "relay", "auctioneer"), ("a", "device", "r"), ("b", "device", "r"), ("c", "device", "auctioneer")],
-    [("r", "relay", "auctioneer", LIMITS), ("a", "device", "r"), ("b", "device", "r"), ("c", "device", "auctioneer")],
+    [("r", "relay", "auctioneer", WIDE), ("a", "device", "r"), ("b", "device", "r"), ("c", "device", "auctioneer")],
     [("r", "relay", "auctioneer"), ("q", "relay", "r"), ("a", "device", "q"), ("b", "device", "r"), ("c", "device", "q")],
-    [("r", "relay", "auctioneer", LIMITS), ("q", "relay", "r"), ("a", "device", "q"), ("b", "device", "r")],
-    [("r", "relay", "auctioneer"), ("q", "relay", "r", LIMITS), ("a", "device", "q"), ("b", "device", "r")],
+    [("r", "relay", "auctioneer", WIDE, GIVER), ("q", "relay", "r", WIDE), ("a", "device", "q"), ("b", "device", "r")],
+    [("r", "relay", "auctioneer", WIDE), ("q", "relay", "r", WIDE, GIVER), ("a", "device", "q"), ("b", "device", "r")],
+]
+BINDING = [
+    [("r", "relay", "auctioneer", NARROW), ("a", "device", "r"), ("b", "device", "r"), ("c", "device", "auctioneer")],
+    [("r", "relay", "auctioneer", WIDE), ("q", "relay", "r", NARROW, GIVER), ("a", "device", "q"), ("b", "device", "r")],
 ]
 SEEN = Counter()
 
@@ -241,6 +246,8 @@ def require_trace(following, judge):
     SEEN.update(it.split()[0].decode() for it in recorded)
     SEEN["none"] += sum(it.endswith(b" none") for it in recorded)
     SEEN["window"] += any(it.startswith(b"publish ") and int(it.split()[2]) > 8 for it in recorded)
+    SEEN["lapse"] += sum(len(it.lapses) for it in following.script.devices.values())
+    SEEN["limits"] += sum(len(following.script.devices[it].numbers) - 1 for it in following.givers.values())
 
 
 def drawn_into(places, seed, steps, judge):
@@ -257,10 +264,43 @@ def test_any_drawn_market_is_a_trace(places, seed, steps):
     drawn_into(places, seed, steps, Plain())
 
 
+@settings(max_examples=40, deadline=None)
+@given(places=some.sampled_from(BINDING), seed=some.integers(0, 2**32), steps=some.sampled_from([10, 40, 150]))
+def test_a_drawn_market_whose_limits_bind_has_no_trace(places, seed, steps):
+    """Each record of a relay is noted as it is made, and its sum compared with its limits."""
+    bound = []
+    record = nodes.Relay.record
+
+    def noting(self):
+        record(self)
+        made = self.records[self.last]
+        bound.append(any(not made.limits[0] <= it <= made.limits[1] for it in made.total))
+
+    nodes.Relay.record = noting
+    try:
+        market = DrawnMarket(nodes_of(*places), seed)
+        for _ in range(steps):
+            market.step()
+        for it in market.nodes:
+            market.handle_all(it)
+    finally:
+        nodes.Relay.record = record
+    with tempfile.TemporaryDirectory() as folder:
+        following = followed(market, Path(folder) / "recordings")
+    SEEN["bound" if any(bound) else "free"] += 1
+    if following.bound is None:
+        assert not any(bound)
+        return
+    assert any(bound)
+    with pytest.raises(NoTrace, match="over a sum that its limits bind"):
+        cluster_of(following)
+
+
 def test_drawn_markets_made_all_moves():
     for seed, places in enumerate(TREES * 2):
         drawn_into(places, seed, 300, Plain())
-    assert all(SEEN[it] > 20 for it in ("change", "learn", "publish", "clear", "pass", "none")) and SEEN["window"] > 1, SEEN
+    assert all(SEEN[it] > 20 for it in ("change", "learn", "publish", "clear", "pass", "none", "lapse", "limits")), SEEN
+    assert SEEN["window"] > 1, SEEN
 
 
 def test_the_proved_program_takes_drawn_markets(program):
@@ -315,18 +355,12 @@ def refusal(*places, feeds=()):
     return str(error.value)
 
 
-def chain_of(count):
-    return [(f"r{it}", "relay", f"r{it - 1}" if it else "auctioneer") for it in range(count)]
-
-
 @pytest.mark.parametrize(
     ("places", "found", "rule"),
     [
         ([(f"d{it}", "device", "r" if it % 2 else "auctioneer") for it in range(256)], "256 nodes", None),
         ([("9a", "device", "auctioneer")], "9a is the name", "a letter first"),
         ([("a" * 33, "device", "auctioneer")], "a is the name", "1 to 32 bytes"),
-        (chain_of(7), "r6 is a relay below 6 others", "at most 6 on a path"),
-        ([("r", "relay", "auctioneer", LIMITS), ("q", "relay", "r", (0, 50))], "is below r, which", "no limited node below"),
     ],
 )
 def test_a_tree_that_is_none_of_a_cluster_file(places, found, rule):
@@ -350,7 +384,7 @@ def test_as_many_changes_as_a_phase_has_events(tmp_path):
     require_trace(followed(market, tmp_path / "recordings"), Plain())
 
 
-def test_a_relay_whose_greatest_power_was_reached_is_limited(tmp_path):
+def test_a_relay_whose_greatest_power_was_passed_has_no_trace():
     """It announces at most 1,000,000,000 W, and a concentrator would announce the whole sum."""
     places = [("r", "relay", "auctioneer"), ("a", "device", "r"), ("b", "device", "r")]
     market = DrawnMarket(nodes_of(*places), 0)
@@ -360,11 +394,8 @@ def test_a_relay_whose_greatest_power_was_reached_is_limited(tmp_path):
         market.feed("r", market.nodes[name].sent[-1])
     market.feed("r", Send().to_bytes())
     market.handle_all("r")
-    following = followed(market, tmp_path / "recordings")
-    assert cluster_of(following).node("r").members() == {
-        "name": "r", "kind": "limited", "parent": "auctioneer", "floor": -MOST, "ceiling": MOST
-    }  # fmt: skip
-    require_trace(following, Plain())
+    with tempfile.TemporaryDirectory() as folder, pytest.raises(NoTrace, match="bid 1 of r is over a sum that its limits bind"):
+        cluster_of(followed(market, Path(folder) / "recordings"))
 
 
 def test_recordings_of_two_sessions_are_no_trace(live, tmp_path):
