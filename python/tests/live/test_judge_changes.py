@@ -8,12 +8,13 @@ from collections import Counter
 from dataclasses import replace
 
 import pytest
-from markets import falls_at
+from markets import BASIS, falls_at
+from pretended import price
 from recorded import Lines, RecordedMarket, files_of
 
 from cogmaula.cli import main
 from cogmaula.judge import NoRecording, judge
-from cogmaula.live.frames import Bid, Offer, Price, Send
+from cogmaula.live.frames import Bid, Offer, Send
 from cogmaula.live.errors import LiveError
 
 
@@ -48,9 +49,9 @@ CHANGED = [
     ("auctioneer", "Price", lambda it: replace(it, number=it.number + 1)),
     ("street", "Price", lambda it: replace(it, index=it.index + 1)),
     ("street", "Bid", lambda it: replace(it, demands=(it.demands[0] + 1, *it.demands[1:]))),
-    ("house", "Bid", lambda it: replace(it, number=it.number + 1)),
+    ("house", "Bid", lambda it: replace(it, number=it.number + 2)),
     ("store", "Setpoint", lambda it: replace(it, power=it.power - 1)),
-    ("mill", "DeviceResume", lambda it: replace(it, last=it.last + 1)),
+    ("mill", "DeviceResume", lambda it: replace(it, last=it.last + 2)),
     ("auctioneer", "AuctioneerResume", lambda it: replace(it, numbers=(it.numbers[0] + 1, *it.numbers[1:]))),
 ]
 
@@ -90,7 +91,7 @@ def test_a_frame_out_before_what_it_answers_is_named(lines, live):
     them[out - 1], them[out] = them[out], them[out - 1]
     node, place, why = found(lines, live)
     assert (node, place) == ("house", take)
-    assert why.startswith("Setpoint: offer 1") and why.endswith("the frames in before it have no further answer")
+    assert why.startswith("Setpoint: offer 2") and why.endswith("the frames in before it have no further answer")
 
 
 def test_a_frame_in_that_is_not_there_is_named_at_its_answer(lines, live):
@@ -129,7 +130,7 @@ def test_a_price_that_was_never_sent_is_named(lines, live):
 def test_a_frame_that_answers_nothing_still_has_to_have_been_sent(lines, live):
     """A price of an index below the last makes the service write Dropped, whoever sent it."""
     file, at = lines.of("store", "in", "Price")[-1]
-    lines.insert(file, at + 1, what="in", frame=Price(2, 1, 1, 9).to_bytes().hex())
+    lines.insert(file, at + 1, what="in", frame=price(2, 2, 1, 9, BASIS).to_bytes().hex())
     node, place, why = found(lines, live)
     assert (node, place) == ("store", (file, at + 1))
     assert why.endswith("street never sent just this")
@@ -151,7 +152,7 @@ def test_a_bid_that_is_taken_before_it_could_be_sent_is_named(lines, live):
     assert (node, place) == ("auctioneer", (file, clear + 1))
     out = lines.of("mill", "out", "Gone")[0]
     where = f"{out[0]}:{out[1] + 1}"
-    assert why == f"Gone 2 of child 2 is taken, and mill sends it only at {where}, for which this has to be taken first"
+    assert why == f"Gone 4 of child 2 is taken, and mill sends it only at {where}, for which this has to be taken first"
 
 
 def test_what_is_taken_again_late_and_out_of_order_is_valid(lines, live):
@@ -173,7 +174,7 @@ def test_a_frame_of_a_stranger_is_named(lines, live):
         node, place, why = found(changed.change_frame(file, at, frame), live)
         assert (node, place) == ("house", (file, at))
         assert "is no frame that a node feeds to its service" in why
-    node, place, why = found(lines.change_frame(file, at, Price(2, 1, 1, 1)), live)
+    node, place, why = found(lines.change_frame(file, at, price(2, 2, 1, 1, BASIS)), live)
     assert (node, place[0]) == ("house", file)
 
 
@@ -185,7 +186,7 @@ OLDER = [
     ("auctioneer", "AuctioneerResume", lambda it: it),
     ("store", "DeviceResume", lambda it: it),
     # The house had one offer up to there: a number that it never had, and an offer that is not of its number.
-    ("house", "DeviceResume", lambda it: replace(it, last=it.last + 1)),
+    ("house", "DeviceResume", lambda it: replace(it, last=it.last + 2)),
     ("house", "DeviceResume", lambda it: replace(it, demands=(101, *it.demands[1:]))),
 ]
 

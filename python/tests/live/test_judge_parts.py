@@ -6,32 +6,34 @@ import os
 from dataclasses import replace
 
 import pytest
-from pretended import BASIS, SESSION, bid, gone, numbers
+from pretended import BASIS, SESSION, auctioneer_resume, bid, device_resume, gone, numbers, price, relay_resume, resume_gone
 from recorded import Lines, descriptors
 
 from cogmaula.judge import judge, replay
 from cogmaula.judge.reading import Start
-from cogmaula.judge.restarts import Keeping
+from cogmaula.judge.restarts import Giving, Keeping
 from cogmaula.judge.running import Late, Running
 from cogmaula.judge.words import words_of, words_of_bytes
 from cogmaula.live.errors import LiveError
 from cogmaula.live.frames import (
-    AuctioneerResume,
+    Bound,
     Clear,
-    DeviceResume,
     Dropped,
+    Expire,
+    Limits,
     NotChanged,
     Old,
-    Price,
+    OtherBasis,
+    OutOfLimits,
     RelayResume,
-    ResumeGone,
     Setpoint,
+    TooMuch,
 )
 
-RELAY = RelayResume(5, 3, 7, numbers((1, 4)))
-DEVICE = DeviceResume(5, 7, (9, -9))
-GONE = ResumeGone(6, 7)
-AUCTIONEER = AuctioneerResume(5, numbers((1, 4)))
+RELAY = relay_resume(5, 3, 7, numbers((1, 4), (9, 2)), (-1000, 1000, 9), (-5, 5))
+DEVICE = device_resume(6, 7, (9, -9))
+GONE = resume_gone(8, 7)
+AUCTIONEER = auctioneer_resume(5, numbers((1, 4)))
 
 
 def stored(*resumes):
@@ -56,9 +58,15 @@ OLDER = [
     (RELAY, replace(RELAY, numbers=numbers((1, 3)))),
     (DEVICE, replace(DEVICE, last=4)),
     (DEVICE, replace(DEVICE, demands=(9, -8))),
-    (DEVICE, ResumeGone(5, 7)),
-    (GONE, ResumeGone(5, 7)),
-    (GONE, DeviceResume(6, 7, (9, -9))),
+    (DEVICE, resume_gone(6, 7)),
+    (GONE, resume_gone(6, 7)),
+    (GONE, device_resume(8, 7, (9, -9))),
+    (RELAY, replace(RELAY, floor=-6)),
+    (RELAY, replace(RELAY, ceiling=6)),
+    (RELAY, replace(RELAY, giver=8)),
+    (RELAY, replace(RELAY, greatest=18)),
+    (DEVICE, replace(DEVICE, greatest=18)),
+    (AUCTIONEER, replace(AUCTIONEER, least=-9)),
     (AUCTIONEER, replace(AUCTIONEER, index=4)),
     (AUCTIONEER, replace(AUCTIONEER, numbers=numbers((1, 3)))),
     (RELAY, None),
@@ -120,6 +128,17 @@ def test_what_was_before_a_late_start_is_not_known():
     assert "its newest has to come back" in keeping.starts(replace(RELAY, last=4))
 
 
+def test_a_number_of_limits_is_of_one_floor_and_one_ceiling():
+    giving = Giving()
+    assert giving.takes(Limits(4, -5, 5)) == giving.takes(Limits(2, 0, 9)) == giving.takes(Limits(4, -5, 5)) == ""
+    assert "before in this session they were -5 to 5 W" in giving.takes(Limits(4, -5, 6))
+    # A Resume has the newest limits under the number of their place.
+    assert "limits 2 are -5 to 5 W" in giving.resumes(RELAY)
+    assert giving.resumes(replace(RELAY, floor=0, ceiling=9)) == giving.resumes(replace(RELAY, giver=0)) == giving.resumes(None) == ""
+    fresh = Giving()
+    assert fresh.resumes(RELAY) == "" and fresh.takes(Limits(2, 0, 5)) != ""
+
+
 # A service that is run again.
 
 
@@ -144,8 +163,8 @@ def run(live):
 def test_frames_come_one_by_one(run):
     one = run("auctioneer")
     one.feed(bid(3, 1, 21, -3).to_bytes() + Clear().to_bytes())
-    assert one.frame() == AuctioneerResume(1, numbers((3, 1))).to_bytes()
-    assert one.frame() == Price(3, 1, 1, 1).to_bytes()
+    assert one.frame() == auctioneer_resume(1, numbers((3, 1))).to_bytes()
+    assert one.frame() == price(3, 1, 1, 1).to_bytes()
     one.feed(Clear().to_bytes())
     assert one.frame() == NotChanged().to_bytes()
     assert list(one.finish()) == []
@@ -163,8 +182,8 @@ def test_no_further_answer_is_known_by_the_end_of_the_input(run):
 def test_a_life_of_any_length_is_fed_while_it_is_read(run):
     """More than the pipes of both sides hold: a service that is only written to would stop, and the judge with it."""
     one = run("device", "2")
-    price, count = Price(2, 1, 0, 1).to_bytes(), 100_000
-    one.feed(price * count)
+    count = 100_000
+    one.feed(price(2, 1, 0, 1).to_bytes() * count)
     for _ in range(count):
         assert one.frame() == Dropped(1, 0).to_bytes()
     assert list(one.finish()) == []
@@ -172,7 +191,7 @@ def test_a_life_of_any_length_is_fed_while_it_is_read(run):
 
 def test_all_frames_behind_the_last_that_was_asked_for_come_at_the_end(run):
     one = run("device", "2")
-    one.feed(Price(2, 1, 0, 1).to_bytes() * 100_000)
+    one.feed(price(2, 1, 0, 1).to_bytes() * 100_000)
     assert list(one.finish()) == [Dropped(1, 0).to_bytes()] * 100_000
     assert one.status() == 0
 
@@ -223,8 +242,8 @@ def test_no_process_and_no_file_is_left(recorded, live, lines):
 
 
 def test_a_frame_that_the_service_refuses_is_named_at_the_start_of_its_life(lines, live):
-    """A relay's Resume that answers more than its last number: nothing before it is known, and the program refuses it."""
-    wrong = RelayResume(1, 2, 1, numbers((1, 1)))
+    """A relay's Resume of other limits than its arguments: nothing before it is known, and the program refuses it."""
+    wrong = relay_resume(1, 1, 1, numbers((1, 1)), (-5, 5, 0))
     first = lines.of("street", "start")[0]
     lines.files = {file: them for file, them in lines.files.items() if file == first[0]}
     lines.change(*first, resume=wrong.to_bytes().hex())
@@ -240,18 +259,24 @@ def test_frames_have_words():
     told = [
         (bid(2, 4, 10, -3), "Bid 4 of child 2"),
         (gone(2, 5), "Gone 5 of child 2"),
-        (Price(2, 4, 7, 1), "Price for child 2: bid 4, clearing 7, step 1"),
+        (price(2, 4, 7, 1), "Price for child 2: bid 4, clearing 7, step 1"),
         (Old(2, 4), "Old for child 2: number 4 is kept"),
         (Setpoint(4, 7, 1, -3), "Setpoint: offer 4, clearing 7, step 1, -3 W"),
         (Dropped(4, 7), "Dropped: number 4, clearing 7"),
         (RELAY, "Resume with number 5, answered 3 by clearing 7"),
         (AUCTIONEER, "Resume of clearing 5"),
-        (DEVICE, "Resume with number 5 and clearing 7"),
-        (GONE, "ResumeGone with number 6 and clearing 7"),
+        (DEVICE, "Resume with number 6 and clearing 7"),
+        (GONE, "ResumeGone with number 8 and clearing 7"),
+        (Expire(2), "Expire of child 2"),
+        (Limits(4, -5, 9), "Limits 4: -5 to 9 W"),
+        (Bound(2, -5, 9), "Bound of child 2: -5 to 9 W"),
+        (TooMuch(2, 4), "TooMuch for child 2: bid 4"),
+        (OtherBasis(4, 7), "OtherBasis: number 4, clearing 7"),
+        (OutOfLimits(4), "OutOfLimits: bid 4"),
         (Clear(), "Clear"),
     ]
     for frame, words in told:
         assert words_of(frame) == words
-    assert words_of_bytes(Price(2, 4, 7, 1).to_bytes(), "relay", 2) == "Price for child 2: bid 4, clearing 7, step 1"
+    assert words_of_bytes(price(2, 4, 7, 1).to_bytes(), "relay", 2) == "Price for child 2: bid 4, clearing 7, step 1"
     assert words_of_bytes(b"\x63\x01", "relay", 2) == "6301, which is no frame"
     assert words_of_bytes(bytes(20), "device", 2) == f"{'00' * 16}.., which is no frame"

@@ -9,15 +9,15 @@ import re
 
 import pytest
 from markets import falls_at
-from pretended import BASIS_TOPIC, LATER, SESSION, basis_payload, bid, numbers, saved
+from pretended import BASIS_TOPIC, LATER, SESSION, auctioneer_resume, basis_payload, bid, numbers, price, relay_resume, saved
 from recorded import Lines, RecordedMarket, files_of
 
 from cogmaula.judge import judge
 from cogmaula.live import BadSettings, recording
-from cogmaula.live.frames import AuctioneerResume, Clear, Price, RelayResume, Send
+from cogmaula.live.frames import Clear, Send
 from cogmaula.live.settings import settings_of
 
-FIRST = RelayResume(1, 0, 0, numbers((1, 1)))
+FIRST = relay_resume(1, 0, 0, numbers((1, 1)))
 
 
 def told_in(folder):
@@ -37,7 +37,7 @@ def test_a_node_records_its_start_and_each_frame(joined, tmp_path):
     one = joined("relay", record=str(folder)).begun(("market/street/bid/1", bid(1, 1, 5, -3).to_bytes()))
     sent = bid(3, 1, 5, -3)
     one.writes(FIRST, sent)
-    one.link.comes("market/auctioneer/price/3", Price(3, 1, 7, 1).to_bytes())
+    one.link.comes("market/auctioneer/price/3", price(3, 1, 7, 1).to_bytes())
     one.turned()
     one.node.serving.end("stopped")
     assert [it.name for it in folder.iterdir()] == [f"street.{SESSION.id}.000001.frames"]
@@ -50,7 +50,7 @@ def test_a_node_records_its_start_and_each_frame(joined, tmp_path):
         {"what": "out", "frame": FIRST.to_bytes().hex()},
         {"what": "stored"},
         {"what": "out", "frame": sent.to_bytes().hex()},
-        {"what": "in", "frame": Price(3, 1, 7, 1).to_bytes().hex()},
+        {"what": "in", "frame": price(3, 1, 7, 1).to_bytes().hex()},
         {"what": "end", "why": "stopped"},
     ]
     lines = next(folder.iterdir()).read_text().splitlines()
@@ -110,11 +110,11 @@ def test_all_is_safe_before_a_resume_is_stored_and_recorded_before_it_is_publish
     noted = Noted(one, monkeypatch)
     one.link.comes("market/auctioneer/bid/3", bid(3, 1, 21, -3).to_bytes(), [("session", one.node.session.id)])
     one.turned()
-    one.writes(AuctioneerResume(1, numbers((3, 1))), Price(3, 1, 1, 1))
+    one.writes(auctioneer_resume(1, numbers((3, 1))), price(3, 1, 1, 1))
     assert noted.done == [
         "in 02", "feed", "in 04", "feed",
-        "out 0c", "safe", "store", "stored", "publish auctioneer/resume",
-        "out 05", "publish auctioneer/price/3",
+        "out 19", "safe", "store", "stored", "publish auctioneer/resume",
+        "out 17", "publish auctioneer/price/3",
     ]  # fmt: skip
     assert one.service.read[-1] == Clear().to_bytes()
 
@@ -123,12 +123,12 @@ def test_a_resume_that_waits_for_the_broker_is_not_yet_recorded(joined, tmp_path
     folder = tmp_path / "recordings"
     saved(tmp_path, "relay", "street", FIRST)
     one = joined("relay", record=str(folder)).begun(("market/street/bid/1", bid(1, 1, 5, -3).to_bytes()))
-    price, resume = Price(1, 1, 7, 1), RelayResume(1, 1, 7, numbers((1, 1)))
-    one.writes(price, resume)
-    assert frames_in(folder, "out") == [("out", price.to_bytes().hex())]
+    told, resume = price(1, 1, 7, 1), relay_resume(1, 1, 7, numbers((1, 1)))
+    one.writes(told, resume)
+    assert frames_in(folder, "out") == [("out", told.to_bytes().hex())]
     one.link.confirm()
     one.turned()
-    assert frames_in(folder, "out") == [("out", it.to_bytes().hex()) for it in (price, resume)]
+    assert frames_in(folder, "out") == [("out", it.to_bytes().hex()) for it in (told, resume)]
 
 
 # A disk that takes no more.
@@ -159,7 +159,7 @@ def test_a_full_disk_ends_the_node_before_anything_is_sent(joined, tmp_path, mon
     count = len(one.link.sent)
     fails_at(monkeypatch, "write", 1)
     with pytest.raises(OSError, match="No space left"):
-        one.writes(AuctioneerResume(1, numbers((3, 1))), Price(3, 1, 1, 1))
+        one.writes(auctioneer_resume(1, numbers((3, 1))), price(3, 1, 1, 1))
     assert one.stored(one.node.session) == b"", "the Resume is not stored"
     assert len(one.link.sent) == count
     monkeypatch.undo()
@@ -172,7 +172,7 @@ def test_a_recording_that_is_not_safe_stores_no_resume(joined, tmp_path, monkeyp
     one = joined("auctioneer", record=str(tmp_path / "recordings")).begun()
     fails_at(monkeypatch, "fsync", 1)
     with pytest.raises(OSError, match="No space left"):
-        one.writes(AuctioneerResume(1, numbers((3, 1))))
+        one.writes(auctioneer_resume(1, numbers((3, 1))))
     assert one.stored(one.node.session) == b""
     monkeypatch.undo()
     one.node.serving.end("No space left on device")
