@@ -19,7 +19,7 @@ import sys
 
 from make_stream import BID, CHILDREN, HELLO, bids
 
-PRICE, SEND = 5, 9
+PRICE, SEND = 23, 9
 # The relay's own number at its parent.
 OWN = 3
 # The number of each child's only bid that counts in `relay_old`.
@@ -32,7 +32,7 @@ def hello(steps):
 
 def price(number, steps):
     """The price for a bid of the relay; its index is the bid's number, and its step moves on with it."""
-    return struct.pack(">BHIIH", PRICE, OWN, number, number, number % steps)
+    return struct.pack(">BHIIHiiH", PRICE, OWN, number, number, number % steps, 0, steps - 1, steps)
 
 
 def bids_in_turn(number, steps, number_of):

@@ -22,7 +22,7 @@ import time
 from pathlib import Path
 
 from compare import LONGEST_SECONDS, Failed, beside, load, name_of, quotient, runs_of, text_of, tried
-from make_relay_stream import OWN, SEND, STREAMS, bids_in_turn, hello, price
+from make_relay_stream import OWN, PRICE, SEND, STREAMS, bids_in_turn, hello, price
 from make_stream import BID, CHILDREN
 
 # How often longer than the plain relay `live relay` may take on a stream.
@@ -35,7 +35,7 @@ WINDOW = 8
 
 LIMITS = ["-50000", "50000"]
 LIVE, PLAIN = "live relay", "plain relay"
-RESUME_BYTES, PRICE_BYTES = 13 + 4 * CHILDREN, 13
+RESUME_BYTES, PRICE_BYTES = 41 + 4 * CHILDREN, 23
 
 
 def commands_of(live, plain):
@@ -46,7 +46,7 @@ def commands_of(live, plain):
 
 def counted_frames(path, steps):
     """How many frames a stream has, and how many of them are bids."""
-    sizes = {1: 11, BID: 7 + 4 * steps, 5: PRICE_BYTES, SEND: 1}
+    sizes = {1: 11, BID: 7 + 4 * steps, PRICE: PRICE_BYTES, SEND: 1}
     with open(path, "rb") as source:
         data = source.read()
     at = frames = bids = 0

@@ -4,12 +4,12 @@
 //! bids, and makes no allocation for a frame. The statuses are those of the page, except that no status tells that memory ran out.
 //!
 //!     rustc -O --edition 2021 bench/plain_relay/plain_relay.rs
-//!     plain_relay CHILD FLOOR CEILING
+//!     plain_relay CHILD FLOOR CEILING [GIVER]
 
 mod frames;
 mod relay;
 
-use frames::{write_fault, Bad, Frame, Reader, CHILDREN, LONGEST, MOST};
+use frames::{write_fault, Bad, Command, Frame, Limits, Reader, CHILDREN, LONGEST, MOST};
 use relay::Relay;
 use std::fs::File;
 use std::io::{self, Read, Write};
@@ -28,13 +28,6 @@ const REFUSED: u8 = 5;
 const WRITE_FAULT: u8 = 6;
 const NO_TEXT: u8 = 8;
 
-/// A relay's own number at its parent, and its limits in watts.
-struct Command {
-    child: u16,
-    floor: i64,
-    ceiling: i64,
-}
-
 /// The number that a word is in decimal digits without a leading zero, if it is in the range.
 fn number_of(word: &str, range: RangeInclusive<i64>) -> Option<i64> {
     let number: i64 = word.parse().ok()?;
@@ -42,13 +35,21 @@ fn number_of(word: &str, range: RangeInclusive<i64>) -> Option<i64> {
 }
 
 fn command_of(words: &[String]) -> Option<Command> {
-    let [child, floor, ceiling] = words else {
+    let [child, floor, ceiling, giver @ ..] = words else {
         return None;
     };
+    let place = |word: &String| number_of(word, 1..=CHILDREN as i64).map(|number| number as u16);
     Some(Command {
-        child: number_of(child, 1..=CHILDREN as i64)? as u16,
-        floor: number_of(floor, -i64::from(MOST)..=0)?,
-        ceiling: number_of(ceiling, 0..=i64::from(MOST))?,
+        child: place(child)?,
+        limits: Limits {
+            floor: number_of(floor, -i64::from(MOST)..=0)? as i32,
+            ceiling: number_of(ceiling, 0..=i64::from(MOST))? as i32,
+        },
+        giver: match giver {
+            [] => 0,
+            [word] => place(word)?,
+            _ => return None,
+        },
     })
 }
 
@@ -61,7 +62,7 @@ struct Service {
 
 impl Service {
     fn new(command: Command) -> Service {
-        Service { reader: Reader::new(command.child), command, relay: None }
+        Service { reader: Reader::new(command), command, relay: None }
     }
 
     /// Takes the whole frames of the data and appends their answers. It tells how many bytes they have, and whether a bad one follows.
@@ -73,10 +74,7 @@ impl Service {
                     at += size;
                     match (&mut self.relay, frame) {
                         (Some(relay), frame) => relay.take(frame, out),
-                        (None, Frame::Hello { steps }) => {
-                            let Command { child, floor, ceiling } = self.command;
-                            self.relay = Some(Relay::new(child, floor, ceiling, steps));
-                        }
+                        (None, Frame::Hello(basis)) => self.relay = Some(Relay::new(self.command, basis)),
                         (None, _) => unreachable!("Hello is the first frame"),
                     }
                 }
@@ -135,7 +133,7 @@ fn main() -> ExitCode {
         return ExitCode::from(NO_TEXT);
     };
     let Some(command) = command_of(&words) else {
-        let told = writeln!(io::stdout(), "usage: plain_relay CHILD FLOOR CEILING");
+        let told = writeln!(io::stdout(), "usage: plain_relay CHILD FLOOR CEILING [GIVER]");
         return ExitCode::from(if told.is_ok() { USAGE } else { WRITE_FAULT });
     };
     match standard() {

@@ -1,8 +1,9 @@
 //! A relay: it adds up the bids of its children, bids the sum to its parent, and passes prices down.
 
 use crate::frames::{
-    write_bid, write_dropped, write_not_caught_up, write_not_changed, write_old, write_out_of_numbers, write_price,
-    write_resume, write_window_full, Frame, Price, Resume, CHILDREN,
+    write_bid, write_dropped, write_not_caught_up, write_not_changed, write_old, write_other_basis, write_out_of_limits,
+    write_out_of_numbers, write_price, write_resume, write_too_much, write_window_full, Basis, Command, Frame, Limits, Price, Resume,
+    CHILDREN, MOST,
 };
 
 /// How many numbers may be unanswered.
@@ -15,19 +16,25 @@ struct Head {
     gone: bool,
 }
 
+/// What a child may bid that has no bound.
+const UNBOUND: Limits = Limits { floor: -MOST, ceiling: MOST };
+
 const NOTHING_HEARD: Head = Head { number: 0, gone: true };
 
-/// What went into a bid of the relay: the heads of its children, and their sum before the limits.
+/// What went into a bid of the relay: the heads of its children, the sum of their bids, and the limits.
 struct Record {
     number: u32,
     heads: [Head; CHILDREN],
     total: Vec<i64>,
+    limits: Limits,
 }
 
 pub struct Relay {
-    child: u16,
-    floor: i64,
-    ceiling: i64,
+    command: Command,
+    basis: Basis,
+    /// The limits of the next bid, and of each child what it may bid.
+    limits: Limits,
+    bounds: [Limits; CHILDREN],
     heads: [Head; CHILDREN],
     /// The demands that count of each child, child by child, and their running sum.
     demands: Vec<i32>,
@@ -44,17 +51,19 @@ pub struct Relay {
 }
 
 impl Relay {
-    /// A relay of this many steps to which nothing was sent. Its limits are in watts.
-    pub fn new(child: u16, floor: i64, ceiling: i64, steps: usize) -> Relay {
-        let record = || Record { number: 0, heads: [NOTHING_HEARD; CHILDREN], total: vec![0; steps] };
+    /// A relay of this basis to which nothing was sent.
+    pub fn new(command: Command, basis: Basis) -> Relay {
+        let (steps, limits) = (usize::from(basis.steps), command.limits);
+        let record = || Record { number: 0, heads: [NOTHING_HEARD; CHILDREN], total: vec![0; steps], limits };
         Relay {
-            child,
-            floor,
-            ceiling,
+            command,
+            basis,
+            limits,
+            bounds: [UNBOUND; CHILDREN],
             heads: [NOTHING_HEARD; CHILDREN],
             demands: vec![0; CHILDREN * steps],
             total: vec![0; steps],
-            kept: Resume { last: 0, answered: 0, index: 0, numbers: [0; CHILDREN] },
+            kept: Resume { last: 0, answered: 0, index: 0, limits, numbers: [0; CHILDREN] },
             records: (0..=WINDOW).map(|_| record()).collect(),
             has_news: false,
             is_lost: false,
@@ -65,19 +74,54 @@ impl Relay {
     /// Takes a frame behind Hello, and appends its answers.
     pub fn take(&mut self, frame: Frame, out: &mut Vec<u8>) {
         match frame {
-            Frame::Resume(kept) => {
-                self.is_lost = kept.last > 0;
-                self.kept = kept;
+            Frame::Resume(kept) => self.come_back(kept, out),
+            Frame::Bid { place, number, demands } => {
+                let bound = self.bounds[place];
+                if demands[0] > bound.ceiling || demands[demands.len() - 1] < bound.floor {
+                    write_too_much(place, number, out);
+                } else {
+                    self.learn(place, number, Some(demands), out);
+                }
             }
-            Frame::Bid { place, number, demands } => self.learn(place, number, Some(demands), out),
             Frame::Gone { place, number } => self.learn(place, number, None, out),
+            Frame::Expire { place } => {
+                let number = self.heads[place].number.max(self.kept.numbers[place]) | 1;
+                if number > self.heads[place].number {
+                    self.learn(place, number, None, out);
+                }
+            }
+            Frame::Limits { number, limits } => self.take_limits(number, limits, out),
+            Frame::Bound { place, bound } => self.bounds[place] = bound,
             Frame::Send => {
                 self.send(out);
                 self.try_waiting(out);
             }
             Frame::Price(price) => self.take_price(price, out),
-            Frame::Hello { .. } | Frame::Old => {}
+            Frame::OtherBasis(price) => write_other_basis(price, out),
+            Frame::Hello(_) | Frame::Old => {}
         }
+    }
+
+    /// Goes on from what was kept. The limits of the newest bid are given again under their number.
+    fn come_back(&mut self, kept: Resume, out: &mut Vec<u8>) {
+        self.is_lost = kept.last > 0;
+        self.kept = kept;
+        let number = match self.command.giver {
+            0 => 0,
+            giver => self.kept.numbers[usize::from(giver) - 1],
+        };
+        if number > 0 {
+            self.take_limits(number, self.kept.limits, out);
+        }
+    }
+
+    /// Takes limits, which are heard as a child that is gone.
+    fn take_limits(&mut self, number: u32, limits: Limits, out: &mut Vec<u8>) {
+        let place = usize::from(self.command.giver) - 1;
+        if number > self.heads[place].number {
+            self.limits = limits;
+        }
+        self.learn(place, number, None, out);
     }
 
     /// Takes a bid of the child in a place, or that it is gone.
@@ -140,6 +184,8 @@ impl Relay {
         record.number = self.kept.last;
         record.heads = self.heads;
         record.total.copy_from_slice(&self.total);
+        record.limits = self.limits;
+        self.kept.limits = self.limits;
         for (sent, head) in self.kept.numbers.iter_mut().zip(&self.heads) {
             *sent = head.number;
         }
@@ -160,16 +206,22 @@ impl Relay {
         } else {
             self.kept.last += 1;
             self.record();
-            write_resume(&self.kept, out);
+            self.write_resume(out);
             self.write_own_bid(out);
         }
     }
 
     /// Appends the last bid, whose record is kept.
     fn write_own_bid(&self, out: &mut Vec<u8>) {
-        let total = &self.records[place_of(self.kept.last)].total;
-        let demands = total.iter().map(|sum| (*sum).clamp(self.floor, self.ceiling) as i32);
-        write_bid(self.child, self.kept.last, demands, out);
+        let record = &self.records[place_of(self.kept.last)];
+        let (first, last) = steps_within(record);
+        let most = i64::from(MOST);
+        let demands = (0..record.total.len()).map(|step| record.total[last.min(step).max(first)].clamp(-most, most) as i32);
+        write_bid(self.command.child, self.kept.last, demands, out);
+        let (floor, ceiling) = (i64::from(record.limits.floor), i64::from(record.limits.ceiling));
+        if !(floor..=ceiling).contains(&record.total[first]) {
+            write_out_of_limits(self.kept.last, out);
+        }
     }
 
     /// Takes a price of the parent, drops it, or lets it wait.
@@ -186,7 +238,11 @@ impl Relay {
         self.kept.answered = price.number;
         self.kept.index = price.index;
         self.pass_down(price, out);
-        write_resume(&self.kept, out);
+        self.write_resume(out);
+    }
+
+    fn write_resume(&self, out: &mut Vec<u8>) {
+        write_resume(&self.kept, self.basis, &self.command, out);
     }
 
     /// Lets the price with the greater index wait, of two with one index the first, and drops the other.
@@ -214,23 +270,20 @@ impl Relay {
         if record.number != price.number {
             return;
         }
-        let step = self.local_step(&record.total, usize::from(price.step)) as u16;
+        let (first, last) = steps_within(record);
+        let step = last.min(usize::from(price.step)).max(first) as u16;
         for (place, head) in record.heads.iter().enumerate().filter(|(_, head)| !head.gone) {
-            write_price(place, Price { number: head.number, step, ..price }, out);
+            write_price(place, Price { number: head.number, step, ..price }, self.basis, out);
         }
     }
+}
 
-    /// The step for the children: the nearest one at which the sum is within the limits.
-    fn local_step(&self, total: &[i64], step: usize) -> usize {
-        // No sum is above the one before.
-        if total[step] > self.ceiling {
-            total.partition_point(|sum| *sum > self.ceiling).min(total.len() - 1)
-        } else if total[step] < self.floor {
-            total.partition_point(|sum| *sum >= self.floor).saturating_sub(1)
-        } else {
-            step
-        }
-    }
+/// The first step at which the sum of a record is at most its ceiling, and the last at which it is at least its floor. No sum is above
+/// the one before, so the children go by a step between the two, and by the first if the last is before it.
+fn steps_within(record: &Record) -> (usize, usize) {
+    let (floor, ceiling, total) = (i64::from(record.limits.floor), i64::from(record.limits.ceiling), &record.total);
+    let first = total.partition_point(|sum| *sum > ceiling).min(total.len() - 1);
+    (first, total.partition_point(|sum| *sum >= floor).saturating_sub(1))
 }
 
 /// The place of a number's record: the number answered last and eight later ones have places of their own.
