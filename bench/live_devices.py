@@ -12,7 +12,8 @@ many `children` each has, and a `seed`. Lines at standard input say what to do:
     state         prints what the devices hold, in JSON
     clear         clears the retained bids of the devices
 
-Each device numbers its bids, and stores nothing. It knows the power of its bids that are not answered, and so its setpoint.
+Each device numbers its bids 2, 4, 6, .., and stores nothing. Its bids hold until it makes another. It knows the power of its bids that
+are not answered, and so its setpoint.
 """
 
 import json
@@ -26,8 +27,10 @@ from datetime import datetime, timezone
 
 from live_mqtt import Connection, text, user_properties
 
-BID, PRICE = 2, 5
-PRICE_BYTES = 13
+BID, PRICE = 2, 23
+PRICE_FORMAT = struct.Struct(">BHIIHiiH")
+# The version of the messages.
+VERSION = "2"
 # The most messages that the broker has not confirmed, and the greatest power of a device in watts.
 UNCONFIRMED, MOST = 1_000, 5_000
 # The seconds between looks at standard input.
@@ -52,8 +55,8 @@ class Device:
             return None
         falls, before, behind, _ = self.bids[number]
         self.index, self.step, self.power = index, step, before if step < falls else behind
-        made = [self.bids[it][3] for it in range(self.answered + 1, number + 1)]
-        for it in range(max(1, self.answered), number):
+        made = [self.bids[it][3] for it in range(self.answered + 2, number + 1, 2)]
+        for it in range(max(2, self.answered), number, 2):
             del self.bids[it]
         self.answered = number
         return made
@@ -88,7 +91,7 @@ class Devices:
 
     def _bid(self, at, now, properties):
         device = self._devices[at]
-        device.number += 1
+        device.number += 2
         falls = self._chance.randrange(self._steps + 1)
         before, behind = self._chance.randrange(1, MOST), -self._chance.randrange(1, MOST)
         device.bids[device.number] = falls, before, behind, now
@@ -107,7 +110,7 @@ class Devices:
             return
         self._due += 0 if self._rate < 0 else due / self._rate
         moment = datetime.now(timezone.utc).isoformat(timespec="milliseconds").replace("+00:00", "Z")
-        properties = user_properties(time=moment, session=self._session)
+        properties = user_properties(time=moment, session=self._session, version=VERSION)
         for _ in range(due):
             if self._waiting:
                 at = self._waiting.pop()
@@ -123,9 +126,9 @@ class Devices:
         now = time.monotonic()
         for topic, payload in self._link.messages():
             device = self._by_topic.get(topic)
-            if device is not None and len(payload) == PRICE_BYTES:
+            if device is not None and len(payload) == PRICE_FORMAT.size and payload[0] == PRICE:
                 self._prices += 1
-                _, _, number, index, step = struct.unpack(">BHIIH", payload)
+                _, _, number, index, step, *_ = PRICE_FORMAT.unpack(payload)
                 made = device.takes(number, index, step)
                 if made is not None:
                     self._seconds += [now - it for it in made]

@@ -108,7 +108,7 @@ class Noted:
 def test_all_is_safe_before_a_resume_is_stored_and_recorded_before_it_is_published(joined, tmp_path, monkeypatch):
     one = joined("auctioneer", record=str(tmp_path / "recordings")).begun()
     noted = Noted(one, monkeypatch)
-    one.link.comes("market/auctioneer/bid/3", bid(3, 1, 21, -3).to_bytes(), [("session", one.node.session.id)])
+    one.link.comes("market/auctioneer/bid/3", bid(3, 1, 21, -3).to_bytes(), [("session", one.node.session.id), ("version", "2")])
     one.turned()
     one.writes(auctioneer_resume(1, numbers((3, 1))), price(3, 1, 1, 1))
     assert noted.done == [
@@ -154,7 +154,7 @@ def fails_at(monkeypatch, name, count):
 def test_a_full_disk_ends_the_node_before_anything_is_sent(joined, tmp_path, monkeypatch):
     folder = tmp_path / "recordings"
     one = joined("auctioneer", record=str(folder)).begun()
-    one.link.comes("market/auctioneer/bid/3", bid(3, 1, 21, -3).to_bytes(), [("session", one.node.session.id)])
+    one.link.comes("market/auctioneer/bid/3", bid(3, 1, 21, -3).to_bytes(), [("session", one.node.session.id), ("version", "2")])
     one.turned()
     count = len(one.link.sent)
     fails_at(monkeypatch, "write", 1)
