@@ -35,7 +35,7 @@ from cogmaula.judge.merging import Merge
 from cogmaula.judge.reading import recordings_in
 from cogmaula.judge.tracing import trace_of
 from cogmaula.limits import MOST_EVENTS
-from cogmaula.live.frames import MOST, Leave, Offer, Send
+from cogmaula.live.frames import MOST, Clear, Expire, Leave, Offer, Send
 
 
 class Plain:
@@ -337,6 +337,30 @@ def test_a_bid_whose_relay_stops_before_it_is_sent(tmp_path):
         market.start("r", market.nodes["r"].waits)
     following = followed(market, tmp_path / "recordings")
     assert [it for it in following.journal.lines if it.startswith("publish ")] == ["publish r 1", "publish r 2"]
+    require_trace(following, Plain())
+
+
+def test_a_device_that_was_let_go_and_offers_anew_left_before(tmp_path):
+    """Its parent came back before it told anybody, so no number of its parent's is in the market. It left under one of its own."""
+    market = DrawnMarket(nodes_of(("a", "device", "auctioneer")), 0)
+    offer = Offer((300, 100, 0, -200))
+    market.feed("a", offer.to_bytes())
+    market.handle_all("a")
+    bid = market.nodes["a"].sent[-1]
+    for data in (bid, Clear().to_bytes()):
+        market.feed("auctioneer", data)
+        market.handle_all("auctioneer")
+    price = market.nodes["auctioneer"].sent[-1]
+    market.feed("auctioneer", Expire(1).to_bytes())
+    market.feed("auctioneer", bid)
+    market.handle_all("auctioneer")
+    market.feed("a", market.nodes["auctioneer"].sent[-1])
+    market.feed("a", price)
+    market.handle_all("a")
+    market.start("auctioneer", market.nodes["auctioneer"].stored)
+    following = followed(market, tmp_path / "recordings")
+    assert [next(iter(it.members())) for it in following.script.events] == ["join", "leave", "join"]
+    assert following.journal.lines[-1] == "pass a 1 none"
     require_trace(following, Plain())
 
 
