@@ -9,6 +9,7 @@ from __future__ import annotations
 import json
 import tempfile
 from collections import Counter
+from dataclasses import replace
 from pathlib import Path
 
 import pytest
@@ -462,7 +463,7 @@ def test_recordings_that_are_not_valid_have_no_trace(lines, live, tmp_path, caps
     assert main(words) == 1
     assert capsys.readouterr().out.startswith("incomplete ")
     at = lines.of("street", "out", "Price")[0]
-    lines.change_frame(*at, lines.frame(*at).__class__(1, 1, 1, 9)).write()
+    lines.change_frame(*at, replace(lines.frame(*at), step=9)).write()
     assert main([*words, "--json"]) == 5
     assert json.loads(capsys.readouterr().out)["trace"] is None
     assert not list(tmp_path.glob("street.*"))
