@@ -200,12 +200,7 @@ pub fn write_prices(clearing: &Prices<'_>, basis: &Basis, out: &mut Vec<u8>)
 }
 
 /// Appends what a relay of these terms keeps over a restart, in a market of this basis.
-pub fn write_relay_resume(
-    resume: &Resume<'_>,
-    terms: &RelayTerms,
-    basis: &Basis,
-    out: &mut Vec<u8>,
-)
+pub fn write_relay_resume(resume: &Resume<'_>, terms: &RelayTerms, basis: &Basis, out: &mut Vec<u8>)
     requires children { length resume.now.numbers.now ≡ most_nodes }
     requires limits { AreRelayLimits resume.now.limits }
     requires first { AreRelayLimits terms.now.limits }

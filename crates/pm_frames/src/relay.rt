@@ -17,8 +17,8 @@ use crate::kinds::{BID, BOUND, EXPIRE, GONE, HELLO, LIMITS, OLD, PRICE, RESUME, 
 use crate::limits::{is_bound, is_given, read_bound, read_given};
 use crate::parent::{ParentFrame, read_accepted};
 use crate::place::{RelayPlace, Stage};
-use crate::terms::RelayTerms;
 use crate::stored::{StoredRelay, read_stored_relay};
+use crate::terms::RelayTerms;
 use pm_base::{Limits, MOST_NODES};
 use pm_wire::{Frame, StreamFrame};
 use std::alloc::{AllocError, Global};

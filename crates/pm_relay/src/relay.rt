@@ -193,12 +193,7 @@ impl Relay {
     }
 
     /// Enters limits.
-    fn enter_limits(
-        &mut self,
-        child: usize,
-        number: u32,
-        limits: Limits,
-    ) -> Result<(), CacheFault>
+    fn enter_limits(&mut self, child: usize, number: u32, limits: Limits) -> Result<(), CacheFault>
         requires child { child < most_nodes }
         requires limits { AreRelayLimits limits }
         ensures answer { result ≡ answer_to (kept_number self.old.gathered.cache child) number }

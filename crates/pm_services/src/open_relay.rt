@@ -150,7 +150,8 @@ impl OpenRelay {
             write_too_much(sender, number, out);
             return;
         }
-        self.held.take_bid(&self.setup, sender, number, Some(demand), out);
+        self.held
+            .take_bid(&self.setup, sender, number, Some(demand), out);
     }
 
     /// Takes a price of the parent, unless it is of another basis, and appends what is answered.

@@ -118,7 +118,8 @@ impl OpenRoot {
             write_too_much(sender, number, out);
             return;
         }
-        self.held.take_bid(&self.basis, sender, number, Some(demand), out);
+        self.held
+            .take_bid(&self.basis, sender, number, Some(demand), out);
     }
 
     /// Takes a Gone of a child, and appends what is answered.

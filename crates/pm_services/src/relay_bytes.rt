@@ -84,12 +84,7 @@ pub(crate) fn write_sent(relay: &Relay, own: &RelaySetup, out: &mut Vec<u8>)
 }
 
 /// Appends the price for each child that was not gone in the record of the number that the price names.
-pub(crate) fn write_down(
-    relay: &Relay,
-    own: &RelaySetup,
-    price: PriceUpdate,
-    out: &mut Vec<u8>,
-)
+pub(crate) fn write_down(relay: &Relay, own: &RelaySetup, price: PriceUpdate, out: &mut Vec<u8>)
     requires record { HasRecord relay.now price.number }
     requires step { price.step < relay.now.gathered.cache.steps }
     requires steps { relay.now.gathered.cache.steps ≤ most_steps }

@@ -65,7 +65,11 @@ fn price_update(number: u32, index: u32, step: u16) -> PriceUpdate
 
 impl WaitingRelay {
     /// A relay to which nothing was sent, over a basis of so many steps.
-    pub(crate) fn new(alloc: Global, steps: usize, limits: Limits) -> Result<WaitingRelay, AllocError>
+    pub(crate) fn new(
+        alloc: Global,
+        steps: usize,
+        limits: Limits,
+    ) -> Result<WaitingRelay, AllocError>
         requires steps { AreSteps steps }
         requires limits { AreRelayLimits limits }
         ensures opens { IfOk result (λ r.
@@ -90,12 +94,7 @@ impl WaitingRelay {
         ensures opens { IfOk result (λ r. Opens own.now.terms.limits own.now.basis.steps
             stored.now.last stored.now.answered stored.now.index stored.now.numbers stored.now.limits r) }
     {
-        let relay = Relay::resumed(
-            alloc,
-            own.basis.steps(),
-            own.terms.limits,
-            &stored.resume(),
-        )?;
+        let relay = Relay::resumed(alloc, own.basis.steps(), own.terms.limits, &stored.resume())?;
         Ok(WaitingRelay {
             relay,
             waiting: None,
@@ -273,12 +272,7 @@ impl WaitingRelay {
 
     /// Takes a price of the parent, and appends the prices for the children with what the relay keeps over a restart after them,
     /// or that the price was dropped. A price whose record the relay may have again waits.
-    pub(crate) fn take_price(
-        &mut self,
-        own: &RelaySetup,
-        price: PriceUpdate,
-        out: &mut Vec<u8>,
-    )
+    pub(crate) fn take_price(&mut self, own: &RelaySetup, price: PriceUpdate, out: &mut Vec<u8>)
         requires step { price.step < self.old.relay.gathered.cache.steps }
         requires room { vec_len out.old + price_reply_limit ≤ vec_capacity out.old }
         ensures answered { Appended (AnswersPrice own.now self.old price self.new) price_reply_limit

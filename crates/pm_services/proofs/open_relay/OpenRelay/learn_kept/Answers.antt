@@ -12,8 +12,8 @@ returns-in_default c =
     let old : OpenRelay = record { setup = c.self.inside.setup; bounds = c.self.inside.bounds; held = c.self.inside.held } in
     record {
       answered = subst (λ (it : OpenRelay). Appended (AnswersKept it c.args.stored.now c.args.self.now) relay_reply_limit c.args.out.now.items c.args.out.now.items) c.self.view_is
-      (subst (λ (now : OpenRelay). Appended (AnswersKept old c.args.stored.now now) relay_reply_limit c.args.out.now.items c.args.out.now.items)
-      c.self.view_is (keeps_none old _ _ (sym c.giver-place.ensures.giver ∙ c.in_default.is)));
+          (subst (λ (now : OpenRelay). Appended (AnswersKept old c.args.stored.now now) relay_reply_limit c.args.out.now.items c.args.out.now.items)
+          c.self.view_is (keeps_none old _ _ (sym c.giver-place.ensures.giver ∙ c.in_default.is)));
     }
 
 pub returns-then-number-eq0 : goal.returns-then-number-eq0
@@ -23,8 +23,8 @@ returns-then-number-eq0 c =
     let old : OpenRelay = record { setup = c.self.inside.setup; bounds = c.self.inside.bounds; held = c.self.inside.held } in
     record {
       answered = subst (λ (it : OpenRelay). Appended (AnswersKept it c.args.stored.now c.args.self.now) relay_reply_limit c.args.out.now.items c.args.out.now.items) c.self.view_is
-      (subst (λ (now : OpenRelay). Appended (AnswersKept old c.args.stored.now now) relay_reply_limit c.args.out.now.items c.args.out.now.items)
-      c.self.view_is (was_given_none old c.in-Some.giver _ _ (sym c.giver-place.ensures.giver ∙ c.in-Some.is) (sym numbered ∙ omega (arith, c.if-number-eq0.true))));
+          (subst (λ (now : OpenRelay). Appended (AnswersKept old c.args.stored.now now) relay_reply_limit c.args.out.now.items c.args.out.now.items)
+          c.self.view_is (was_given_none old c.in-Some.giver _ _ (sym c.giver-place.ensures.giver ∙ c.in-Some.is) (sym numbered ∙ omega (arith, c.if-number-eq0.true))));
     }
 
 pub returns : goal.returns

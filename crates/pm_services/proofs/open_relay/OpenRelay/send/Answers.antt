@@ -12,5 +12,5 @@ returns c =
     let old : OpenRelay = record { setup = c.self.inside.setup; bounds = c.self.inside.bounds; held = c.self.inside.held } in
     record {
       answered = subst (λ (it : OpenRelay). Appended (AnswersFrame it Send (record { setup = c.self.inside.setup; bounds = c.self.inside.bounds; held = c.send.new.self })) relay_reply_limit c.args.out.now.items c.send.new.out.items) c.self.view_is
-      (hands_send old _ _ _ c.send.ensures.answered);
+          (hands_send old _ _ _ c.send.ensures.answered);
     }

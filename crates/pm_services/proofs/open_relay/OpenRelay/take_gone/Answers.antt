@@ -13,5 +13,5 @@ returns c =
     let old : OpenRelay = record { setup = c.self.inside.setup; bounds = c.self.inside.bounds; held = c.self.inside.held } in
     record {
       answered = subst (λ (it : OpenRelay). Appended (AnswersFrame it (Child (Gone c.args.sender c.args.number)) (record { setup = c.self.inside.setup; bounds = c.self.inside.bounds; held = c.take_bid.new.self })) relay_reply_limit c.args.out.now.items c.take_bid.new.out.items) c.self.view_is
-      (hands_gone old _ _ _ _ _ c.take_bid.ensures.answered);
+          (hands_gone old _ _ _ _ _ c.take_bid.ensures.answered);
     }

@@ -15,16 +15,16 @@ returns c =
     let stored = c.args.stored.now in
     record {
       opens = subst (λ (own : RelaySetup). Opens own.terms.limits own.basis.steps stored.last stored.answered stored.index stored.numbers stored.limits
-      (record { relay = c.in_ok-relay.relay; waiting = None })) c.own.view_is (record {
-        back = record {
-          gathered = subst (λ n. IsNewConcentrator most_nodes n (Some c.own.inside.terms.limits) c.in_ok-relay.relay.gathered) c.steps.ensures.steps
-              back.gathered;
-          base = back.base ∙ kept.last;
-          answered = back.answered ∙ kept.answered;
-          index = back.index ∙ kept.index;
-          recorded = back.recorded ∙ kept.numbers;
-          made_under = ap (limits_of_number c.in_ok-relay.relay) (sym kept.last) ∙ back.made_under ∙ ap (λ (l : Limits). Some l) kept.limits;
-        };
-        waiting = refl;
-      });
+          (record { relay = c.in_ok-relay.relay; waiting = None })) c.own.view_is (record {
+            back = record {
+              gathered = subst (λ n. IsNewConcentrator most_nodes n (Some c.own.inside.terms.limits) c.in_ok-relay.relay.gathered) c.steps.ensures.steps
+                  back.gathered;
+              base = back.base ∙ kept.last;
+              answered = back.answered ∙ kept.answered;
+              index = back.index ∙ kept.index;
+              recorded = back.recorded ∙ kept.numbers;
+              made_under = ap (limits_of_number c.in_ok-relay.relay) (sym kept.last) ∙ back.made_under ∙ ap (λ (l : Limits). Some l) kept.limits;
+            };
+            waiting = refl;
+          });
     }
