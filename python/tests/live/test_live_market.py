@@ -84,10 +84,10 @@ def resume_on_disk(market, name):
 
 
 def test_a_relay_keeps_its_limits(market):
-    """The street takes at most 50 W. It would take 100 W below price 4, so it bids 50 W there, and -50 W from 4 on.
+    """The street takes at most 50 W. It would take 100 W below price 4, so it settles for 4 there, and bids -50 W at each price.
 
-    With the mill, which takes 60 W below price 2 and gives 60 W from there on, the market clears at 2. The street's sum there is
-    100 W, above its ceiling. The nearest step that keeps it is 4.
+    With the mill, which takes 60 W below price 2 and gives 60 W from there on, the sum is 10 W below 2 and -110 W from there on: the
+    market clears at 2. There the street passes 4 down.
     """
     market.start("auctioneer").start("street", ceiling=50).start("house", "store", "mill")
     market.offers(house=CONSTANT, store=falls_at(4, 0, -150), mill=falls_at(2, 60, -60))

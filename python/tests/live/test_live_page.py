@@ -401,7 +401,7 @@ def test_a_browser_shows_the_figures(browser, tmp_path):
         dom = dom_of(served.page.port, tmp_path)
     assert cells_of(dom, "street")[:-1] == [
         "-", "street", "relay, child 1 of auctioneer", "up", "2", "passes 4 down", "clearing 7",
-        "50 W", "bid 5: -50 W to 50 W", "-50 W", "sum of what is below, clearing 7",
+        "-50 W", "bid 5: -50 W", "-50 W", "sum of what is below, clearing 7",
     ]
     assert cells_of(dom, "street")[-1] == "no floor to 50 W"
     assert cells_of(dom, "house") == [

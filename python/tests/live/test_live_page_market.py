@@ -64,7 +64,7 @@ def shows_setpoints(market, view):
 
 
 def test_the_figures_are_the_setpoints(market):
-    """The house takes 100 W and the store gives 150 W, so the street gives 50 W. With the mill's 60 W the market gives 110 W."""
+    """The house takes 100 W and the store gives 150 W, so the street gives 50 W, which it announces at each price. With the mill's 60 W the market gives 110 W."""
     start_limited(market, auctioneer=WHOLE)
     wait_until(lambda: shows_setpoints(market, view_at(market, "auctioneer")), "the setpoints")
     view = view_at(market, "auctioneer")
@@ -76,7 +76,7 @@ def test_the_figures_are_the_setpoints(market):
     assert {(it["power"]["first"], it["power"]["last"]) for it in view["nodes"]} == {(view["clearing"], view["clearing"])}
     street = node_of(view, "street")
     assert (street["price"]["price"], street["passed"]["price"], street["is_within"]) == (2, 4, True)
-    assert (street["floor"], street["ceiling"], street["bid"]["demand"]) == (None, 50, 50)
+    assert (street["floor"], street["ceiling"], street["bid"]["demand"]) == (None, 50, -50)
     assert all(it["bid"]["is_answered"] for it in view["nodes"][1:])
     assert (view["price"]["price"], view["own"], view["lost_since"], view["not_taken"]) == (2, None, None, [])
     assert view["session"] == market.nodes["auctioneer"].session.id
@@ -97,7 +97,7 @@ def test_without_whole_a_relay_shows_what_it_hears(market):
         view = view_at(market, "street")
         return [(it["name"], it["child"], it["power"] and it["power"]["power"]) for it in view["nodes"]], view["lost_since"]
 
-    due = [("auctioneer", None, None), ("street", 1, -50), (None, 1, 100), (None, 2, -150)], None
+    due = [("auctioneer", None, None), ("street", 1, -50), ("house", 1, 100), ("store", 2, -150)], None
     wait_until(lambda: shown() == due, f"the street sees its children: {shown()}")
     assert view_at(market, "street")["own"] == "street"
     assert view_at(market, "street")["price"]["price"] == 2

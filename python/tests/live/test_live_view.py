@@ -25,7 +25,7 @@ def test_a_tree_of_three_levels():
     view = village().view()
     assert [row(it) for it in view.nodes] == [
         ("auctioneer", 0, 2, 2, None, (-110, "sum", 7, 7)),
-        ("street", 1, 2, 4, 50, (-50, "sum", 7, 7)),
+        ("street", 1, 2, 4, -50, (-50, "sum", 7, 7)),
         ("house", 2, 4, None, 100, (100, "setpoint", 7, 7)),
         ("store", 2, 4, None, -150, (-150, "setpoint", 7, 7)),
         ("mill", 1, 2, None, -60, (-60, "setpoint", 7, 7)),
@@ -39,7 +39,7 @@ def test_the_members_of_a_relay():
     street = village().state("street", "relay", "auctioneer", 1, None, 50, "down", "stopped").node("street")
     assert (street.sort, street.parent, street.child, street.state, street.why) == ("relay", "auctioneer", 1, "down", "stopped")
     assert (street.since, street.session, street.floor, street.ceiling) == (MOMENT, SESSION.id, None, 50)
-    assert street.bid == BidView(5, MOMENT, is_gone=False, least=-50, greatest=50, demand=50, is_answered=True)
+    assert street.bid == BidView(5, MOMENT, is_gone=False, least=-50, greatest=-50, demand=-50, is_answered=True)
     assert street.price == PriceView(7, 2, 2, 5, MOMENT)
     assert street.passed == PriceView(7, 4, 4, None, MOMENT)
     assert (street.is_within, street.notes) == (True, ())
@@ -134,7 +134,7 @@ def test_a_page_of_a_relay_shows_its_children_by_their_numbers():
     view = told.view("street")
     assert [row(it) for it in view.nodes] == [
         ("auctioneer", 0, 2, 2, None, None),
-        ("street", 1, 2, 4, 50, (-50, "sum", 7, 7)),
+        ("street", 1, 2, 4, -50, (-50, "sum", 7, 7)),
         (None, 2, 4, None, 100, (100, "bid", 7, 7)),
         (None, 2, 4, None, -150, (-150, "bid", 7, 7)),
     ]

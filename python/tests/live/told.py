@@ -63,14 +63,14 @@ def village():
     """A tree of three levels after its clearing 7, worked by hand.
 
     The house takes 100 W at each price, and the store gives 150 W from step 4 on. So the street's sum is 100 W below step 4 and
-    -50 W from there on; it bids its ceiling of 50 W in place of 100 W. The mill takes 60 W below step 2 and gives 60 W from there
-    on. The sum at the auctioneer is 110 W at step 1 and -10 W at step 2, so it clears at step 2. There the street would take 100 W,
-    and passes step 4 down.
+    -50 W from there on. Its ceiling is 50 W, so below step 4 it settles for step 4, and bids -50 W at each step. The mill takes 60 W
+    below step 2 and gives 60 W from there on. The sum at the auctioneer is 10 W at step 1 and -110 W at step 2, so it clears at step 2.
+    There the street passes step 4 down.
     """
     told = Told()
     told.state("auctioneer", "auctioneer").state("street", "relay", "auctioneer", 1, None, 50)
     told.state("mill", "device", "auctioneer", 2).state("house", "device", "street", 1).state("store", "device", "street", 2)
     told.bid("street", 1, 3, *falls_at(0, 0, 100)).bid("street", 2, 4, *falls_at(4, 0, -150))
-    told.bid("auctioneer", 1, 5, *falls_at(4, 50, -50)).bid("auctioneer", 2, 6, *falls_at(2, 60, -60))
+    told.bid("auctioneer", 1, 5, *[-50] * 10).bid("auctioneer", 2, 6, *falls_at(2, 60, -60))
     told.price("auctioneer", 1, 5, 7, 2).price("auctioneer", 2, 6, 7, 2).price("street", 1, 3, 7, 4).price("street", 2, 4, 7, 4)
     return told.setpoint("mill", -60, 6, 7, 2).setpoint("house", 100, 3, 7, 4).setpoint("store", -150, 4, 7, 4)
