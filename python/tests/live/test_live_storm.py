@@ -155,8 +155,8 @@ def test_a_bid_beyond_its_bound_does_not_count(market, onlooker):
     wait_until(lambda: onlooker.payload("market/street/refused/2"), "it is told")
     assert json.loads(onlooker.payload("market/street/refused/2"))["number"] == 4
     market.offers(house=falls_at(8, 200, 100))
-    market.settles_at(8, house=100)
-    assert market.controls["store"].has(step=8, power=-150, bid=2), "the bid before it counts"
+    market.settles_at(8, house=100, store=-150)
+    assert market.controls["store"].has(bid=2), "the bid before it counts"
     wait_until(lambda: any("street does not take bid 4" in it for it in market.said["store"]), "the device says so")
     market.offers(store=falls_at(2, 0, -200))
     market.settles_at(2, house=200, store=-200)
