@@ -446,12 +446,7 @@ fn step_below(limited: &Option<Limited>, step: u32, sent: &Record) -> u32
 }
 
 /// The same for a node that settles for steps within its limits.
-fn settled_step_below(
-    limited: &Option<Limited>,
-    limits: &Limits,
-    step: u32,
-    sent: &Record,
-) -> u32
+fn settled_step_below(limited: &Option<Limited>, limits: &Limits, step: u32, sent: &Record) -> u32
     requires step { (limits : LimitedValue) → limited.now ≡ Some limits →
         step < length limits.announced }
     requires sums { (limits : LimitedValue) → limited.now ≡ Some limits →
