@@ -2,7 +2,7 @@
 use Rattle.std.proofs.Common.{◌≡◌, sym, ap, subst, ℕ, Bool, cond, List, [], ◌∷◌, ◌++◌, refl, inl, inr}
 use Rattle.pm_net.proofs.Messages.{either}
 use Rattle.pm_lives.specs.Outputs.{Output, Says}
-use Rattle.pm_lives.specs.Moves.{Follows, AreCalm, IsCalm}
+use Rattle.pm_lives.specs.Moves.{FollowsByCalls, AreCalm, IsCalm}
 use Rattle.pm_lives.proofs.Staying.{still, then_moves, were_sent, both_sent, kept_to, both_kept}
 use Rattle.pm_market.specs.Lists.{Lists}
 use Rattle.pm_net.specs.Pricing.{Pricing}
@@ -46,7 +46,7 @@ up_on c (x ∷ first) then one two = (one.0, up_on c first then one.1 two)
 
 module _ {K : Type 0} (lists : Lists) (p : Pricing) (numbering : Numbering) (Lets : ℕ → ℕ → Type 0) (MayBeKept : System → K → Type 0) (y : ℕ) where
   abbrev FollowsSo : (System → Type 0) → System → List (Output K) → Type 0
-  FollowsSo Stands sys outs = Follows lists p numbering Lets MayBeKept Stands sys y outs
+  FollowsSo Stands sys outs = FollowsByCalls lists p numbering Lets MayBeKept Stands sys y outs
 
   -- nothing is done or said
   pub nothing_follows : (Stands : System → Type 0) (sys : System) → Stands sys → FollowsSo Stands sys []

@@ -25,7 +25,7 @@ use Rattle.pm_lives.specs.Outputs.{Output, Up, WereSent}
 use Rattle.pm_lives.specs.Moves.{OnlyMoves}
 use Rattle.pm_lives.specs.RelayLife.{IsOfPrice, RelayStands, IsKept, numbers_in_places}
 use Rattle.pm_lives.specs.RootLife.{IsRootKept}
-use Rattle.pm_lives.specs.DeviceLife.{IsIndexOf, AgentStands, IsAgentKept}
+use Rattle.pm_lives.specs.DeviceLife.{IsIndexOfSent, AgentStands, IsAgentKept}
 use Rattle.pm_lives.specs.Lives.{restart_outs}
 use Rattle.pm_lives.proofs.Staying.{relay_moved, root_moved, agent_moved, bid_pushed, then_moves}
 use Rattle.pm_lives.proofs.RelayMoves.{of_price_stays, under_numbers}
@@ -90,7 +90,7 @@ stored_whole sys x held_number held_index number index (inr at) le =
       index_is = ap (λ (q : PriceMessage). q.index) is ∙ at.3;
     }
 
-stored_at : (sys : System) (x held_number held_index index : ℕ) → IsIndexOf sys x index → index ≤ held_index →
+stored_at : (sys : System) (x held_number held_index index : ℕ) → IsIndexOfSent sys x index → index ≤ held_index →
     StoredAt sys x held_number held_index index
 stored_at sys x held_number held_index index (inl none) le = record {
   place = length (sys.prices_sent x);

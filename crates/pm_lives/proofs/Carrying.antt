@@ -41,7 +41,7 @@ use Rattle.pm_lives.specs.Outputs.{Output}
 use Rattle.pm_lives.specs.Carrying.{setup_for}
 use Rattle.pm_lives.proofs.Answering.{limits_written}
 use Rattle.pm_system.specs.System.{System}
-use Rattle.pm_lives.specs.Outputs.{Up, outputs_bytes, PriceWasSent, BidWasSent, up_bytes, down_bytes}
+use Rattle.pm_lives.specs.Outputs.{Up, outputs_bytes, PriceWasSent, BidWasSent, up_bytes, down_frame_bytes}
 use Rattle.pm_lives.specs.RelayLife.{CarriesBid, CarriesLimits, RelayMayRead, nothing_stored}
 use Rattle.pm_lives.specs.RootLife.{RootMayRead}
 use Rattle.pm_lives.specs.DeviceLife.{DeviceMayRead}
@@ -146,7 +146,7 @@ module _ (lists : Lists) (p : Pricing) (numbering : Numbering) (sys : System) (x
   -- a relay or a device that reads the bytes of a price reads that price
   pub relay_reads_price : (own : RelaySetup) (child : RelayPlace) (frame : RelayFrame) (more behind : List ℕ) → IsRelayFormed child frame →
       IsRelayFormed child (relay_frame.Parent (price_frame own.basis (numbering.place x + 1) price)) →
-      relay_frame_bytes frame ++ more ≡ down_bytes own.basis (numbering.place x) price ++ behind →
+      relay_frame_bytes frame ++ more ≡ down_frame_bytes own.basis (numbering.place x) price ++ behind →
       RelayMayRead lists p numbering own sys x frame × (more ≡ behind)
   relay_reads_price own place frame more behind formed fits same =
       let other : RelayFrame = relay_frame.Parent (price_frame own.basis (numbering.place x + 1) price) in
@@ -155,7 +155,7 @@ module _ (lists : Lists) (p : Pricing) (numbering : Numbering) (sys : System) (x
 
   pub device_reads_price : (basis : BasisValue) (child : NodePlace) (frame : DeviceFrame) (more behind : List ℕ) → IsDeviceFormed child frame →
       IsDeviceFormed child (device_frame.Parent (price_frame basis (numbering.place x + 1) price)) →
-      device_frame_bytes frame ++ more ≡ down_bytes basis (numbering.place x) price ++ behind →
+      device_frame_bytes frame ++ more ≡ down_frame_bytes basis (numbering.place x) price ++ behind →
       DeviceMayRead lists p basis sys x frame × (more ≡ behind)
   device_reads_price basis place frame more behind formed fits same =
       let other : DeviceFrame = device_frame.Parent (price_frame basis (numbering.place x + 1) price) in

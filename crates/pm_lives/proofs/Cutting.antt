@@ -5,9 +5,9 @@ use Rattle.std.proofs.lemmas.List.{take-append-le, length-take-le, take-append-d
 use Rattle.std.proofs.Math.Seq.{take-append-add}
 use Rattle.pm_basis.specs.Prices.{BasisValue}
 use Rattle.pm_lives.specs.Outputs.{Output, output_bytes, outputs_bytes}
-use Rattle.pm_lives.specs.Cutting.{IsCut}
+use Rattle.pm_lives.specs.Cutting.{IsCutStream}
 
-pub cut_anywhere : {K : Type 0} (kept : K → List ℕ) (basis : BasisValue) (child : ℕ) (outs : List (Output K)) (m : ℕ) → IsCut kept basis child outs m
+pub cut_anywhere : {K : Type 0} (kept : K → List ℕ) (basis : BasisValue) (child : ℕ) (outs : List (Output K)) (m : ℕ) → IsCutStream kept basis child outs m
 cut_anywhere kept basis child [] m = record { n = 0; rest = []; held = take_all m [] (omega arith); part = inl refl }
 cut_anywhere kept basis child (out ∷ outs) m =
     let b : List ℕ = output_bytes kept basis child out in

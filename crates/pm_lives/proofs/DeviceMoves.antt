@@ -25,19 +25,19 @@ use Rattle.pm_system.proofs.Moving.{new_in}
 use Rattle.pm_lives.specs.Outputs.{Output, Up, Says, BidWasSent, WereSent, EachKept}
 use Rattle.pm_lives.specs.DeviceWrites.{stored_agent, made_outs, told_outs, device_outs}
 use Rattle.pm_lives.specs.Moves.{OnlyMoves, AreCalm, lets_none}
-use Rattle.pm_lives.specs.DeviceLife.{IsIndexOf, AgentStands, IsAgentKept, IsGivenOffer, IsGivenLeaving, DeviceMayRead, AgentStandsTold, told_of, DeviceFollows}
+use Rattle.pm_lives.specs.DeviceLife.{IsIndexOfSent, AgentStands, IsAgentKept, IsGivenOffer, IsGivenLeaving, DeviceMayRead, AgentStandsTold, told_of, DeviceFollows}
 use Rattle.pm_lives.proofs.Staying.{then_moves, agent_moved, bid_pushed, setpoints_pushed, price_stays}
 use Rattle.pm_lives.proofs.After.{nothing_follows, says, follows_as}
 use Rattle.pm_lives.proofs.AgentFacts.{AreWithin, within_more, within_push, PriceLeaves, price_leaves, pushed_demand}
 
-pub index_stays : (y : ℕ) (sys new : System) → OnlyMoves y sys new → (d index : ℕ) → IsIndexOf sys d index → IsIndexOf new d index
+pub index_stays : (y : ℕ) (sys new : System) → OnlyMoves y sys new → (d index : ℕ) → IsIndexOfSent sys d index → IsIndexOfSent new d index
 index_stays y sys new moves d index (inl none) = inl none
 index_stays y sys new moves d index (inr at) =
     let there = price_stays y sys new moves d at.0 at.1 in
     inr (at.0, there.0, ap (λ (q : PriceMessage). q.index) there.1 ∙ at.2)
 
 -- what it stores of itself may be stored
-own_kept : (own : BasisValue) (sys : System) (d : ℕ) (agent : DeviceAgent) → sys.agents d ≡ agent → IsIndexOf sys d agent.index → IsAgentKept sys d (stored_agent own agent)
+own_kept : (own : BasisValue) (sys : System) (d : ℕ) (agent : DeviceAgent) → sys.agents d ≡ agent → IsIndexOfSent sys d agent.index → IsAgentKept sys d (stored_agent own agent)
 own_kept own sys d agent is held = record {
   number = ap (λ (a : DeviceAgent). a.number) (sym is);
   newest = ap newest_demand (sym is);
@@ -66,13 +66,13 @@ module _ (lists : Lists) (p : Pricing) (numbering : Numbering) (own : BasisValue
   -- it makes a bid, which is sent behind a Resume; before it, it may make one that is not sent
   makes : (sys mid : System) (before : List NodeCall) → SystemRuns lists p numbering sys before mid → ((x : ℕ) → AreCalm lets_none x before) → OnlyMoves d sys mid →
       mid.setpoints d ≡ sys.setpoints d →
-      (after : DeviceAgent) (bid : BidMessage) → DeviceChanges lists p mid d after bid → IsIndexOf mid d after.index → AreWithin after.number after.offers →
+      (after : DeviceAgent) (bid : BidMessage) → DeviceChanges lists p mid d after bid → IsIndexOfSent mid d after.index → AreWithin after.number after.offers →
       bid ≡ bid_kept p after.number (newest_demand after) → Does after sys (made_outs p own after)
   makes sys mid before runs up only quiet after bid made held within bid_is =
       let new : System = with_bid_sent (with_agent mid d after) d bid in
       let moved : OnlyMoves d mid new = then_moves d mid (with_agent mid d after) new (agent_moved mid d after) (bid_pushed (with_agent mid d after) d d bid) in
       let is : new.agents d ≡ after = updated_same mid.agents d after in
-      let holds : IsIndexOf new d after.index = index_stays d mid new moved d after.index held in
+      let holds : IsIndexOfSent new d after.index = index_stays d mid new moved d after.index held in
       record {
         calls = before ++ call.Bids d ∷ [];
         new = new;
@@ -210,11 +210,11 @@ module _ (lists : Lists) (p : Pricing) (numbering : Numbering) (own : BasisValue
         then_moves d sys (with_agent sys d after) new (agent_moved sys d after) (setpoints_pushed (with_agent sys d after) d given) in
         let is : new.agents d ≡ after = updated_same sys.agents d after in
         let leaves : PriceLeaves agent price after = price_leaves agent price stands.within in
-        let held : IsIndexOf sys d after.index = elim leaves.index [
-          | inl same ↦ subst (IsIndexOf sys d) (sym same) stands.held
+        let held : IsIndexOfSent sys d after.index = elim leaves.index [
+          | inl same ↦ subst (IsIndexOfSent sys d) (sym same) stands.held
           | inr its ↦ inr (k, inside, sym its)
         ] in
-        let holds : IsIndexOf new d after.index = index_stays d sys new moved d after.index held in
+        let holds : IsIndexOfSent new d after.index = index_stays d sys new moved d after.index held in
         record {
           calls = call.TakesPrice d k ∷ [];
           new = new;

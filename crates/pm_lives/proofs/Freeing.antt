@@ -32,7 +32,7 @@ use Rattle.pm_lives.specs.RelayLife.{relay_number}
 use Rattle.pm_lives.specs.RootLife.{root_number}
 use Rattle.pm_lives.specs.DeviceWrites.{made_outs, told_outs, stored_agent, device_outs}
 use Rattle.pm_lives.specs.Lives.{World, LifeStep, RelayUp, Relay, RootUp, Root, DeviceUp, Device, HandledSome, handed_out, stored_last, restart_outs}
-use Rattle.pm_lives.specs.Lives.{let_go_by_relay, let_go_by_root}
+use Rattle.pm_lives.specs.Lives.{let_go_at_relay, let_go_at_root}
 use Rattle.pm_lives.specs.Free.{RelayIsFree, RootIsFree, DeviceIsFree, LivesFree1, LiveFree, HasLists}
 use Rattle.pm_lives.proofs.Building.{lists_of}
 use Rattle.pm_lives.proofs.Handing.{handed_values}
@@ -52,7 +52,7 @@ handed_same tree member count numbering y (Tells setpoint ∷ outs) seen = hande
 handed_same tree member count numbering y (Says bytes ∷ outs) seen = handed_same tree member count numbering y outs seen
 
 pub relay_let_same : (tree : Lists) (member : ℕ → ℕ → Bool) (count : ℕ) (numbering : Numbering) (seen : System) (c : ℕ) (frame : RelayFrame) (f : ℕ → ℕ) →
-    let_go_by_relay (lists_of tree member count) numbering seen c frame f ≡ let_go_by_relay tree numbering seen c frame f
+    let_go_at_relay (lists_of tree member count) numbering seen c frame f ≡ let_go_at_relay tree numbering seen c frame f
 unfolding parent
 relay_let_same tree member count numbering seen c (relay_frame.Child frame) f = refl
 relay_let_same tree member count numbering seen c (relay_frame.Parent frame) f = refl
@@ -63,7 +63,7 @@ relay_let_same tree member count numbering seen c (relay_frame.Bound sender boun
 relay_let_same tree member count numbering seen c (relay_frame.Resume stored) f = refl
 
 pub root_let_same : (tree : Lists) (member : ℕ → ℕ → Bool) (count : ℕ) (numbering : Numbering) (seen : System) (frame : RootFrame) (f : ℕ → ℕ) →
-    let_go_by_root (lists_of tree member count) numbering seen frame f ≡ let_go_by_root tree numbering seen frame f
+    let_go_at_root (lists_of tree member count) numbering seen frame f ≡ let_go_at_root tree numbering seen frame f
 unfolding parent
 root_let_same tree member count numbering seen (root_frame.Market frame) f = refl
 root_let_same tree member count numbering seen (root_frame.Expire sender) f = refl

@@ -38,7 +38,7 @@ use Rattle.pm_lives.specs.RootLife.{RootMayRead}
 use Rattle.pm_lives.specs.DeviceLife.{DeviceMayRead, IsGivenOffer, IsGivenLeaving}
 use Rattle.pm_lives.specs.DeviceWrites.{device_outs}
 use Rattle.pm_lives.specs.Lives.{World, LifeStep, RelayUp, Relay, RootUp, Root, DeviceUp, Device, HandledSome, handed_out, stored_last, restart_outs, Live, Lives1}
-use Rattle.pm_lives.specs.Lives.{let_go_by_relay, let_go_by_root, IsNewWorld}
+use Rattle.pm_lives.specs.Lives.{let_go_at_relay, let_go_at_root, IsNewWorld}
 use Rattle.pm_lives.specs.Free.{CarriesLetGo, RelayIsFree, RootIsFree, DeviceIsFree, LivesFree1, LiveFree, HasLists}
 use Rattle.pm_lives.proofs.Building.{lists_of, demand_of, pricing_of, members_are, changes_are, is_market}
 use Rattle.pm_lives.proofs.Freeing.{handed_same, relay_let_same, root_let_same, outs_same, restart_same, Wanted, SameAt, with_wanted, wanted_other, wanted_same}
@@ -233,7 +233,7 @@ module _ (tree : Lists) (p : Pricing) (numbering : Numbering) (market : IsTreeMa
         writes = did.writes;
         handled = did.handled;
         new_is = did.new_is
-            ∙ ap (λ (s : System). world_of s (let_go_by_relay tree numbering world.seen c frame world.let_go)) (sym (handed_same tree all.member count numbering c outs base))
+            ∙ ap (λ (s : System). world_of s (let_go_at_relay tree numbering world.seen c frame world.let_go)) (sym (handed_same tree all.member count numbering c outs base))
             ∙ ap (λ (f : ℕ → ℕ). world_of (handed_out lists numbering base c outs) f) (sym (relay_let_same tree all.member count numbering world.seen c frame world.let_go));
       }
   step_live world new RootUp did fine rest agree low le = record { root = did.root; back = did.back; new_is = did.new_is }
@@ -253,7 +253,7 @@ module _ (tree : Lists) (p : Pricing) (numbering : Numbering) (market : IsTreeMa
         writes = did.writes;
         handled = did.handled;
         new_is = did.new_is
-            ∙ ap (λ (s : System). world_of s (let_go_by_root tree numbering world.seen frame world.let_go)) (sym (handed_same tree all.member count numbering 0 outs base))
+            ∙ ap (λ (s : System). world_of s (let_go_at_root tree numbering world.seen frame world.let_go)) (sym (handed_same tree all.member count numbering 0 outs base))
             ∙ ap (λ (f : ℕ → ℕ). world_of (handed_out lists numbering base 0 outs) f) (sym (root_let_same tree all.member count numbering world.seen frame world.let_go));
       }
   step_live world new (DeviceUp d n) did fine rest agree low le =

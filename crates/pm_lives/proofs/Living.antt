@@ -50,7 +50,7 @@ use Rattle.pm_lives.specs.Moves.{lets_none}
 use Rattle.pm_lives.specs.RelayLife.{RelayLets}
 use Rattle.pm_lives.specs.RootLife.{RootLets}
 use Rattle.pm_lives.specs.DeviceLife.{told_of}
-use Rattle.pm_lives.specs.Lives.{let_go_by_relay, let_go_by_root}
+use Rattle.pm_lives.specs.Lives.{let_go_at_relay, let_go_at_root}
 use Rattle.pm_lives.proofs.Giving.{calm_gives, known_run}
 use Rattle.pm_lives.proofs.Telling.{BidsKnown, known_next, restart_silent, answer_told, relay_rises, relay_lets, root_rises, root_lets}
 use Rattle.pm_lives.proofs.Handing.{handed_told, handed_untold}
@@ -59,7 +59,7 @@ use Rattle.pm_lives.specs.Lives.{World, AllIn, LivesAreCalls, handed_out, stored
 use Rattle.pm_lives.specs.Lives.{RelayUp, Relay, RootUp, Root, DeviceUp, Device}
 use Rattle.pm_lives.proofs.After.{runs_on, up_on, calm_up}
 use Rattle.pm_services.specs.Receipts.{sender_place}
-use Rattle.pm_lives.proofs.RelayMoves.{GoesOn, ExpiringIsTwoCalls, relay_answers, relay_learns_kept, of_price_stays, update_stays}
+use Rattle.pm_lives.proofs.RelayMoves.{RunsGoOn, ExpiringIsTwoCalls, relay_answers, relay_learns_kept, of_price_stays, update_stays}
 use Rattle.pm_lives.proofs.RootMoves.{RootExpiringIsTwoCalls, root_answers}
 use Rattle.pm_lives.proofs.DeviceMoves.{device_answers, index_stays}
 use Rattle.pm_lives.proofs.Handing.{all_in_then, handed_in, handed_values, stored_may}
@@ -320,11 +320,11 @@ record Done (lists : Lists) (p : Pricing) (numbering : Numbering) (sys : System)
   -- a device that did not run before, or does not begin now, is not restarted
   ups : (x : ℕ) → IsLeaf lists x → Ups x → StaysUp x calls
 
-module _ (lists : Lists) (p : Pricing) (numbering : Numbering) (market : IsTreeMarket lists p numbering) (goes : GoesOn) (two : ExpiringIsTwoCalls)
+module _ (lists : Lists) (p : Pricing) (numbering : Numbering) (market : IsTreeMarket lists p numbering) (goes : RunsGoOn) (two : ExpiringIsTwoCalls)
     (root_two : RootExpiringIsTwoCalls) (world : World) (sys : System) (stands : WorldStands lists p numbering world sys) where
   -- if x begins, no process of it ran before
   abbrev UpsOf : LifeStep → ℕ → Type 0
-  UpsOf step x = lives.IsUpOf x step → world.up x ≡ false
+  UpsOf step x = lives.BeginsProcess x step → world.up x ≡ false
 
   abbrev Does : LifeStep → World → Type 0
   Does step new = Done lists p numbering sys (UpsOf step) new
@@ -401,7 +401,7 @@ module _ (lists : Lists) (p : Pricing) (numbering : Numbering) (market : IsTreeM
         seen = handed_out lists numbering base c first;
         waiting = update world.waiting c did.after.waiting;
         relay_kept = update world.relay_kept c kept;
-        let_go = let_go_by_relay lists numbering world.seen c frame world.let_go;
+        let_go = let_go_at_relay lists numbering world.seen c frame world.let_go;
       } in
       let values = handed_values lists numbering c first base in
       let agrees : AgreesBut c world after = record {
@@ -493,7 +493,7 @@ module _ (lists : Lists) (p : Pricing) (numbering : Numbering) (market : IsTreeM
       let after : World = record world {
         seen = handed_out lists numbering base 0 first;
         root_kept = kept;
-        let_go = let_go_by_root lists numbering world.seen frame world.let_go;
+        let_go = let_go_at_root lists numbering world.seen frame world.let_go;
       } in
       let values = handed_values lists numbering 0 first base in
       let agrees : AgreesBut 0 world after = record {
@@ -758,7 +758,7 @@ abbrev pub SystemsKeepTheLaw : Type 0
 SystemsKeepTheLaw = (lists : Lists) (p : Pricing) (numbering : Numbering) (calls : List NodeCall) (sys : System) → IsTreeMarket lists p numbering →
     RunsTheMarket lists p numbering calls sys → KeepsTheLaw lists p sys
 
-module _ (lists : Lists) (p : Pricing) (numbering : Numbering) (market : IsTreeMarket lists p numbering) (goes : GoesOn) (two : ExpiringIsTwoCalls)
+module _ (lists : Lists) (p : Pricing) (numbering : Numbering) (market : IsTreeMarket lists p numbering) (goes : RunsGoOn) (two : ExpiringIsTwoCalls)
     (root_two : RootExpiringIsTwoCalls) (run : SystemsRun) (start : System) (started : IsStarted lists p start) where
   -- what is so of the processes of a device from here on: none ran, and one begins at most, or none begins
   abbrev OnceFrom : ℕ → World → List LifeStep → Type 0
@@ -772,7 +772,7 @@ module _ (lists : Lists) (p : Pricing) (numbering : Numbering) (market : IsTreeM
     stands : WorldStands lists p numbering new sys
     ups : (d : ℕ) → IsLeaf lists d → OnceFrom d world steps → StaysUp d calls
 
-  up_same : (world new : World) (step : LifeStep) → Lives1 lists p numbering world step new → (d : ℕ) → IsLeaf lists d → (lives.IsUpOf d step → ⊥) →
+  up_same : (world new : World) (step : LifeStep) → Lives1 lists p numbering world step new → (d : ℕ) → IsLeaf lists d → (lives.BeginsProcess d step → ⊥) →
       new.up d ≡ world.up d
   up_same world new (RelayUp c n) did d leaf other =
       ap (λ (w : World). w.up d) did.new_is ∙ updated_other world.up c true d (relay_no_leaf lists c d did.conc leaf)
@@ -784,7 +784,7 @@ module _ (lists : Lists) (p : Pricing) (numbering : Numbering) (market : IsTreeM
       ap (λ (w : World). w.up d) did.new_is ∙ updated_other world.up e true d (λ same. other (sym same))
   up_same world new (Device e frame n) did d leaf other = ap (λ (w : World). w.up d) did.new_is
 
-  first_of_once : (world : World) (step : LifeStep) (steps : List LifeStep) (d : ℕ) → OnceFrom d world (step ∷ steps) → lives.IsUpOf d step → world.up d ≡ false
+  first_of_once : (world : World) (step : LifeStep) (steps : List LifeStep) (d : ℕ) → OnceFrom d world (step ∷ steps) → lives.BeginsProcess d step → world.up d ≡ false
   first_of_once world step steps d (inl never) is = absurd (never.0 is)
   first_of_once world step steps d (inr once) is = once.0
 

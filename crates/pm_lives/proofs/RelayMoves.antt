@@ -66,8 +66,8 @@ ExpiringIsTwoCalls = (lists : Lists) (p : Pricing) (numbering : Numbering) (call
     AreTwoCalls lists p numbering sys d did.number new
 
 -- the law of systems that a run goes on
-abbrev pub GoesOn : Type 0
-GoesOn = (lists : Lists) (p : Pricing) (numbering : Numbering) (before more : List NodeCall) (sys new : System) → IsTreeMarket lists p numbering →
+abbrev pub RunsGoOn : Type 0
+RunsGoOn = (lists : Lists) (p : Pricing) (numbering : Numbering) (before more : List NodeCall) (sys new : System) → IsTreeMarket lists p numbering →
     RunsTheMarket lists p numbering before sys → SystemRuns lists p numbering sys more new → RunsTheMarket lists p numbering (before ++ more) new
 
 -- ---- the limits of a relay's newest bid
@@ -243,7 +243,7 @@ pub record LearnsKept (lists : Lists) (p : Pricing) (numbering : Numbering) (Let
   pub keeps : (stored : StoredRelay) → IsKept p numbering sys c stored → IsKept p numbering follows.new c stored
 
 module _ (Lets : ℕ → ℕ → Type 0) (lists : Lists) (p : Pricing) (numbering : Numbering) (c : ℕ) (conc : IsConcentrator lists c)
-    (market : IsTreeMarket lists p numbering) (goes : GoesOn) (own : RelaySetup) where
+    (market : IsTreeMarket lists p numbering) (goes : RunsGoOn) (own : RelaySetup) where
   -- the system runs the market, and goes on to
   abbrev Has : System → Type 0
   Has sys = (before : List NodeCall) × RunsTheMarket lists p numbering before sys
@@ -927,7 +927,7 @@ module _ (Lets : ℕ → ℕ → Type 0) (lists : Lists) (p : Pricing) (numberin
       frame_follows (Resume stored) allows may did = absurd may
 
 -- What a relay's service answers to a frame is some calls of its node.
-pub relay_answers : GoesOn → ExpiringIsTwoCalls → (lists : Lists) (p : Pricing) (numbering : Numbering) (before : List NodeCall) (sys : System) (c : ℕ) →
+pub relay_answers : RunsGoOn → ExpiringIsTwoCalls → (lists : Lists) (p : Pricing) (numbering : Numbering) (before : List NodeCall) (sys : System) (c : ℕ) →
     IsTreeMarket lists p numbering → RunsTheMarket lists p numbering before sys → IsConcentrator lists c → (own : RelaySetup)
     (old after : WaitingRelay) (frame : RelayFrame) (outs : List (Output StoredRelay)) →
     RelayStands sys c old → RelayMayRead lists p numbering own sys c frame → WritesRelay own old frame after outs →
@@ -938,7 +938,7 @@ relay_answers goes two lists p numbering before sys c market has conc own old af
     (subst (λ (r : RelayValue). WritesRelay own (record { relay = r; waiting = old.waiting }) frame after outs) stands.relay_is did)
 
 -- A relay that came back learns the limits that it was given.
-pub relay_learns_kept : GoesOn → (lists : Lists) (p : Pricing) (numbering : Numbering) (before : List NodeCall) (sys : System) (c : ℕ) →
+pub relay_learns_kept : RunsGoOn → (lists : Lists) (p : Pricing) (numbering : Numbering) (before : List NodeCall) (sys : System) (c : ℕ) →
     IsTreeMarket lists p numbering → RunsTheMarket lists p numbering before sys → IsConcentrator lists c → (own : RelaySetup) (relay : RelayValue) →
     RelayStands sys c (record { relay = relay; waiting = None }) → (giver : Option ℕ) (stored : StoredRelay) (after : WaitingRelay) (outs : List (Output StoredRelay)) →
     ((place : ℕ) → giver ≡ Some place → 0 < child_number stored.numbers (sender_place place) →

@@ -33,7 +33,7 @@ use Rattle.pm_system.specs.Market.{RunsTheMarket}
 use Rattle.pm_lives.specs.Outputs.{Output, Keeps, Says, PriceWasSent}
 use Rattle.pm_lives.specs.RelayWrites.{receipt_outs}
 use Rattle.pm_lives.specs.RootWrites.{clearing_outs, clearing_again_outs, WritesRootBid, WritesRootExpire, WritesRootBounded, WritesClear, WritesRoot}
-use Rattle.pm_lives.specs.Moves.{OnlyMoves, Follows, AreCalm}
+use Rattle.pm_lives.specs.Moves.{OnlyMoves, FollowsByCalls, AreCalm}
 use Rattle.pm_lives.specs.RelayLife.{CarriesBid, CarriesExpire}
 use Rattle.pm_lives.specs.RootLife.{IsRootKept, RootLets, RootMayRead, RootFollows}
 use Rattle.pm_lives.proofs.Staying.{still, then_moves, root_moved, bid_pushed, prices_pushed, prices_told, price_still_sent}
@@ -79,7 +79,7 @@ Outs = List (Output StoredRoot)
 
 module _ (Lets : ℕ → ℕ → Type 0) (lists : Lists) (p : Pricing) (numbering : Numbering) (basis : BasisValue) where
   abbrev Does : RootValue → System → Outs → Type 0
-  Does r sys reply = Follows lists p numbering Lets IsRootKept (λ t. t.root ≡ r) sys 0 reply
+  Does r sys reply = FollowsByCalls lists p numbering Lets IsRootKept (λ t. t.root ≡ r) sys 0 reply
 
   -- it learns a bid
   learns : (sys : System) (sender number : ℕ) (demand : Option (List ℤ)) → CarriesBid lists p numbering sys 0 sender number demand →

@@ -14,7 +14,7 @@ use Rattle.pm_relay.specs.Relays.{RelayValue}
 use Rattle.pm_relay.specs.Roots.{RootValue}
 use Rattle.pm_net.specs.Agents.{Setpoint, DeviceAgent}
 use Rattle.pm_system.specs.System.{System, price_in_channel, bid_in_channel, with_root, with_relay, with_agent, with_bid_sent, with_prices_sent, with_prices_told, with_setpoints}
-use Rattle.pm_lives.specs.Outputs.{Output, Up, Down, Keeps, Tells, Says, PriceWasSent, BidWasSent, WasSent, WereSent, EachKept}
+use Rattle.pm_lives.specs.Outputs.{Output, Up, Down, Keeps, Tells, Says, PriceWasSent, BidWasSent, OutputWasSent, WereSent, EachKept}
 use Rattle.pm_lives.specs.Moves.{OnlyMoves}
 
 none_more : {A : Type 0} (l : List A) → (more : List A) × (l ≡ l ++ more)
@@ -166,7 +166,7 @@ bid_still_sent p y sys new moves x bid sent =
     record { place = sent.place; inside = at.0; is = at.1 ∙ sent.is }
 
 module _ {K : Type 0} (lists : Lists) (p : Pricing) (numbering : Numbering) (y : ℕ) (sys new : System) (moves : OnlyMoves y sys new) (of : ℕ) where
-  was_sent : (out : Output K) → WasSent lists p numbering sys of out → WasSent lists p numbering new of out
+  was_sent : (out : Output K) → OutputWasSent lists p numbering sys of out → OutputWasSent lists p numbering new of out
   was_sent (Up bid) sent = bid_still_sent p y sys new moves of bid sent
   was_sent (Down place price) sent = λ x node up at. price_still_sent y sys new moves x price (sent x node up at)
   was_sent (Keeps stored) sent = tt

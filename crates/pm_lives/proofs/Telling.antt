@@ -26,7 +26,7 @@ use Rattle.pm_lives.specs.RelayLife.{RelayLets, LetsGo, relay_number}
 use Rattle.pm_lives.specs.RootLife.{RootLets, root_number}
 use Rattle.pm_lives.specs.DeviceLife.{told_of}
 use Rattle.pm_lives.specs.DeviceWrites.{made_outs, told_outs, device_outs}
-use Rattle.pm_lives.specs.Lives.{HandledSome, restart_outs, let_go_by, let_go_by_relay, let_go_by_root}
+use Rattle.pm_lives.specs.Lives.{HandledSome, restart_outs, let_go_by, let_go_at_relay, let_go_at_root}
 use Rattle.pm_lives.proofs.Handing.{told_by}
 use Rattle.pm_lives.proofs.Giving.{Known}
 
@@ -123,7 +123,7 @@ lets_by lists numbering y sender number let_go d n lets =
     )
 
 pub relay_rises : (lists : Lists) (numbering : Numbering) (seen : System) (c : ℕ) (frame : RelayFrame) (let_go : ℕ → ℕ) (d : ℕ) →
-    let_go d ≤ let_go_by_relay lists numbering seen c frame let_go d
+    let_go d ≤ let_go_at_relay lists numbering seen c frame let_go d
 relay_rises lists numbering seen c (relay_frame.Child frame) let_go d = omega arith
 relay_rises lists numbering seen c (relay_frame.Parent frame) let_go d = omega arith
 relay_rises lists numbering seen c relay_frame.Send let_go d = omega arith
@@ -133,7 +133,7 @@ relay_rises lists numbering seen c (relay_frame.Bound sender bound) let_go d = o
 relay_rises lists numbering seen c (relay_frame.Resume stored) let_go d = omega arith
 
 pub relay_lets : (lists : Lists) (numbering : Numbering) (seen sys : System) (c : ℕ) → seen.relays c ≡ sys.relays c → (frame : RelayFrame) (let_go : ℕ → ℕ) (d n : ℕ) →
-    RelayLets lists numbering sys c frame d n → n ≤ let_go_by_relay lists numbering seen c frame let_go d
+    RelayLets lists numbering sys c frame d n → n ≤ let_go_at_relay lists numbering seen c frame let_go d
 relay_lets lists numbering seen sys c same (relay_frame.Child frame) let_go d n lets = absurd lets
 relay_lets lists numbering seen sys c same (relay_frame.Parent frame) let_go d n lets = absurd lets
 relay_lets lists numbering seen sys c same relay_frame.Send let_go d n lets = absurd lets
@@ -149,14 +149,14 @@ relay_lets lists numbering seen sys c same (relay_frame.Bound sender bound) let_
 relay_lets lists numbering seen sys c same (relay_frame.Resume stored) let_go d n lets = absurd lets
 
 pub root_rises : (lists : Lists) (numbering : Numbering) (seen : System) (frame : RootFrame) (let_go : ℕ → ℕ) (d : ℕ) →
-    let_go d ≤ let_go_by_root lists numbering seen frame let_go d
+    let_go d ≤ let_go_at_root lists numbering seen frame let_go d
 root_rises lists numbering seen (root_frame.Market frame) let_go d = omega arith
 root_rises lists numbering seen (root_frame.Expire sender) let_go d = rises_by lists numbering 0 sender (root_number seen sender) let_go d
 root_rises lists numbering seen (root_frame.Bound sender bound) let_go d = omega arith
 root_rises lists numbering seen (root_frame.Resume stored) let_go d = omega arith
 
 pub root_lets : (lists : Lists) (numbering : Numbering) (seen sys : System) → seen.root ≡ sys.root → (frame : RootFrame) (let_go : ℕ → ℕ) (d n : ℕ) →
-    RootLets lists numbering sys frame d n → n ≤ let_go_by_root lists numbering seen frame let_go d
+    RootLets lists numbering sys frame d n → n ≤ let_go_at_root lists numbering seen frame let_go d
 root_lets lists numbering seen sys same (root_frame.Market frame) let_go d n lets = absurd lets
 root_lets lists numbering seen sys same (root_frame.Expire sender) let_go d n lets =
     lets_by lists numbering 0 sender (root_number seen sender) let_go d n (

@@ -17,7 +17,7 @@ use Rattle.pm_system.specs.System.{with_agent}
 use Rattle.pm_lives.specs.DeviceLife.{IsGivenOffer}
 use Rattle.pm_lives.specs.DeviceWrites.{device_outs}
 use Rattle.pm_lives.specs.Lives.{World, handed_out, stored_last, restart_outs}
-use Rattle.pm_lives.specs.Worked.{new_world, GoesOn}
+use Rattle.pm_lives.specs.Worked.{new_world, LifeGoesOn}
 
 abbrev up_after : Lists → Pricing → Numbering → World → ℕ → ℕ → World
 up_after lists p numbering world d n = record world {
@@ -35,7 +35,7 @@ read_after lists p numbering world d frame n = record world {
 
 pub goes_on : (lists : Lists) (p : Pricing) (numbering : Numbering) (basis : BasisValue) (terms : ℕ → RelayTerms) (root : RootValue)
     (relays : ℕ → RelayValue) (demand : List ℤ) → ((c : ℕ) (l : Limits) → p.limits c no_changes ≡ Some l → (terms c).limits ≡ l) → IsLeaf lists 1 → IsGivenOffer lists p 1 2 demand →
-    GoesOn lists p numbering (new_world numbering basis terms root relays) demand
+    LifeGoesOn lists p numbering (new_world numbering basis terms root relays) demand
 unfolding update
 goes_on lists p numbering basis terms root relays demand are leaf given =
     let one : World = up_after lists p numbering (new_world numbering basis terms root relays) 1 0 in

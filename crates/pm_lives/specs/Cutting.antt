@@ -10,7 +10,7 @@ IsPartOf kept basis child rest (out ∷ outs) =
     (length rest < length (output_bytes kept basis child out)) × ((more : List ℕ) × (output_bytes kept basis child out ≡ rest ++ more))
 
 -- of the bytes of these frames the first m: they are the first n frames, whole, and nothing else or a part of the next one
-pub record IsCut {K : Type 0} (kept : K → List ℕ) (basis : BasisValue) (child : ℕ) (outs : List (Output K)) (m : ℕ) : Type 0 where
+pub record IsCutStream {K : Type 0} (kept : K → List ℕ) (basis : BasisValue) (child : ℕ) (outs : List (Output K)) (m : ℕ) : Type 0 where
   pub n : ℕ
   pub rest : List ℕ
   pub held : take m (outputs_bytes kept basis child outs) ≡ outputs_bytes kept basis child (take n outs) ++ rest

@@ -16,23 +16,23 @@ use Rattle.pm_frames.specs.declared.device.DeviceFrame.{DeviceFrame}
 use Rattle.pm_frames.specs.declared.device.DeviceFrame.TheVariants.{Hello, Offer, Leave, Parent, Resume}
 use Rattle.pm_system.specs.System.{System, price_in_channel}
 use Rattle.pm_lives.specs.Outputs.{Output, PriceWasSent}
-use Rattle.pm_lives.specs.Moves.{Follows, lets_none}
+use Rattle.pm_lives.specs.Moves.{FollowsByCalls, lets_none}
 
 -- an index is that of a price that was sent to d, or 0
-abbrev pub IsIndexOf : System → ℕ → ℕ → Type 0
-IsIndexOf sys d index = (index ≡ 0) ⊎ ((k : ℕ) × (k < length (sys.prices_sent d)) × ((price_in_channel sys d k).index ≡ index))
+abbrev pub IsIndexOfSent : System → ℕ → ℕ → Type 0
+IsIndexOfSent sys d index = (index ≡ 0) ⊎ ((k : ℕ) × (k < length (sys.prices_sent d)) × ((price_in_channel sys d k).index ≡ index))
 
 -- an agent after Hello stands for device d of the system
 pub record AgentStands (sys : System) (d : ℕ) (agent : DeviceAgent) : Type 0 where
   pub agent_is : agent ≡ sys.agents d
-  pub held : IsIndexOf sys d agent.index
+  pub held : IsIndexOfSent sys d agent.index
   pub within : AllByRecursion (λ (offer : agents.Offer). offer.number ≤ agent.number) agent.offers
 
 -- what was stored is of the newest number of d, and of a price that it took, or of one before
 pub record IsAgentKept (sys : System) (d : ℕ) (stored : StoredAgent) : Type 0 where
   pub number : stored.number ≡ (sys.agents d).number
   pub newest : stored.newest ≡ newest_demand (sys.agents d)
-  pub price : IsIndexOf sys d stored.index
+  pub price : IsIndexOfSent sys d stored.index
   pub older : stored.index ≤ (sys.agents d).index
 
 -- ---- what it may be given
@@ -76,4 +76,4 @@ pub record AgentStandsTold (sys : System) (d : ℕ) (after : DeviceAgent) (given
 -- what an agent makes of a frame: some calls of d, after which its service stands for it again
 abbrev pub DeviceFollows : Lists → Pricing → Numbering → System → (d : ℕ) → DeviceAgent → List agents.Setpoint → List (Output StoredAgent) → Type 0
 DeviceFollows lists p numbering sys d after given outs =
-    Follows lists p numbering lets_none (λ t stored. IsAgentKept t d stored) (λ t. AgentStandsTold sys d after given t) sys d outs
+    FollowsByCalls lists p numbering lets_none (λ t stored. IsAgentKept t d stored) (λ t. AgentStandsTold sys d after given t) sys d outs

@@ -30,7 +30,7 @@ use Rattle.pm_lives.specs.RootLife.{RootMayRead}
 use Rattle.pm_lives.specs.RootWrites.{WritesRoot}
 use Rattle.pm_lives.specs.DeviceWrites.{device_outs, agent_after}
 use Rattle.pm_lives.specs.Lives.{World, LifeStep, RelayUp, Relay, RootUp, Root, DeviceUp, Device, RelayBegins, RootBegins, DeviceBegins}
-use Rattle.pm_lives.specs.Lives.{HandledSome, setup_of, handed_out, stored_last, let_go_by_relay, let_go_by_root, Live}
+use Rattle.pm_lives.specs.Lives.{HandledSome, setup_of, handed_out, stored_last, let_go_at_relay, let_go_at_root, Live}
 
 -- the child that is let go is a device; to a relay it is none that gives the relay its limits
 pub record CarriesLetGo (lists : Lists) (p : Pricing) (numbering : Numbering) (y sender : ℕ) : Type 0 where
@@ -79,7 +79,7 @@ pub record RelayReadsFree (lists : Lists) (p : Pricing) (numbering : Numbering) 
     seen = handed_out lists numbering (with_relay world.seen c after.relay) c (take n outs);
     waiting = update world.waiting c after.waiting;
     relay_kept = update world.relay_kept c (stored_last (world.relay_kept c) (take n outs));
-    let_go = let_go_by_relay lists numbering world.seen c frame world.let_go;
+    let_go = let_go_at_relay lists numbering world.seen c frame world.let_go;
   }
 
 pub record RootReadsFree (lists : Lists) (p : Pricing) (numbering : Numbering) (world : World) (frame : RootFrame) (n : ℕ) (new : World) : Type 0 where
@@ -92,7 +92,7 @@ pub record RootReadsFree (lists : Lists) (p : Pricing) (numbering : Numbering) (
   pub new_is : new ≡ record world {
     seen = handed_out lists numbering (with_root world.seen after) 0 (take n outs);
     root_kept = stored_last world.root_kept (take n outs);
-    let_go = let_go_by_root lists numbering world.seen frame world.let_go;
+    let_go = let_go_at_root lists numbering world.seen frame world.let_go;
   }
 
 pub record DeviceReadsFree (lists : Lists) (p : Pricing) (numbering : Numbering) (world : World) (d : ℕ) (frame : DeviceFrame) (n : ℕ) (new : World) :

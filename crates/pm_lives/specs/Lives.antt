@@ -92,13 +92,13 @@ abbrev pub let_go_by : Lists → Numbering → (y sender number : ℕ) → (ℕ 
 let_go_by lists numbering y sender number let_go' d =
     if (parent lists d == y) && (sender == numbering.place d + 1) then max (let_go' d) number else let_go' d
 
-abbrev pub let_go_by_relay : Lists → Numbering → System → ℕ → RelayFrame → (ℕ → ℕ) → ℕ → ℕ
-let_go_by_relay lists numbering seen c (relay_frame.Expire sender) let_go' = let_go_by lists numbering c sender (relay_number seen c sender) let_go'
-let_go_by_relay lists numbering seen c frame let_go' = let_go'
+abbrev pub let_go_at_relay : Lists → Numbering → System → ℕ → RelayFrame → (ℕ → ℕ) → ℕ → ℕ
+let_go_at_relay lists numbering seen c (relay_frame.Expire sender) let_go' = let_go_by lists numbering c sender (relay_number seen c sender) let_go'
+let_go_at_relay lists numbering seen c frame let_go' = let_go'
 
-abbrev pub let_go_by_root : Lists → Numbering → System → RootFrame → (ℕ → ℕ) → ℕ → ℕ
-let_go_by_root lists numbering seen (root_frame.Expire sender) let_go' = let_go_by lists numbering 0 sender (root_number seen sender) let_go'
-let_go_by_root lists numbering seen frame let_go' = let_go'
+abbrev pub let_go_at_root : Lists → Numbering → System → RootFrame → (ℕ → ℕ) → ℕ → ℕ
+let_go_at_root lists numbering seen (root_frame.Expire sender) let_go' = let_go_by lists numbering 0 sender (root_number seen sender) let_go'
+let_go_at_root lists numbering seen frame let_go' = let_go'
 
 -- ---- one step of a life
 
@@ -140,7 +140,7 @@ pub record RelayReads (lists : Lists) (p : Pricing) (numbering : Numbering) (wor
     seen = handed_out lists numbering (with_relay world.seen c after.relay) c (take n outs);
     waiting = update world.waiting c after.waiting;
     relay_kept = update world.relay_kept c (stored_last (world.relay_kept c) (take n outs));
-    let_go = let_go_by_relay lists numbering world.seen c frame world.let_go;
+    let_go = let_go_at_relay lists numbering world.seen c frame world.let_go;
   }
 
 pub record RootBegins (p : Pricing) (world : World) (new : World) : Type 0 where
@@ -158,7 +158,7 @@ pub record RootReads (lists : Lists) (p : Pricing) (numbering : Numbering) (worl
   pub new_is : new ≡ record world {
     seen = handed_out lists numbering (with_root world.seen after) 0 (take n outs);
     root_kept = stored_last world.root_kept (take n outs);
-    let_go = let_go_by_root lists numbering world.seen frame world.let_go;
+    let_go = let_go_at_root lists numbering world.seen frame world.let_go;
   }
 
 -- a device sends its newest bid again, if it made one
@@ -236,17 +236,17 @@ pub record AllIn (lists : Lists) (p : Pricing) (seen sys : System) : Type 0 wher
   pub setpoints : (d : ℕ) (setpoint : Setpoint) → Contains (seen.setpoints d) setpoint → Contains (sys.setpoints d) setpoint
 
 -- a process of device d begins with this step; never, or once at most, in these
-abbrev pub IsUpOf : ℕ → LifeStep → Type 0
-IsUpOf d (DeviceUp e n) = e ≡ d
-IsUpOf d step = ⊥
+abbrev pub BeginsProcess : ℕ → LifeStep → Type 0
+BeginsProcess d (DeviceUp e n) = e ≡ d
+BeginsProcess d step = ⊥
 
 abbrev pub BeginsNever : ℕ → List LifeStep → Type 0
 BeginsNever d [] = ⊤
-BeginsNever d (step ∷ steps) = (IsUpOf d step → ⊥) × BeginsNever d steps
+BeginsNever d (step ∷ steps) = (BeginsProcess d step → ⊥) × BeginsNever d steps
 
 abbrev pub BeginsOnce : ℕ → List LifeStep → Type 0
 BeginsOnce d [] = ⊤
-BeginsOnce d (step ∷ steps) = BeginsNever d steps ⊎ ((IsUpOf d step → ⊥) × BeginsOnce d steps)
+BeginsOnce d (step ∷ steps) = BeginsNever d steps ⊎ ((BeginsProcess d step → ⊥) × BeginsOnce d steps)
 
 -- The lives are a run of a system: some calls, by which everything was sent that was handed out. They restart no device that had one
 -- life.

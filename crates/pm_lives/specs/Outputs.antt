@@ -32,13 +32,13 @@ pub data Output (K : Type 0) : Type 0 where
 abbrev pub up_bytes : ℕ → BidMessage → List ℕ
 up_bytes child bid = if bid.gone then frame_bytes (Gone child bid.number) else frame_bytes (Bid child bid.number bid.demand)
 
-abbrev pub down_bytes : BasisValue → ℕ → PriceMessage → List ℕ
-down_bytes basis place price = price_bytes (place + 1) price.number price.index price.step basis
+abbrev pub down_frame_bytes : BasisValue → ℕ → PriceMessage → List ℕ
+down_frame_bytes basis place price = price_bytes (place + 1) price.number price.index price.step basis
 
 -- `kept` has the bytes of what a node of this sort keeps, `basis` is that of the market, and `child` its own number at its parent
 abbrev pub output_bytes : {K : Type 0} → (K → List ℕ) → BasisValue → ℕ → Output K → List ℕ
 output_bytes kept basis child (Up bid) = up_bytes child bid
-output_bytes kept basis child (Down place price) = down_bytes basis place price
+output_bytes kept basis child (Down place price) = down_frame_bytes basis place price
 output_bytes kept basis child (Keeps stored) = kept stored
 output_bytes kept basis child (Tells setpoint) = setpoint_bytes setpoint.number setpoint.index setpoint.step setpoint.power
 output_bytes kept basis child (Says bytes) = bytes
@@ -58,16 +58,16 @@ BidWasSent p sys x bid = IsIn p (sys.bids_sent x) bid
 
 -- what y writes was sent in the system: its bid by it, a price to the child in that place, if there is one, and a setpoint to its
 -- own control
-abbrev pub WasSent : {K : Type 0} → Lists → Pricing → Numbering → System → ℕ → Output K → Type 0
-WasSent lists p numbering sys y (Up bid) = BidWasSent p sys y bid
-WasSent lists p numbering sys y (Down place price) =
+abbrev pub OutputWasSent : {K : Type 0} → Lists → Pricing → Numbering → System → ℕ → Output K → Type 0
+OutputWasSent lists p numbering sys y (Up bid) = BidWasSent p sys y bid
+OutputWasSent lists p numbering sys y (Down place price) =
     (x : ℕ) → IsNode lists x → parent lists x ≡ y → numbering.place x ≡ place → PriceWasSent sys x price
-WasSent lists p numbering sys y (Keeps stored) = ⊤
-WasSent lists p numbering sys y (Tells setpoint) = Contains (sys.setpoints y) setpoint
-WasSent lists p numbering sys y (Says bytes) = ⊤
+OutputWasSent lists p numbering sys y (Keeps stored) = ⊤
+OutputWasSent lists p numbering sys y (Tells setpoint) = Contains (sys.setpoints y) setpoint
+OutputWasSent lists p numbering sys y (Says bytes) = ⊤
 
 abbrev pub WereSent : {K : Type 0} → Lists → Pricing → Numbering → System → ℕ → List (Output K) → Type 0
-WereSent {K = K} lists p numbering sys y outs = AllByRecursion (λ (out : Output K). WasSent lists p numbering sys y out) outs
+WereSent {K = K} lists p numbering sys y outs = AllByRecursion (λ (out : Output K). OutputWasSent lists p numbering sys y out) outs
 
 -- ---- what may be stored
 

@@ -23,7 +23,7 @@ use Rattle.pm_services.specs.RelaySetups.{RelaySetup}
 use Rattle.pm_system.specs.System.{System, bid_in_channel, price_in_channel}
 use Rattle.pm_system.specs.Expiry.{MayExpire}
 use Rattle.pm_lives.specs.Outputs.{Output, PriceWasSent}
-use Rattle.pm_lives.specs.Moves.{Follows}
+use Rattle.pm_lives.specs.Moves.{FollowsByCalls}
 
 -- ---- what a relay's value is of
 
@@ -145,4 +145,4 @@ RelayLets lists numbering sys c frame d n = ⊥
 -- what a relay makes of a frame: some calls of c, after which its service stands for it again
 abbrev pub RelayFollows : Lists → Pricing → Numbering → (ℕ → ℕ → Type 0) → System → (c : ℕ) → WaitingRelay → List (Output StoredRelay) → Type 0
 RelayFollows lists p numbering Lets sys c after outs =
-    Follows lists p numbering Lets (λ t stored. IsKept p numbering t c stored) (λ t. RelayStands t c after) sys c outs
+    FollowsByCalls lists p numbering Lets (λ t stored. IsKept p numbering t c stored) (λ t. RelayStands t c after) sys c outs

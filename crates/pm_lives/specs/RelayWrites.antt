@@ -113,8 +113,8 @@ pub record WritesSend (own : RelaySetup) (old new : WaitingRelay) (outs : List (
   pub tries : WritesWaiting own old.waiting asked new waiting_reply
   pub replied : outs ≡ first ++ waiting_reply
 
-abbrev pub IsQuiet : WaitingRelay → WaitingRelay → List (Output StoredRelay) → Type 0
-IsQuiet old new outs = (new ≡ old) × (outs ≡ [])
+abbrev pub StaysQuiet : WaitingRelay → WaitingRelay → List (Output StoredRelay) → Type 0
+StaysQuiet old new outs = (new ≡ old) × (outs ≡ [])
 
 -- nothing changes, and this is said
 abbrev pub SaysAlone : WaitingRelay → WaitingRelay → List ℕ → List (Output StoredRelay) → Type 0
@@ -133,28 +133,28 @@ WritesTold own old price basis new outs =
 
 -- limits are learnt in the place of the arguments
 abbrev pub WritesGiven : Option ℕ → RelaySetup → WaitingRelay → ℕ → Limits → WaitingRelay → List (Output StoredRelay) → Type 0
-WritesGiven None own old number limits new outs = IsQuiet old new outs
+WritesGiven None own old number limits new outs = StaysQuiet old new outs
 WritesGiven (Some giver) own old number limits new outs = WritesLimits own old giver number limits new outs
 
 -- a relay that came back learns the limits that it gave, under the number that their place has in its record, if it was given some
 abbrev pub WritesKept : Option ℕ → RelaySetup → WaitingRelay → StoredRelay → WaitingRelay → List (Output StoredRelay) → Type 0
-WritesKept None own old stored new outs = IsQuiet old new outs
+WritesKept None own old stored new outs = StaysQuiet old new outs
 WritesKept (Some giver) own old stored new outs =
-    ((child_number stored.numbers (sender_place giver) ≡ 0) × IsQuiet old new outs)
+    ((child_number stored.numbers (sender_place giver) ≡ 0) × StaysQuiet old new outs)
     ⊎ ((0 < child_number stored.numbers (sender_place giver))
     × WritesLimits own old giver (child_number stored.numbers (sender_place giver)) stored.limits new outs)
 
 -- what a relay that runs makes of a frame, and the frames that answer it
 abbrev pub WritesRelay : RelaySetup → WaitingRelay → RelayFrame → WaitingRelay → List (Output StoredRelay) → Type 0
-WritesRelay own old (Child (Hello basis)) new outs = IsQuiet old new outs
+WritesRelay own old (Child (Hello basis)) new outs = StaysQuiet old new outs
 WritesRelay own old (Child (Bid sender number demand)) new outs = WritesBounded own old sender number demand new outs
 WritesRelay own old (Child (Gone sender number)) new outs = WritesBid own old sender number None new outs
-WritesRelay own old (Child Clear) new outs = IsQuiet old new outs
+WritesRelay own old (Child Clear) new outs = StaysQuiet old new outs
 WritesRelay own old (Parent (Price child number index step basis)) new outs =
     WritesTold own old (record { step = step; number = number; index = index }) basis new outs
-WritesRelay own old (Parent (Old child kept)) new outs = IsQuiet old new outs
+WritesRelay own old (Parent (Old child kept)) new outs = StaysQuiet old new outs
 WritesRelay own old Send new outs = WritesSend own old new outs
 WritesRelay own old (Expire sender) new outs = WritesExpire own old sender new outs
 WritesRelay own old (given.Limits number limits) new outs = WritesGiven own.terms.giver own old number limits new outs
-WritesRelay own old (Bound sender bound) new outs = IsQuiet old new outs
+WritesRelay own old (Bound sender bound) new outs = StaysQuiet old new outs
 WritesRelay own old (Resume stored) new outs = ⊥

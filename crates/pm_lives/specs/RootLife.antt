@@ -11,7 +11,7 @@ use Rattle.pm_frames.specs.declared.root.RootFrame.{RootFrame}
 use Rattle.pm_frames.specs.declared.root.RootFrame.TheVariants.{Market, Expire, Bound, Resume}
 use Rattle.pm_system.specs.System.{System}
 use Rattle.pm_lives.specs.Outputs.{Output}
-use Rattle.pm_lives.specs.Moves.{Follows}
+use Rattle.pm_lives.specs.Moves.{FollowsByCalls}
 use Rattle.pm_lives.specs.RelayLife.{CarriesBid, CarriesExpire, LetsGo}
 
 -- what was stored is of the newest clearing
@@ -39,4 +39,4 @@ RootLets lists numbering sys frame d n = ⊥
 
 -- what a root makes of a frame: some calls of it, after which its service stands for it again
 abbrev pub RootFollows : Lists → Pricing → Numbering → (ℕ → ℕ → Type 0) → System → RootValue → List (Output StoredRoot) → Type 0
-RootFollows lists p numbering Lets sys after outs = Follows lists p numbering Lets IsRootKept (λ t. t.root ≡ after) sys 0 outs
+RootFollows lists p numbering Lets sys after outs = FollowsByCalls lists p numbering Lets IsRootKept (λ t. t.root ≡ after) sys 0 outs

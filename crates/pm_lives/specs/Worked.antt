@@ -39,7 +39,7 @@ abbrev pub cut_life : List ℤ → List LifeStep
 cut_life demand = DeviceUp 1 0 ∷ Device 1 (Offer demand) 1 ∷ DeviceUp 1 1 ∷ []
 
 -- the bid is handed out then, under the number that was stored
-pub record GoesOn (lists : Lists) (p : Pricing) (numbering : Numbering) (start : World) (demand : List ℤ) : Type 0 where
+pub record LifeGoesOn (lists : Lists) (p : Pricing) (numbering : Numbering) (start : World) (demand : List ℤ) : Type 0 where
   pub none : IsNewWorld p numbering start
   pub new : World
   pub live : Live lists p numbering start (cut_life demand) new

@@ -50,7 +50,7 @@ ghost use Rattle.pm_frames.specs.DeviceFrames.{device_frame_bytes, IsDeviceForme
 ghost use Rattle.pm_frames.specs.declared.place.NodePlace.{NodePlace};
 ghost use Rattle.pm_frames.specs.declared.place.Stage.{Stage};
 ghost use Rattle.pm_services.specs.RelayAnswers.{RelayServiceValue};
-ghost use Rattle.pm_lives.specs.Outputs.{PriceWasSent, BidWasSent, up_bytes, down_bytes};
+ghost use Rattle.pm_lives.specs.Outputs.{PriceWasSent, BidWasSent, up_bytes, down_frame_bytes};
 ghost use Rattle.pm_lives.specs.Carrying.{bid_frame, limits_frame, price_frame, RelayIsGiven, RelayIsBack, RootIsGiven, RootIsBack, DeviceIsBack};
 ghost use Rattle.pm_frames.specs.Stored.{IsNewestAccepted};
 ghost use Rattle.pm_frames.specs.declared.stored.StoredAgent.{StoredAgent};
@@ -60,8 +60,8 @@ ghost use Rattle.pm_lives.specs.Answering.{IsNoResume, IsNoRootResume, IsNoDevic
 ghost use Rattle.std.specs.Prelude.{ℤ};
 ghost use Rattle.pm_relay.specs.Relays.{RelayValue};
 ghost use Rattle.pm_lives.specs.DeviceLife.{IsGivenOffer};
-ghost use Rattle.pm_lives.specs.Worked.{new_world, GoesOn};
-ghost use Rattle.pm_lives.specs.Cutting.{IsCut};
+ghost use Rattle.pm_lives.specs.Worked.{new_world, LifeGoesOn};
+ghost use Rattle.pm_lives.specs.Cutting.{IsCutStream};
 ghost use Rattle.std.specs.Prelude.{◌<◌};
 ghost use Rattle.std.specs.List.{AllPairs};
 ghost use Rattle.pm_net.specs.Agents.{Setpoint};
@@ -234,14 +234,14 @@ pub fn frames_are_carried()
         (place : RelayPlace) (frame : RelayFrame) (more behind : List ℕ) →
         IsRelayFormed place frame → IsRelayFormed place
         (RelayFrame.Parent (price_frame own.basis (numbering.place x + 1) price)) →
-        relay_frame_bytes frame ++ more ≡ down_bytes own.basis (numbering.place x) price ++ behind →
+        relay_frame_bytes frame ++ more ≡ down_frame_bytes own.basis (numbering.place x) price ++ behind →
         RelayMayRead lists p numbering own sys x frame × (more ≡ behind) }
     ensures device_prices { (lists : Lists) (p : Pricing) (numbering : Numbering) (sys : System)
         (x : ℕ) (price : PriceMessage) → PriceWasSent sys x price → (basis : BasisValue)
         (place : NodePlace) (frame : DeviceFrame) (more behind : List ℕ) →
         IsDeviceFormed place frame → IsDeviceFormed place
         (DeviceFrame.Parent (price_frame basis (numbering.place x + 1) price)) →
-        device_frame_bytes frame ++ more ≡ down_bytes basis (numbering.place x) price ++ behind →
+        device_frame_bytes frame ++ more ≡ down_frame_bytes basis (numbering.place x) price ++ behind →
         DeviceMayRead lists p basis sys x frame × (more ≡ behind) }
 {}
 
@@ -269,15 +269,15 @@ pub fn a_cut_life_goes_on()
         (terms : ℕ → RelayTerms) (root : RootValue) (relays : ℕ → RelayValue) (demand : List ℤ) →
         ((c : ℕ) (l : Limits) → p.limits c no_changes ≡ Some l → (terms c).limits ≡ l) →
         IsLeaf lists 1 → IsGivenOffer lists p 1 2 demand →
-        GoesOn lists p numbering (new_world numbering basis terms root relays) demand }
+        LifeGoesOn lists p numbering (new_world numbering basis terms root relays) demand }
 {}
 
 /// A law: a stream that is cut at any byte is some first frames, whole, and nothing else or a part of the next one.
 pub fn streams_are_cut_anywhere()
     ensures relay { (basis : BasisValue) (child : ℕ) (outs : List (Output StoredRelay)) (m : ℕ) →
-        IsCut relay_resume_bytes basis child outs m }
+        IsCutStream relay_resume_bytes basis child outs m }
     ensures root { (basis : BasisValue) (outs : List (Output StoredRoot)) (m : ℕ) →
-        IsCut root_resume_bytes basis 0 outs m }
+        IsCutStream root_resume_bytes basis 0 outs m }
     ensures device { (basis : BasisValue) (child : ℕ) (outs : List (Output StoredAgent)) (m : ℕ) →
-        IsCut agent_resume_bytes basis child outs m }
+        IsCutStream agent_resume_bytes basis child outs m }
 {}

@@ -174,7 +174,7 @@ IsTold lists devices d =
     (devices.net.taken d).number ≡ (devices.agents d).number → is_member lists d (devices.agents d).number ≡ true → 0 < (devices.net.taken d).index →
     (k : ℕ) × (k < length (devices.setpoints d)) × ((slice_index_or (devices.setpoints d) k no_setpoint).index ≡ (devices.net.taken d).index)
 
--- the control of d was told what its newest bid asks for at its local step over all bids ever made
+-- the control of d was told what its newest bid asks for at its local step over the newest bids of all devices
 abbrev pub IsToldNow : Pricing → Devices → ℕ → Type 0
 IsToldNow p devices d =
     (setpoint : Setpoint) × Contains (devices.setpoints d) setpoint × (setpoint.number ≡ devices.net.counts d)

@@ -59,8 +59,8 @@ with_record net y = record net {
   records = update net.records y (update (net.records y) (net.last_number y + 1) net.heard);
 }
 
--- a relay that is caught up, has news and room in its window sends the sum of its children's bids, within the limits that the
--- numbers of its devices give
+-- a relay that is caught up, has news and room in its window announces what is taken of the sum of its children's bids, by the
+-- limits that the numbers of its devices give
 unfoldable pub can_send : Lists → Network → ℕ → Bool
 can_send lists net c =
     is_node lists c && not (is_leaf lists c) && is_caught_up lists net c && has_news lists net c

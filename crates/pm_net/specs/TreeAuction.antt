@@ -38,8 +38,8 @@ add_to lists steps y f (suc n) =
 abbrev pub add_below : Lists → ℕ → ℕ → (ℕ → List ℤ) → List ℤ
 add_below lists steps y f = add_to lists steps y f (nodes lists)
 
--- the offer of x, at most so many levels below it looked at: of a device its demand, of a relay the sum of its children's
--- offers within its limits
+-- the offer of x, at most so many levels below it looked at: of a device its demand, of a relay what is taken of the sum of
+-- its children's offers where it settles
 unfoldable pub offer_in : Lists → TreeDemand → Cut → ℕ → ℕ → List ℤ
 offer_in lists a cut zero x = zeros a.steps
 offer_in lists a cut (suc levels) x =
@@ -50,7 +50,7 @@ unfoldable pub tree_offer : Lists → TreeDemand → ℕ → Cut → List ℤ
 tree_offer lists a x cut = offer_in lists a cut (suc (nodes lists)) x
 
 -- the step of x, at most so many levels above it looked at: below the auctioneer the clearing step of the sum of its
--- children's offers, below a relay the relay's step, moved within its limits for the sum of its children's offers
+-- children's offers, below a relay the relay's step, moved to where it settles for the sum of its children's offers
 unfoldable pub step_in : Lists → TreeDemand → Cut → ℕ → ℕ → ℕ
 step_in lists a cut zero x = 0
 step_in lists a cut (suc levels) x =

@@ -47,7 +47,7 @@ pub fn setpoints_answer_offers()
 {}
 
 /// In a settled network the control of each member that did not restart, and that its parent did not let go since its newest
-/// bid, was told a power. It is what this bid asks for at the member's local step over all bids ever made.
+/// bid, was told a power. It is what this bid asks for at the member's local step over the newest bids of all devices.
 pub fn settled_devices_were_told()
     ensures { (lists : Lists) (p : Pricing) (events : List Event) (d : ℕ) → Lawful lists →
         phases lists ≡ 1 → GoesByNodes lists p →

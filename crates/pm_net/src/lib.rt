@@ -108,7 +108,7 @@ pub fn nobody_goes_back()
 /// A device drops the price of a former membership. What a device goes by that never restarted is what the market says that
 /// it holds. Whatever price a device came back with, what it goes by is of that price's clearing. It is its own number
 /// there and its local step, and is no older than its last join. In a settled network each member goes by its newest bid at
-/// its local step over all bids ever made.
+/// its local step over the newest bids of all devices.
 pub fn devices_go_by_held_prices()
     ensures held { (lists : Lists) (p : Pricing) (net : Network) (s : State) (d : ℕ) →
         Lawful lists → NetworkAgrees lists p net s → IsLeaf lists d →
@@ -138,7 +138,7 @@ pub fn relays_take_newer_prices()
 {}
 
 /// Settled is current, also over restarts. A network is settled if each parent holds the newest bid of each child, each node
-/// holds the newest price sent to it, and nobody can send anything new. Then the last clearing is over all bids ever made,
+/// holds the newest price sent to it, and nobody can send anything new. Then the last clearing is over the newest bid of each device,
 /// and each member holds its local step over them, at its own newest number. While nothing restarted, a network is settled
 /// if no message is left that anybody would take, and nothing new can be sent.
 pub fn settled_networks_are_current()
