@@ -19,7 +19,7 @@ use Rattle.pm_laws.proofs.Offers.{int_sum_same, sum_on_leaf, sum_on_inner}
 use Rattle.pm_net.specs.Pricing.{Pricing, GoesByNodes}
 use Rattle.std.proofs.lemmas.Int.{ints}
 use Rattle.pm_net.specs.TreeAuction.{TreeDemand, add_to, add_below, tree_pricing}
-use Rattle.pm_net.specs.Flow.{power_at, power_below, sum_of_offers, AddsUp, SaysBelow}
+use Rattle.pm_net.specs.Flow.{power_at, power_below, sum_of_offers, AddsAtEachStep, SaysBelow}
 
 -- sums over the children are the same where their terms are
 sum_children_same : (lists : Lists) (y : ℕ) (f g : ℕ → ℤ) → ((x : ℕ) → IsNode lists x → parent lists x ≡ y → f x ≡ g x) →
@@ -33,7 +33,7 @@ sum_children_same lists y f g h =
       | inr e ↦ cond-false (eqb (parent lists x) y) (f x) (pos 0) e ∙ sym (cond-false (eqb (parent lists x) y) (g x) (pos 0) e)
     ])
 
-module _ (lists : Lists) (law : Lawful lists) (p : Pricing) (by : GoesByNodes lists p) (adds : AddsUp lists p) (cut : Cut) where
+module _ (lists : Lists) (law : Lawful lists) (p : Pricing) (by : GoesByNodes lists p) (adds : AddsAtEachStep lists p) (cut : Cut) where
   -- each offer has one demand for each step
   long_below : (n x : ℕ) → IsNode lists x → nodes lists < x + n → length (p.offer x cut) ≡ p.steps
   long_below zero x node over = absurd (omega (arith, node.1, over))
@@ -203,7 +203,7 @@ module _ (lists : Lists) (steps y : ℕ) (f : ℕ → List ℤ) (long : (x : ℕ
 
 -- it adds up
 pub adds_in_node_order : (lists : Lists) (a : TreeDemand) → a.add ≡ add_below lists a.steps → 1 ≤ a.steps →
-    ((d n : ℕ) → IsLeaf lists d → length (a.demand d n) ≡ a.steps) → AddsUp lists (tree_pricing lists a)
+    ((d n : ℕ) → IsLeaf lists d → length (a.demand d n) ≡ a.steps) → AddsAtEachStep lists (tree_pricing lists a)
 unfolding sum_children
 adds_in_node_order lists a is some long = record {
   some = some;

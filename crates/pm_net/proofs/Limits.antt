@@ -1,17 +1,8 @@
--- Limits that change go by the numbers of devices, and so does what has these numbers.
-use Rattle.std.proofs.Common.{◌≡◌, ◌∙◌, sym, ap, ℕ, Option, inl, inr, ◌⊎◌, length}
-use Rattle.std.proofs.lemmas.Bool.{cond-true}
-use Rattle.pm_base.specs.Cuts.{Cut}
+-- Limits that change go by the numbers of devices.
+use Rattle.std.proofs.Common.{◌≡◌, ◌∙◌, sym, ap, ℕ, Option, inl, inr, ◌⊎◌}
 use Rattle.pm_base.specs.declared.limits.Limits.{Limits}
-use Rattle.std.proofs.Common.{List}
-use Rattle.pm_market.specs.Lists.{Lists, IsLeaf}
-use Rattle.pm_market.specs.State.{number_of, greatest_number}
+use Rattle.pm_market.specs.Lists.{Lists}
 use Rattle.pm_net.specs.Pricing.{LimitsGoByDevices, IsChildDevice, HasOneLimit, given_limits}
-
--- the number that a cut has of a device is the device's number there
-pub number_leaf : (lists : Lists) (published : ℕ → List Cut) (x : ℕ) (cut : Cut) → IsLeaf lists x → number_of lists published x cut ≡ cut x
-unfolding number_of
-number_leaf lists published x cut leaf = cond-true _ (cut x) (greatest_number lists (published x) x cut (length (published x))) leaf
 
 -- limits that a child gives, or that never change, go by the relay's devices
 pub given_alike : (lists : Lists) (limits : ℕ → ℕ → Option Limits) (giver : ℕ → ℕ) →

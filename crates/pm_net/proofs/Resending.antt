@@ -14,7 +14,7 @@ use Rattle.pm_laws.proofs.Facts.{updated_at}
 use Rattle.pm_laws.proofs.Numbers.{published_is_part}
 use Rattle.pm_net.specs.Pricing.{Pricing, GoesByNodes}
 use Rattle.pm_net.specs.Messages.{BidMessage, bid_message, nothing_heard, numbers_of}
-use Rattle.pm_net.proofs.Limits.{number_leaf}
+use Rattle.pm_laws.proofs.Numbers.{number_leaf}
 use Rattle.pm_net.specs.Network.{Network}
 use Rattle.pm_net.specs.Running.{device_bid, can_send, after_bidding, after_sending}
 use Rattle.pm_net.specs.Restarts.{device_stopped, relay_stopped}

@@ -20,7 +20,7 @@ use Rattle.pm_net.specs.Messages.{BidMessage, PriceMessage, price_message, no_pr
 use Rattle.pm_net.specs.Network.{IsUnbroken, Network, sent_price}
 use Rattle.pm_net.specs.Running.{is_new_price, names_a_bid, is_overtaken, waits, after_taking_price}
 use Rattle.pm_net.specs.Running.{after_answer, relay_step, after_passing}
-use Rattle.pm_net.proofs.Limits.{number_leaf}
+use Rattle.pm_laws.proofs.Numbers.{number_leaf}
 use Rattle.pm_net.specs.Messages.{numbers_of}
 use Rattle.pm_net.specs.Agrees.{GoesOn, bid_of_number, price_of_clearing, IsItsPrice, HoldsIts, NetworkAgrees, GoesForward}
 use Rattle.pm_net.proofs.Messages.{past, each_push, some_push}

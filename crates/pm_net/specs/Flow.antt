@@ -21,7 +21,7 @@ abbrev pub sum_of_offers : Pricing → Cut → ℕ → List ℤ
 sum_of_offers p cut y = p.add y (λ x. p.offer x cut)
 
 -- adding up is adding up: at each step the sum of what the children have
-pub record AddsUp (lists : Lists) (p : Pricing) : Type 0 where
+pub record AddsAtEachStep (lists : Lists) (p : Pricing) : Type 0 where
   pub some : 1 ≤ p.steps
   pub one_each : (d n : ℕ) → IsLeaf lists d → length (p.demand d n) ≡ p.steps
   pub long : (y : ℕ) (f : ℕ → List ℤ) → ((x : ℕ) → IsNode lists x → parent lists x ≡ y → length (f x) ≡ p.steps) →

@@ -97,5 +97,5 @@ abbrev pub changing_run : List Event → Network
 changing_run events = network_after with_giver (tree_pricing with_giver changing_demand) (start_network (tree_pricing with_giver changing_demand)) events
 
 -- the relay's limits change after its bid 1, and before that bid's price comes; then the rest
-abbrev pub with_new_limits : List Event → List Event
-with_new_limits rest = cleared_once (Bids 3 ∷ TakesBid 3 0 ∷ TakesPrice 1 0 ∷ rest)
+abbrev pub with_changed_limits : List Event → List Event
+with_changed_limits rest = cleared_once (Bids 3 ∷ TakesBid 3 0 ∷ TakesPrice 1 0 ∷ rest)

@@ -26,7 +26,7 @@ ghost use Rattle.pm_net.specs.Settled.{IsSettledNetwork, AllTaken};
 ghost use Rattle.pm_net.specs.HeldPrice.{goes_by, IsOfItsClearing};
 ghost use Rattle.pm_net.specs.TreeAuction.{TreeDemand, IsTreeDemand, add_below, tree_pricing, AreAsGood, with_limits};
 ghost use Rattle.pm_net.specs.SmallRuns.{one_relay, run_of, limited_run_of, device_holds, cleared_once, index_held, with_skipped_price, window_sent};
-ghost use Rattle.pm_net.specs.SmallRuns.{with_giver, changing_run, with_new_limits};
+ghost use Rattle.pm_net.specs.SmallRuns.{with_giver, changing_run, with_changed_limits};
 
 mod devices;
 mod taken;
@@ -251,29 +251,29 @@ pub fn small_networks_are_as_worked_out()
 /// Small networks, worked out: limits that change.
 pub fn limits_change_as_worked_out()
     // The price of bid 1 settles by the limits of bid 1: by the newest ones it would be passed down as it is.
-    ensures by_its_limits { (changing_run (with_new_limits [])).prices_sent 2
+    ensures by_its_limits { (changing_run (with_changed_limits [])).prices_sent 2
         ≡ price_message 1 1 0 ∷ [] }
     // Nothing goes up before the relay sends. Its next bid is by the new limits, and the price of that bid too.
-    ensures not_before { (changing_run (with_new_limits [])).bids_sent 1
+    ensures not_before { (changing_run (with_changed_limits [])).bids_sent 1
         ≡ bid_message 1 false (pos 5 ∷ pos 5 ∷ []) ∷ [] }
-    ensures next_bid { (changing_run (with_new_limits (Event.Sends 1 ∷ []))).bids_sent 1
+    ensures next_bid { (changing_run (with_changed_limits (Event.Sends 1 ∷ []))).bids_sent 1
         ≡ bid_message 1 false (pos 5 ∷ pos 5 ∷ [])
         ∷ bid_message 2 false (pos 5 ∷ negsuc 2 ∷ []) ∷ [] }
-    ensures next_price { (changing_run (with_new_limits
+    ensures next_price { (changing_run (with_changed_limits
         (Event.Sends 1 ∷ Event.TakesBid 1 1 ∷ Event.Clears ∷ Event.TakesPrice 1 1
         ∷ []))).prices_sent 2
         ≡ price_message 1 1 0 ∷ price_message 1 2 1 ∷ [] }
     // A bid that is sent again is the bid that it was.
-    ensures sent_again { (changing_run (with_new_limits (Event.Resends 1 ∷ []))).bids_sent 1
+    ensures sent_again { (changing_run (with_changed_limits (Event.Resends 1 ∷ []))).bids_sent 1
         ≡ bid_message 1 false (pos 5 ∷ pos 5 ∷ []) ∷ bid_message 1 false (pos 5 ∷ pos 5 ∷ []) ∷ [] }
     // The same limits again are no news.
     ensures no_news { can_send with_giver
-        (changing_run (with_new_limits (Event.Sends 1 ∷ Event.TakesBid 3 0 ∷ []))) 1
+        (changing_run (with_changed_limits (Event.Sends 1 ∷ Event.TakesBid 3 0 ∷ []))) 1
         ≡ false }
     // A relay that restarts sends nothing until it has its limits again, and then has the record with them.
-    ensures guarded { can_send with_giver (changing_run (with_new_limits
+    ensures guarded { can_send with_giver (changing_run (with_changed_limits
         (Event.Sends 1 ∷ Event.Restarts 1 0 ∷ Event.TakesBid 2 0 ∷ []))) 1 ≡ false }
-    ensures again { (changing_run (with_new_limits
+    ensures again { (changing_run (with_changed_limits
         (Event.Sends 1 ∷ Event.TakesBid 1 1 ∷ Event.Clears ∷ Event.Restarts 1 0
         ∷ Event.TakesBid 2 0 ∷ Event.TakesBid 3 0 ∷
         Event.Rebuilds 1 ∷ Event.TakesPrice 1 1 ∷ []))).prices_sent 2
