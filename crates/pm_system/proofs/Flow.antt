@@ -15,21 +15,19 @@ use Rattle.pm_laws.proofs.Offers.{sum_on_same}
 use Rattle.pm_net.specs.Pricing.{Pricing}
 use Rattle.pm_net.specs.Agents.{Setpoint}
 use Rattle.pm_net.specs.Devices.{IsRight}
-use Rattle.pm_net.specs.Flow.{power_at, power_below, sum_of_offers, AddsUp, SaysBelow, HaveStepsWithin}
+use Rattle.pm_net.specs.Flow.{power_at, power_below, sum_of_offers, AddsAtEachStep, SaysBelow, HaveStepsWithin}
 use Rattle.pm_net.proofs.Flow.{flows_as_offered, flows_within, flows_as_cleared, flows_balanced}
 use Rattle.pm_net_plan.specs.Places.{Numbering}
 use Rattle.pm_relay.specs.Relays.{AreRelayLimits}
 use Rattle.pm_system.specs.System.{System}
 use Rattle.pm_system.specs.Given.{IsTreeMarket}
 use Rattle.pm_system.specs.Flow.{WasGiven, TakeWhatWasGiven, TakesAsTold, TakeWhatWasTold, FlowsIn, FlowsAsCleared}
+use Rattle.pm_system.proofs.Given.{some_same}
 use Rattle.pm_system.proofs.Offers.{offer_is, sum_down}
 use Rattle.pm_system.proofs.Places.{market_adds}
 
-some_same : (l k : Limits) → Some l ≡ Some k → l ≡ k
-some_same l k e = cc
-
 module _ (lists : Lists) (p : Pricing) (numbering : Numbering) (market : IsTreeMarket lists p numbering) where
-  adds : AddsUp lists p
+  adds : AddsAtEachStep lists p
   adds = market_adds lists p numbering market
 
   falls : (cut : Cut) (y : ℕ) → NeverRises (sum_of_offers p cut y)

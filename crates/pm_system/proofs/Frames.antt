@@ -35,7 +35,8 @@ use Rattle.pm_system.proofs.Runs.{system_runs}
 abbrev AreNumbered : Pricing → System → Type 0
 AreNumbered p sys = (x k : ℕ) → k < length (sys.bids_sent x) → 1 ≤ (bid_in_channel p sys x k).number
 
-kept_number : (p : Pricing) (n : ℕ) (o : Option (List ℤ)) → (bid_kept p n o).number ≡ n
+-- the bid that a device has of what is stored has the stored number
+pub kept_number : (p : Pricing) (n : ℕ) (o : Option (List ℤ)) → (bid_kept p n o).number ≡ n
 kept_number p n None = Rattle.std.proofs.Common.refl
 kept_number p n (Some demand) = Rattle.std.proofs.Common.refl
 

@@ -17,7 +17,8 @@ use Rattle.pm_net_plan.proofs.Children.{is_numbering}
 use Rattle.pm_relay_net.proofs.Places.{demands_of-same, demands_of-none}
 use Rattle.pm_system.specs.Given.{IsTreeMarket, IsGiven, placed_pricing}
 
-some_same : (l k : Limits) → Some l ≡ Some k → l ≡ k
+-- limits that are given alike are the same
+pub some_same : (l k : Limits) → Some l ≡ Some k → l ≡ k
 some_same l k e = cc
 
 module _ (lists : Lists) (steps : ℕ) (demand : ℕ → ℕ → List ℤ) (limits : ℕ → ℕ → Limits) (giver : ℕ → ℕ)

@@ -55,7 +55,7 @@ said limits steps sum long falls = record {
 }
 
 -- zeros are such a demand
-zeros_demand : (steps : ℕ) → IsDemand steps (zeros steps)
+pub zeros_demand : (steps : ℕ) → IsDemand steps (zeros steps)
 zeros_demand steps = record {
   one_each = length-zeros steps;
   small = zeros-within demand_limit steps;

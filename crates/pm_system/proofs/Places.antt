@@ -12,7 +12,7 @@ use Rattle.pm_market.specs.Lists.{Lists, nodes, parent, IsNode}
 use Rattle.pm_market.specs.Offers.{int_sum_to, sum_children}
 use Rattle.pm_laws.proofs.Offers.{int_sum_same, int_sum_none, int_sum_swap, int_sum_only}
 use Rattle.pm_net.specs.Pricing.{Pricing}
-use Rattle.pm_net.specs.Flow.{AddsUp}
+use Rattle.pm_net.specs.Flow.{AddsAtEachStep}
 use Rattle.pm_net_plan.specs.Places.{Numbering, IsNumbering, demand_in, demands_of}
 use Rattle.pm_system.specs.Given.{IsTreeMarket}
 
@@ -137,7 +137,7 @@ module _ (lists : Lists) (numbering : Numbering) (is : IsNumbering lists numberi
       ∙ placed_sum lists numbering is y (λ x. demand_at (f x) k)
 
 -- a market adds up
-pub market_adds : (lists : Lists) (p : Pricing) (numbering : Numbering) → IsTreeMarket lists p numbering → AddsUp lists p
+pub market_adds : (lists : Lists) (p : Pricing) (numbering : Numbering) → IsTreeMarket lists p numbering → AddsAtEachStep lists p
 market_adds lists p numbering market = record {
   some = omega (arith, market.steps.least);
   one_each = λ d n leaf. (market.demands d n leaf).one_each;

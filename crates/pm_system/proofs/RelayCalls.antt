@@ -39,7 +39,7 @@ use Rattle.pm_relay_net.proofs.PricesDown.{none_to_others}
 use Rattle.pm_session.specs.Prices.{price_to}
 use Rattle.pm_system.specs.System.{System, price_in_channel, price_stored}
 use Rattle.pm_system.specs.Calls as call
-use Rattle.pm_system.specs.Calls.{LearnsBid, LearnsLimits, RelayTakesBid, RelaySends, RelayStops, RelayResends, RelayTakesPrice, RelayRestarts}
+use Rattle.pm_system.specs.Calls.{LearnsChildBid, LearnsLimits, RelayTakesBid, RelaySends, RelayStops, RelayResends, RelayTakesPrice, RelayRestarts}
 use Rattle.pm_system.specs.Given.{IsTreeMarket}
 use Rattle.pm_system.specs.Market.{SystemIs, IsExpired}
 use Rattle.pm_system.proofs.Moving.{Follows, relay_no_leaf, parent_relay, same_bid, same_price, bids_in, sent_prices, relay_moves, its_place}
@@ -106,9 +106,9 @@ module _ (lists : Lists) (p : Pricing) (numbering : Numbering) (market : IsTreeM
     none = gone_zeros lists p numbering market s x did.node (sent_bid p net x at)
         (agrees.bids_sent x at did.node (bids_in lists p numbering market.places devices sys sys_is x k did.node did.inside))
 
-    looks : LearnsBid lists p numbering sys x (sent_bid p net x at) did.relay ⊎ LearnsLimits lists p numbering sys x (sent_bid p net x at) did.relay
+    looks : LearnsChildBid lists p numbering sys x (sent_bid p net x at) did.relay ⊎ LearnsLimits lists p numbering sys x (sent_bid p net x at) did.relay
     looks =
-        let Looks : BidMessage → Type 0 = λ b. LearnsBid lists p numbering sys x b did.relay ⊎ LearnsLimits lists p numbering sys x b did.relay in
+        let Looks : BidMessage → Type 0 = λ b. LearnsChildBid lists p numbering sys x b did.relay ⊎ LearnsLimits lists p numbering sys x b did.relay in
         subst Looks (same_bid lists p numbering market.places devices sys sys_is x k did.node did.inside) did.learnt
 
     abbrev once : Network

@@ -18,7 +18,7 @@ use Rattle.pm_relay.specs.declared.outcome.PriceOutcome.{PriceOutcome}
 use Rattle.pm_relay.specs.declared.outcome.PriceOutcome.TheVariants.{PassedOn, Alone, Waits, Dropped}
 use Rattle.pm_relay_net.specs.RelayIs.{update_of}
 use Rattle.pm_system.specs.System.{System, bid_in_channel, price_in_channel, price_stored}
-use Rattle.pm_system.specs.Calls.{NodeCall, Does, IsNoRestart, DeviceChanges, LearnsBid, LearnsLimits}
+use Rattle.pm_system.specs.Calls.{NodeCall, Does, IsNoRestart, DeviceChanges, LearnsChildBid, LearnsLimits}
 use Rattle.pm_system.specs.Calls.{Bids, Expires, TakesBid, Sends, Clears, TakesPrice, Restarts, StopsBidding, Resends, StopsClearing, TellsOne}
 use Rattle.pm_system.specs.Settled.{index_of_held}
 
@@ -94,7 +94,7 @@ looks_index old new (inl did) = omega (arith, did.1.index)
 looks_index old new (inr stays) = omega (arith, ap (λ (r : RelayValue). r.index) stays.1)
 
 learnt_index : (lists : Lists) (p : Pricing) (numbering : Numbering) (sys : System) (x : ℕ) (bid : BidMessage) (relay : RelayValue) →
-    LearnsBid lists p numbering sys x bid relay ⊎ LearnsLimits lists p numbering sys x bid relay → (sys.relays (parent lists x)).index ≤ relay.index
+    LearnsChildBid lists p numbering sys x bid relay ⊎ LearnsLimits lists p numbering sys x bid relay → (sys.relays (parent lists x)).index ≤ relay.index
 learnt_index lists p numbering sys x bid relay (inl did) = looks_index _ relay did.learnt
 learnt_index lists p numbering sys x bid relay (inr did) =
     let r : RelayValue = sys.relays (parent lists x) in

@@ -120,7 +120,8 @@ one_or_two P one two zero inside = one
 one_or_two P one two (suc zero) inside = two
 one_or_two P one two (suc (suc k)) inside = absurd (omega (arith, inside))
 
-only_one : (P : ℕ → Type 0) → P 0 → (k : ℕ) → k < 1 → P k
+-- what holds of 0 holds of each number below 1
+pub only_one : (P : ℕ → Type 0) → P 0 → (k : ℕ) → k < 1 → P k
 only_one P one zero inside = one
 only_one P one (suc k) inside = absurd (omega (arith, inside))
 

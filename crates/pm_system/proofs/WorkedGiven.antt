@@ -11,7 +11,7 @@ use Rattle.pm_net.proofs.Messages.{either}
 use Rattle.pm_net_plan.specs.Places.{HasFewChildren}
 use Rattle.pm_net_plan.proofs.Children.{small}
 use Rattle.pm_system.specs.Given.{IsDemand, IsGiven, IsTreeMarket}
-use Rattle.pm_system.specs.Worked.{small_tree, small_places, small_limits, no_giver, small_demand, small_offer, small_pricing}
+use Rattle.pm_system.specs.Worked.{small_tree, small_places, small_limits, no_giver, small_device_demand, small_offer, small_pricing}
 use Rattle.pm_system.proofs.Given.{is_market}
 
 three_within : (a b c : ℤ) → IsWithin demand_limit a → IsWithin demand_limit b → IsWithin demand_limit c → (step : ℕ) → step < 3 →
@@ -41,7 +41,7 @@ within a low high = record { low = omega (arith, ints, low); high = omega (arith
 below : (a : ℤ) → negsuc 8 ≤ℤ a → a ≤ℤ pos 0 → IsWithin demand_limit a
 below a low high = record { low = omega (arith, ints, low); high = omega (arith, ints, high) }
 
-small_is_demand : (d n : ℕ) → IsDemand 3 (small_demand d n)
+small_is_demand : (d n : ℕ) → IsDemand 3 (small_device_demand d n)
 small_is_demand d n =
     let Is : List ℤ → Type 0 = λ l. IsDemand 3 l in
     either Is (is_member small_tree d n) (small_offer d n) (zeros 3)
@@ -113,7 +113,7 @@ lawful = record {
 }
 
 -- so all that holds of markets holds of it
-pub given : IsGiven small_tree 3 small_demand (λ c n. small_limits) no_giver
+pub given : IsGiven small_tree 3 small_device_demand (λ c n. small_limits) no_giver
 given = record {
   law = lawful;
   one_phase = refl;
@@ -136,4 +136,4 @@ given = record {
 
 -- the small tree is a market
 pub market : IsTreeMarket small_tree small_pricing small_places
-market = is_market small_tree 3 small_demand (λ c n. small_limits) no_giver given
+market = is_market small_tree 3 small_device_demand (λ c n. small_limits) no_giver given

@@ -112,7 +112,7 @@ pub record DeviceRestarts (lists : Lists) (sys : System) (d k : ℕ) (new : Syst
 -- ---- a relay
 
 -- it learns a child's bid, by whose numbers its limits do not go
-pub record LearnsBid (lists : Lists) (p : Pricing) (numbering : Numbering) (sys : System) (x : ℕ) (bid : BidMessage) (relay : RelayValue) : Type 0 where
+pub record LearnsChildBid (lists : Lists) (p : Pricing) (numbering : Numbering) (sys : System) (x : ℕ) (bid : BidMessage) (relay : RelayValue) : Type 0 where
   pub passes : LimitsPassBy p (parent lists x) x
   pub learnt : LooksForRecord (with_child_bid (sys.relays (parent lists x)) (numbering.place x) bid.number (told_demand bid)) relay
 
@@ -128,7 +128,7 @@ pub record RelayTakesBid (lists : Lists) (p : Pricing) (numbering : Numbering) (
   pub below : parent lists x ≡ 0 → ⊥
   pub inside : k < length (sys.bids_sent x)
   pub relay : RelayValue
-  pub learnt : LearnsBid lists p numbering sys x (bid_in_channel p sys x k) relay
+  pub learnt : LearnsChildBid lists p numbering sys x (bid_in_channel p sys x k) relay
       ⊎ LearnsLimits lists p numbering sys x (bid_in_channel p sys x k) relay
   pub new_is : new ≡ with_relay sys (parent lists x) relay
 

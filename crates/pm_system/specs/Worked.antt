@@ -34,8 +34,8 @@ small_offer d n =
     if d == 3 then (pos 3 ∷ pos 1 ∷ negsuc 0 ∷ [])
     else (if n == 2 then (pos 6 ∷ pos 4 ∷ negsuc 1 ∷ []) else (pos 6 ∷ negsuc 1 ∷ negsuc 2 ∷ []))
 
-abbrev pub small_demand : ℕ → ℕ → List ℤ
-small_demand d n = if is_member small_tree d n then small_offer d n else zeros 3
+abbrev pub small_device_demand : ℕ → ℕ → List ℤ
+small_device_demand d n = if is_member small_tree d n then small_offer d n else zeros 3
 
 -- the relay holds its part between -3 and 7 watts, under all numbers: no device gives it other limits
 abbrev pub small_limits : Limits
@@ -45,7 +45,7 @@ abbrev pub no_giver : ℕ → ℕ
 no_giver c = 0
 
 abbrev pub small_pricing : Pricing
-small_pricing = placed_pricing small_tree 3 small_demand (λ c n. small_limits) no_giver
+small_pricing = placed_pricing small_tree 3 small_device_demand (λ c n. small_limits) no_giver
 
 -- Both devices offer; the relay learns and sends, the root learns and clears. The price is lost. Device 2 offers anew, and the relay
 -- learns it and makes its next bid; its process is killed before the bid is sent, and comes back. It hears both devices again, so it
