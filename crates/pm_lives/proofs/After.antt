@@ -11,12 +11,15 @@ use Rattle.pm_system.specs.System.{System}
 use Rattle.pm_system.specs.Calls.{NodeCall, SystemRuns, StaysUp, IsNoRestart}
 use Rattle.pm_system.specs.Calls as call
 
+-- a run after a run is a run
 pub runs_on : (lists : Lists) (p : Pricing) (numbering : Numbering) (first then : List NodeCall) (sys mid new : System) →
     SystemRuns lists p numbering sys first mid → SystemRuns lists p numbering mid then new → SystemRuns lists p numbering sys (first ++ then) new
 runs_on lists p numbering [] then sys mid new one two = subst (λ (t : System). SystemRuns lists p numbering t then new) (sym one) two
 runs_on lists p numbering (x ∷ first) then sys mid new one two = (one.0, one.1, runs_on lists p numbering first then one.0 mid new one.2 two)
 
-pub calm_on : (Lets : ℕ → ℕ → Type 0) (c : ℕ) (first then : List NodeCall) → AreCalm Lets c first → AreCalm Lets c then → AreCalm Lets c (first ++ then)
+-- calm calls after calm calls are calm
+pub calm_on : (Lets : ℕ → ℕ → Type 0) (c : ℕ) (first then : List NodeCall) → AreCalm Lets c first → AreCalm Lets c then →
+    AreCalm Lets c (first ++ then)
 calm_on Lets c [] then one two = two
 calm_on Lets c (x ∷ first) then one two = (one.0, calm_on Lets c first then one.1 two)
 
@@ -38,13 +41,15 @@ pub calm_up : (Lets : ℕ → ℕ → Type 0) (x : ℕ) (calls : List NodeCall) 
 calm_up Lets x [] are = tt
 calm_up Lets x (one ∷ calls) are = (calm_call_up Lets x one are.0, calm_up Lets x calls are.1)
 
+-- calls over which a node stays up, after such calls, are such calls
 pub up_on : (c : ℕ) (first then : List NodeCall) → StaysUp c first → StaysUp c then → StaysUp c (first ++ then)
 up_on c [] then one two = two
 up_on c (x ∷ first) then one two = (one.0, up_on c first then one.1 two)
 
 -- ---- what follows, one after the other
 
-module _ {K : Type 0} (lists : Lists) (p : Pricing) (numbering : Numbering) (Lets : ℕ → ℕ → Type 0) (MayBeKept : System → K → Type 0) (y : ℕ) where
+module _ {K : Type 0} (lists : Lists) (p : Pricing) (numbering : Numbering) (Lets : ℕ → ℕ → Type 0) (MayBeKept : System → K → Type 0)
+    (y : ℕ) where
   abbrev FollowsSo : (System → Type 0) → System → List (Output K) → Type 0
   FollowsSo Stands sys outs = FollowsByCalls lists p numbering Lets MayBeKept Stands sys y outs
 
@@ -76,10 +81,14 @@ module _ {K : Type 0} (lists : Lists) (p : Pricing) (numbering : Numbering) (Let
     first = inl (λ stored kept. kept);
   }
 
-  pub says_if : (Stands : System → Type 0) (sys : System) (test : Bool) (said : List ℕ) → Stands sys → FollowsSo Stands sys (cond test (Says said ∷ []) [])
+  -- to say something, or nothing, is no call
+  pub says_if : (Stands : System → Type 0) (sys : System) (test : Bool) (said : List ℕ) → Stands sys →
+      FollowsSo Stands sys (cond test (Says said ∷ []) [])
   says_if Stands sys test said stands =
-      either (λ (l : List (Output K)). FollowsSo Stands sys l) test (Says said ∷ []) [] (λ e. says Stands sys said stands) (λ e. nothing_follows Stands sys stands)
+      either (λ (l : List (Output K)). FollowsSo Stands sys l) test (Says said ∷ []) [] (λ e. says Stands sys said stands)
+      (λ e. nothing_follows Stands sys stands)
 
+  -- the calls of a first part of an answer, and then those of the rest, are calls of the whole answer
   pub follows_then : (First Then : System → Type 0) (sys : System) (reply more : List (Output K)) (first : FollowsSo First sys reply)
       (then : FollowsSo Then first.new more) → ((stored : K) → MayBeKept first.new stored → MayBeKept then.new stored) →
       FollowsSo Then sys (reply ++ more)

@@ -1,5 +1,6 @@
 -- What a price does to the agent of a device.
-use Rattle.std.proofs.Common.{◌≡◌, ◌⊎◌, ◌∙◌, sym, ap, subst, ℕ, ◌+◌, ◌-◌, ◌<◌, ◌≤◌, Bool, true, false, cond, eqb, leb, ltb, ℤ, List, [], ◌∷◌, ◌++◌, Option, Some, None, refl, inl, inr, arith, le-leb, le_trans}
+use Rattle.std.proofs.Common.{◌≡◌, ◌⊎◌, ◌∙◌, sym, ap, subst, ℕ, ◌+◌, ◌-◌, ◌<◌, ◌≤◌, Bool, true, false, cond}
+use Rattle.std.proofs.Common.{eqb, leb, ltb, ℤ, List, [], ◌∷◌, ◌++◌, Option, Some, None, refl, inl, inr, arith, le-leb, le_trans}
 use Rattle.std.proofs.lemmas.Bool.{cases_Bool, cond-true, cond-false, eqb-true, eq-eqb, both_ways}
 use Rattle.std.specs.List.{AllByRecursion, find, filter}
 use Rattle.pm_net.specs.Messages.{PriceMessage}
@@ -11,11 +12,14 @@ use Rattle.pm_control.specs.Control.{newest_demand, demand_of_kept}
 abbrev pub AreWithin : ℕ → List Offer → Type 0
 AreWithin most offers = AllByRecursion (λ (offer : Offer). offer.number ≤ most) offers
 
+-- offers up to a number are up to a greater one
 pub within_more : (most more : ℕ) → most ≤ more → (offers : List Offer) → AreWithin most offers → AreWithin more offers
 within_more most more le [] are = tt
 within_more most more le (offer ∷ offers) are = (omega (arith, le, are.0), within_more most more le offers are.1)
 
-pub within_push : (most : ℕ) (offers : List Offer) (last : Offer) → AreWithin most offers → last.number ≤ most → AreWithin most (offers ++ last ∷ [])
+-- so they are with one more whose number is up to it
+pub within_push : (most : ℕ) (offers : List Offer) (last : Offer) → AreWithin most offers → last.number ≤ most →
+    AreWithin most (offers ++ last ∷ [])
 within_push most [] last are le = (le, tt)
 within_push most (offer ∷ offers) last are le = (are.0, within_push most offers last are.1 le)
 
@@ -53,10 +57,13 @@ found_kept from n le (x ∷ offers) = elim (cases_Bool (eqb x.number n)) [
 
 -- what a price leaves
 pub record PriceLeaves (old : DeviceAgent) (price : PriceMessage) (new : DeviceAgent) : Type 0 where
+  -- the agent gives no number
   pub number : new.number ≡ old.number
   pub newest : newest_demand new ≡ newest_demand old
+  -- its newest index never falls
   pub rises : old.index ≤ new.index
   pub index : (new.index ≡ old.index) ⊎ (new.index ≡ price.index)
+  -- its offers have numbers up to its own
   pub within : AreWithin new.number new.offers
 
 answered_leaves : (old : DeviceAgent) (price : PriceMessage) → AreWithin old.number old.offers → old.index < price.index → (o : Option Offer) →
@@ -76,6 +83,7 @@ answered_leaves old price within newer (Some offer) is = record {
   within = filter_within old.number (λ (x : Offer). leb price.number x.number) old.offers within;
 }
 
+-- after a price it is so
 pub price_leaves : (old : DeviceAgent) (price : PriceMessage) → AreWithin old.number old.offers → PriceLeaves old price (after_price old price)
 price_leaves old price within =
     either (PriceLeaves old price) (ltb old.index price.index) (answered_by old price (kept_offer old price.number)) old

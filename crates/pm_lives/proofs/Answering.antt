@@ -1,5 +1,6 @@
 -- The bytes of an answer, frame by frame.
-use Rattle.std.proofs.Common.{◌≡◌, ◌∙◌, sym, ap, subst, ℕ, ◌+◌, ◌≤◌, ◌^◌, Bool, true, false, cond, not, ◌&&◌, eqb, leb, ltb, ℤ, List, [], ◌∷◌, ◌++◌, Option, Some, None, refl, inl, inr, arith, append-nil, ltb-true}
+use Rattle.std.proofs.Common.{◌≡◌, ◌∙◌, sym, ap, subst, ℕ, ◌+◌, ◌≤◌, ◌^◌, Bool, true, false, cond, not, ◌&&◌, eqb}
+use Rattle.std.proofs.Common.{leb, ltb, ℤ, List, [], ◌∷◌, ◌++◌, Option, Some, None, refl, inl, inr, arith, append-nil, ltb-true}
 use Rattle.std.proofs.lemmas.Bool.{cond-true, cond-false, ne_eqb}
 use Rattle.pm_base.specs.declared.limits.Limits.{Limits}
 use Rattle.pm_cache.specs.Cache.{kept_number}
@@ -19,7 +20,8 @@ use Rattle.pm_relay.specs.declared.outcome.PriceOutcome.TheVariants.{PassedOn, A
 use Rattle.pm_basis.specs.Prices.{BasisValue}
 use Rattle.pm_concentrator.specs.Concentrators.{own_demand}
 use Rattle.pm_wire.specs.Frames.{frame_bytes}
-use Rattle.pm_frames.specs.Answers.{dropped_bytes, setpoint_bytes, out_of_numbers_bytes, window_full_bytes, too_much_bytes, other_basis_bytes, out_of_limits_bytes}
+use Rattle.pm_frames.specs.Answers.{dropped_bytes, setpoint_bytes, out_of_numbers_bytes, window_full_bytes, too_much_bytes, other_basis_bytes}
+use Rattle.pm_frames.specs.Answers.{out_of_limits_bytes}
 use Rattle.pm_frames.specs.Stored.{StoredRoot}
 use Rattle.pm_frames.specs.Stored.{StoredRelay, relay_resume_bytes, root_resume_bytes, agent_resume_bytes}
 use Rattle.pm_frames.specs.declared.stored.StoredAgent.{StoredAgent}
@@ -32,8 +34,10 @@ use Rattle.pm_frames.specs.declared.root.RootFrame.TheVariants as root_frame
 use Rattle.pm_frames.specs.declared.device.DeviceFrame.{DeviceFrame}
 use Rattle.pm_frames.specs.declared.device.DeviceFrame.TheVariants as device_frame
 use Rattle.pm_services.specs.Receipts.{sender_place, receipt_bytes}
-use Rattle.pm_services.specs.RelayAnswers.{WaitingRelay, OpenRelay, stored_relay, has_step_within, own_resume_bytes, own_bid_bytes, down_bytes, dropped_with, price_reply, bid_again}
-use Rattle.pm_services.specs.RelayAnswers.{not_sent_reply, with_held, TriesWaiting, AnswersBid, AnswersLimits, AnswersPrice, AnswersSend, AnswersExpire, AnswersGivenIn, AnswersFrame}
+use Rattle.pm_services.specs.RelayAnswers.{WaitingRelay, OpenRelay, stored_relay, has_step_within, own_resume_bytes, own_bid_bytes, down_bytes}
+use Rattle.pm_services.specs.RelayAnswers.{dropped_with, price_reply, bid_again}
+use Rattle.pm_services.specs.RelayAnswers.{not_sent_reply, with_held, TriesWaiting, AnswersBid, AnswersLimits, AnswersPrice, AnswersSend}
+use Rattle.pm_services.specs.RelayAnswers.{AnswersExpire, AnswersGivenIn, AnswersFrame}
 use Rattle.pm_services.specs.RelaySetups.{RelaySetup}
 use Rattle.pm_services.specs.RootAnswers.{OpenRoot, stored_root, clearing_bytes, not_cleared_reply, AnswersRootBid, AnswersRootFrame}
 use Rattle.pm_services.specs.DeviceAnswers as device
@@ -83,7 +87,8 @@ module _ (own : RelaySetup) where
   price_written waiting r price PassedOn =
       let step : ℕ = settled_step_of_record (limits_of_number r price.number) price.step (record_at r price.number).sum in
       written_then relay_resume_bytes own.basis own.child (downs price.index step 0 (record_at r price.number).heads) (Keeps (stored_relay own r) ∷ [])
-      (down_bytes own r price) (own_resume_bytes own r) (downs_written relay_resume_bytes own.basis own.child price.index step 0 (record_at r price.number).heads)
+      (down_bytes own r price) (own_resume_bytes own r)
+      (downs_written relay_resume_bytes own.basis own.child price.index step 0 (record_at r price.number).heads)
       (sym (append-nil (own_resume_bytes own r)))
   price_written waiting r price Alone = sym (append-nil (own_resume_bytes own r))
   price_written waiting r price Waits = drop_written waiting price
@@ -103,7 +108,7 @@ module _ (own : RelaySetup) where
     written = did.replied ∙ price_written None new.relay price did.outcome;
   }
 
-  pub bid_answer : (old : WaitingRelay) (sender number : ℕ) (demand : Option (List ℤ)) (new : WaitingRelay) (reply : List ℕ) →
+  bid_answer : (old : WaitingRelay) (sender number : ℕ) (demand : Option (List ℤ)) (new : WaitingRelay) (reply : List ℕ) →
       AnswersBid own old sender number demand new reply →
       (outs : List (Output StoredRelay)) × WritesBid own old sender number demand new outs × (reply ≡ bytes_of outs)
   bid_answer old sender number demand new reply a =
@@ -119,6 +124,7 @@ module _ (own : RelaySetup) where
             (again_written test a.learnt) w.written),
       )
 
+  -- the answer to new limits is frames that a relay writes when it learns limits
   pub limits_written : (old : WaitingRelay) (sender number : ℕ) (limits : Limits) (new : WaitingRelay) (reply : List ℕ) →
       AnswersLimits own old sender number limits new reply →
       (outs : List (Output StoredRelay)) × WritesLimits own old sender number limits new outs × (reply ≡ bytes_of outs)
@@ -203,7 +209,8 @@ left_frames old new frame reply is outs writes written = record {
   written = written;
 }
 
-given_frames : (giver : Option ℕ) (old : OpenRelay) (number : ℕ) (limits : Limits) (new : OpenRelay) (reply : List ℕ) → old.setup.terms.giver ≡ giver →
+given_frames : (giver : Option ℕ) (old : OpenRelay) (number : ℕ) (limits : Limits) (new : OpenRelay) (reply : List ℕ) →
+    old.setup.terms.giver ≡ giver →
     AnswersGivenIn giver old number limits new reply → AnswersInFrames old (given.Limits number limits) new reply
 given_frames None old number limits new reply is did =
     left_frames old new (given.Limits number limits) reply did.0 []
@@ -213,6 +220,7 @@ given_frames (Some giver) old number limits new reply is did =
     held_frames old new (given.Limits number limits) reply did.0 did.1 w.0
     (subst (λ (g : Option ℕ). WritesGiven g old.setup old.held number limits did.0 w.0) (sym is) w.1) w.2
 
+-- what the service of a relay answers to a frame is frames that a relay writes
 pub relay_answers_frames : (old : OpenRelay) (frame : RelayFrame) (new : OpenRelay) (reply : List ℕ) → IsNoResume frame →
     AnswersFrame old frame new reply → AnswersInFrames old frame new reply
 relay_answers_frames old (Child (Hello basis)) new reply other did = left_frames old new (Child (Hello basis)) reply did.0 [] (refl, refl) did.1
@@ -290,6 +298,7 @@ root_left : (old new : OpenRoot) (frame : RootFrame) (reply : List ℕ) → new 
     WritesRoot old.basis old.root frame old.root outs → reply ≡ root_bytes old.basis outs → RootAnswersInFrames old frame new reply
 root_left old new frame reply is outs writes written = root_frames old new frame reply old.root is outs writes written
 
+-- what the service of an auctioneer answers is frames that an auctioneer writes
 pub root_answers_frames : (old : OpenRoot) (frame : RootFrame) (new : OpenRoot) (reply : List ℕ) → IsNoRootResume frame →
     AnswersRootFrame old frame new reply → RootAnswersInFrames old frame new reply
 root_answers_frames old (root_frame.Market (Hello basis)) new reply other did =
@@ -338,7 +347,8 @@ module _ (p : Pricing) (own : BasisValue) (child : ℕ) where
       (e ∙ ap (λ (o : Option (List ℤ)). up_bytes child (bid_kept p after.number o)) (sym is)
       ∙ sym (append-nil (up_bytes child (bid_kept p after.number (newest_demand after)))))
 
-  sent_again_is : (number : ℕ) (newest : Option (List ℤ)) → 1 ≤ number → device.sent_again child number newest ≡ up_bytes child (bid_kept p number newest)
+  sent_again_is : (number : ℕ) (newest : Option (List ℤ)) → 1 ≤ number →
+      device.sent_again child number newest ≡ up_bytes child (bid_kept p number newest)
   sent_again_is number (Some demand) some = refl
   sent_again_is number None some = cond-false (eqb number 0) [] (Rattle.pm_wire.specs.Frames.frame_bytes (Gone child number))
       (ne_eqb number 0 (λ e. omega (arith, e, some)))
@@ -381,7 +391,8 @@ module _ (p : Pricing) (own : BasisValue) (child : ℕ) where
       leave_written (ltb (agent.number + 3) (2 ^ 32)) _ (made_outs p own (after_leaving agent)) (made_written (after_leaving agent) None refl _ refl)
   device_in_frames agent (device_frame.Parent (Price number_at number index step basis)) within other same =
       cond-true (device.same_basis basis own) (device.price_reply own agent (price_message number index step)) (other_basis_bytes number index) same
-      ∙ told_written (after_price agent (price_message number index step)) (price_message number index step) (setpoints_for agent (price_message number index step))
+      ∙ told_written (after_price agent (price_message number index step)) (price_message number index step)
+      (setpoints_for agent (price_message number index step))
   device_in_frames agent (device_frame.Parent (Old number_at kept)) within other same =
       old_written agent (after_old agent kept) (ltb agent.number (after_old agent kept).number) refl
   device_in_frames agent (device_frame.Resume stored) within other same = absurd other
@@ -398,7 +409,9 @@ module _ (p : Pricing) (own : BasisValue) (child : ℕ) where
   device_after_frame agent (device_frame.Parent (Old number_at kept)) same = refl
   device_after_frame agent (device_frame.Resume stored) same = refl
 
-pub device_answers_frames : (p : Pricing) (child : ℕ) (basis' : BasisValue) (agent' : DeviceAgent) (frame : DeviceFrame) → AreWithin agent'.number agent'.offers →
+-- what the service of a device answers is the frames of its agent, which is then as after the frame
+pub device_answers_frames : (p : Pricing) (child : ℕ) (basis' : BasisValue) (agent' : DeviceAgent) (frame : DeviceFrame) →
+    AreWithin agent'.number agent'.offers →
     IsNoDeviceResume frame → IsOfBasis basis' frame →
     (device.device_reply child (record { agent = agent'; basis = basis' }) frame
     ≡ outputs_bytes agent_resume_bytes basis' child (device_outs p basis' agent' frame))
@@ -406,6 +419,7 @@ pub device_answers_frames : (p : Pricing) (child : ℕ) (basis' : BasisValue) (a
 device_answers_frames p child basis agent frame within other same =
     (device_in_frames p basis child agent frame within other same, device_after_frame p basis child agent frame same)
 
+-- a device that is given a price of another basis says so, and does not change
 pub device_says_other : (child : ℕ) (node : device.OpenDevice) (frame : DeviceFrame) → IsOfOtherBasis node.basis frame →
     (device.open_device_after node frame ≡ node) × SaysOtherBasis (device.device_reply child node frame) frame
 device_says_other child node (device_frame.Hello basis) other = absurd other

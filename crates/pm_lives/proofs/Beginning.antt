@@ -1,5 +1,6 @@
 -- A node that begins a life, with what is stored of it, is a call of the system that restarts it.
-use Rattle.std.proofs.Common.{◌≡◌, ◌∙◌, sym, ap, subst, subst₂, ℕ, ◌≤◌, eqb, leb, ℤ, List, [], ◌∷◌, length, Option, Some, None, refl, inl, inr, arith, le-leb}
+use Rattle.std.proofs.Common.{◌≡◌, ◌∙◌, sym, ap, subst, subst₂, ℕ, ◌≤◌, eqb, leb, ℤ, List, [], ◌∷◌, length, Option}
+use Rattle.std.proofs.Common.{Some, None, refl, inl, inr, arith, le-leb}
 use Rattle.std.proofs.lemmas.Bool.{cases_Bool, cond-true, cond-false, eq-eqb}
 use Rattle.pm_base.specs.declared.limits.Limits.{Limits}
 use Rattle.pm_market.specs.Lists.{Lists, IsConcentrator, IsLeaf}
@@ -36,12 +37,16 @@ use Rattle.pm_lives.proofs.Giving.{GivesOnly}
 -- the system after a node began: it stands for it, and what is stored may stay
 pub record Began {K : Type 0} (lists : Lists) (p : Pricing) (numbering : Numbering) (Stands : System → Type 0) (MayBeKept : System → Type 0)
     (sys : System) (y : ℕ) (outs : List (Output K)) : Type 0 where
+  -- the calls by which it begins
   pub calls : List NodeCall
   pub new : System
+  -- they lead to the new system
   pub runs : SystemRuns lists p numbering sys calls new
   pub only : OnlyMoves y sys new
+  -- the node stands for its part there
   pub stands : Stands new
   pub kept : MayBeKept new
+  -- each message in its first frames was sent
   pub sent : WereSent lists p numbering new y outs
   -- nobody else restarts
   pub up : (x : ℕ) → (x ≡ y → ⊥) → StaysUp x calls
@@ -61,7 +66,8 @@ record StoredWhole (sys : System) (x held_number held_index number index : ℕ) 
 
 none_there : (sys : System) (x held_number held_index : ℕ) → price_stored sys x (length (sys.prices_sent x)) held_number held_index ≡ no_price
 none_there sys x held_number held_index =
-    let none : price_in_channel sys x (length (sys.prices_sent x)) ≡ no_price = past (sys.prices_sent x) (length (sys.prices_sent x)) no_price (omega arith) in
+    let none : price_in_channel sys x (length (sys.prices_sent x)) ≡ no_price =
+    past (sys.prices_sent x) (length (sys.prices_sent x)) no_price (omega arith) in
     cond-true (leb (price_in_channel sys x (length (sys.prices_sent x))).index held_index) (price_in_channel sys x (length (sys.prices_sent x)))
     (price_message held_number held_index 0)
     (le-leb (price_in_channel sys x (length (sys.prices_sent x))).index held_index (omega (arith, ap (λ (q : PriceMessage). q.index) none)))
@@ -193,11 +199,13 @@ module _ (lists : Lists) (p : Pricing) (numbering : Numbering) where
   newest_stored number (Some demand) index =
       ap demand_of_kept (cond-true (eqb number number) (Some (record { number = number; demand = demand })) None (eq-eqb number number refl))
 
+  -- an agent that comes back has offers with numbers up to its own
   pub within_stored : (number : ℕ) (newest : Option (List ℤ)) (index : ℕ) →
       Rattle.pm_lives.proofs.AgentFacts.AreWithin number (agent_stored number newest index).offers
   within_stored number None index = tt
   within_stored number (Some demand) index = (omega arith, tt)
 
+  -- a device that begins with what is stored of it is a call that restarts it
   pub device_begins : (sys : System) (d : ℕ) → IsLeaf lists d → (stored : StoredAgent) → IsAgentKept sys d stored →
       Began lists p numbering (λ t. AgentStands t d (agent_stored stored.number stored.newest stored.index)) (λ t. IsAgentKept t d stored) sys d
       (restart_outs p stored)
@@ -261,7 +269,10 @@ module _ (lists : Lists) (p : Pricing) (numbering : Numbering) where
                   inr (record {
                     leaf = leaf;
                     some = subst (λ (b : DeviceAgent). 1 ≤ b.number) (sym is)
-                        (omega (arith, λ (z : stored.number ≡ 0). Rattle.std.proofs.lemmas.Bool.both_ways (eqb stored.number 0) some (eq-eqb stored.number 0 z)));
+                        (omega (
+                          arith,
+                          λ (z : stored.number ≡ 0). Rattle.std.proofs.lemmas.Bool.both_ways (eqb stored.number 0) some (eq-eqb stored.number 0 z),
+                        ));
                     new_is = ap (λ (b : BidMessage). with_bid_sent mid d b) bid_is;
                   }),
                   refl,

@@ -1,5 +1,6 @@
 -- Lists over a tree, and a market, in which each device is a member as is wanted.
-use Rattle.std.proofs.Common.{◌≡◌, ◌∙◌, sym, ap, subst, ℕ, ℤ, zero, suc, ◌+◌, ◌<◌, ◌≤◌, Bool, true, false, cond, eqb, List, [], ◌∷◌, length, map, get_or, Some, refl, inl, inr, arith}
+use Rattle.std.proofs.Common.{◌≡◌, ◌∙◌, sym, ap, subst, ℕ, ℤ, zero, suc, ◌+◌, ◌<◌, ◌≤◌, Bool, true, false, cond, eqb}
+use Rattle.std.proofs.Common.{List, [], ◌∷◌, length, map, get_or, Some, refl, inl, inr, arith}
 use Rattle.std.proofs.lemmas.Bool.{cases_eq, cond-true, cond-false, eq-eqb, ne_eqb}
 use Rattle.std.proofs.lemmas.List.FromFn.{get_or-map-range_with_len}
 use Rattle.std.specs.List.{range_with_len}
@@ -36,17 +37,16 @@ pricing_of lists numbering steps' demand' p = tree_pricing lists (record {
   add = λ y f. sum_of steps' (demands_of steps' numbering y f);
 })
 
-some_same : (l k : Limits) → Some l ≡ Some k → l ≡ k
-some_same l k e = cc
-
 module _ (tree : Lists) (member : ℕ → ℕ → Bool) (count : ℕ) where
   abbrev lists : Lists
   lists = lists_of tree member count
 
   row : (d : ℕ) → IsNode tree d → get_or ([] ∷ (lists_of tree member count).members) d [] ≡ map (member d) (range_with_len 1 count)
   row zero node = absurd (omega (arith, node.0))
-  row (suc d) node = get_or-map-range_with_len (λ (d : ℕ). map (member d) (range_with_len 1 count)) 1 (nodes tree) d (suc d) [] (omega (arith, node.1)) (omega arith)
+  row (suc d) node =
+      get_or-map-range_with_len (λ (d : ℕ). map (member d) (range_with_len 1 count)) 1 (nodes tree) d (suc d) [] (omega (arith, node.1)) (omega arith)
 
+  -- each device has as many numbers as are asked for
   pub changes_are : (d : ℕ) → IsNode tree d → changes (lists_of tree member count) d ≡ count
   unfolding changes
   changes_are d node = ap (λ (l : List Bool). length l) (row d node) ∙ row_long (member d) 1 count
@@ -55,6 +55,7 @@ module _ (tree : Lists) (member : ℕ → ℕ → Bool) (count : ℕ) where
       row_long f a zero = refl
       row_long f a (suc n) = ap suc (row_long f (a + 1) n)
 
+  -- under each of them it is a member as is asked for
   pub members_are : (d n : ℕ) → IsNode tree d → 1 ≤ n → n ≤ count → is_member (lists_of tree member count) d n ≡ member d n
   unfolding is_member
   members_are d zero node one le = absurd (omega (arith, one))
@@ -86,6 +87,7 @@ module _ (tree : Lists) (member : ℕ → ℕ → Bool) (count : ℕ) where
   unfolding path_depth
   depth_is x = depth_in_is x x
 
+  -- lists over a lawful tree are lawful
   pub lawful : Lawful tree → Lawful (lists_of tree member count)
   unfolding parent is_leaf
   lawful law = record {
@@ -117,7 +119,8 @@ module _ (tree : Lists) (member : ℕ → ℕ → Bool) (count : ℕ) where
     sums y f g each = ap (sum_of p.steps) (demands_of-same lists numbering is p.steps y (λ z. bid_message 0 true (f z)) (λ z. bid_message 0 true (g z))
         (λ x node up. ap (bid_message 0 true) (each x node up)))
 
-    sums_of_none : (y : ℕ) (f : ℕ → List ℤ) → ((x : ℕ) → IsNode lists x → parent lists x ≡ y → f x ≡ zeros p.steps) → add y f ≡ zeros p.steps
+    sums_of_none : (y : ℕ) (f : ℕ → List ℤ) → ((x : ℕ) → IsNode lists x → parent lists x ≡ y → f x ≡ zeros p.steps) →
+        add y f ≡ zeros p.steps
     sums_of_none y f each = ap (sum_of p.steps) (demands_of-none numbering y p.steps f (λ k inside.
         elim (cases_eq (numbering.child y k) 0) [
           | inl e ↦ cond-true (eqb (numbering.child y k) 0) (zeros p.steps) (f (numbering.child y k)) (eq-eqb (numbering.child y k) 0 e)
@@ -144,6 +147,7 @@ module _ (tree : Lists) (member : ℕ → ℕ → Bool) (count : ℕ) where
       limits_alike = market.by_nodes.limits_alike;
     }
 
+    -- with these offers they are a market
     pub is_market : IsTreeMarket (lists_of tree member count) (pricing_of (lists_of tree member count) numbering p.steps
         (demand_of (lists_of tree member count) p.steps offer) p) numbering
     unfolding is_leaf
@@ -154,7 +158,8 @@ module _ (tree : Lists) (member : ℕ → ℕ → Bool) (count : ℕ) where
       places = is;
       by_places = λ y f. refl;
       steps = market.steps;
-      demands = λ d n leaf. either (λ (l : List ℤ). IsDemand p.steps l) (is_member lists d n) (offer d n) (zeros p.steps) (λ e. offers d n) (λ e. nothing);
+      demands = λ d n leaf. either (λ (l : List ℤ). IsDemand p.steps l) (is_member lists d n) (offer d n) (zeros p.steps) (λ e. offers d n)
+          (λ e. nothing);
       absent = λ d n leaf out. cond-false (is_member lists d n) (offer d n) (zeros p.steps) out;
       limited = market.limited;
     }

@@ -1,5 +1,6 @@
 -- Frames that come from node to node, and the start of a life.
-use Rattle.std.proofs.Common.{◌≡◌, ◌⊎◌, ◌∙◌, sym, ap, subst, ℕ, ◌+◌, ◌<◌, Bool, true, false, cond, eqb, List, [], ◌∷◌, ◌++◌, Option, Some, None, refl, inl, inr, arith, subst₂, get_or, replicate}
+use Rattle.std.proofs.Common.{◌≡◌, ◌⊎◌, ◌∙◌, sym, ap, subst, ℕ, ◌+◌, ◌<◌, Bool, true, false, cond, eqb, List, []}
+use Rattle.std.proofs.Common.{◌∷◌, ◌++◌, Option, Some, None, refl, inl, inr, arith, subst₂, get_or, replicate}
 use Rattle.std.proofs.lemmas.Bool.{cond-true, cond-false, ne_eqb, eq-eqb, and_from}
 use Rattle.std.proofs.lemmas.List.{get_or-replicate, get_or_past, length-replicate}
 use Rattle.std.proofs.lemmas.Cmp.{int_eq_equiv}
@@ -35,7 +36,8 @@ use Rattle.pm_frames.specs.declared.place.RelayPlace.{RelayPlace}
 use Rattle.pm_services.specs.Bounds.{no_bounds}
 use Rattle.pm_services.specs.Receipts.{sender_place}
 use Rattle.pm_services.specs.RelaySetups.{RelaySetup}
-use Rattle.pm_services.specs.RelayAnswers.{WaitingRelay, OpenRelay, RelayServiceValue, ComesUp, with_held, AnswersKeptIn, AnswersGivenIn, AnswersRelay, AnswersNow}
+use Rattle.pm_services.specs.RelayAnswers.{WaitingRelay, OpenRelay, RelayServiceValue, ComesUp, with_held, AnswersKeptIn, AnswersGivenIn}
+use Rattle.pm_services.specs.RelayAnswers.{AnswersRelay, AnswersNow}
 use Rattle.pm_lives.specs.RelayWrites.{WritesLimits, WritesKept}
 use Rattle.pm_lives.specs.Outputs.{Output}
 use Rattle.pm_lives.specs.Carrying.{setup_for}
@@ -53,10 +55,8 @@ use Rattle.pm_services.specs.RootAnswers.{OpenRoot, AnswersRoot}
 use Rattle.pm_services.specs.DeviceAnswers.{DeviceServiceValue, OpenDevice, AnswersDevice, device_after, same_basis, reply_to, sent_again}
 use Rattle.pm_system.specs.Calls.{bid_kept}
 use Rattle.pm_lives.specs.Lives.{no_root_stored}
-use Rattle.pm_lives.specs.Carrying.{RootIsGiven, RootIsBack, DeviceIsBack, root_hello, root_resumed, bid_frame, limits_frame, price_frame, RelayIsGiven, RelayIsBack, hello, resumed}
-
-some_same : (a b : ℕ) → Some a ≡ Some b → a ≡ b
-some_same a b e = cc
+use Rattle.pm_lives.specs.Carrying.{RootIsGiven, RootIsBack, DeviceIsBack, root_hello, root_resumed, bid_frame, limits_frame, price_frame}
+use Rattle.pm_lives.specs.Carrying.{RelayIsGiven, RelayIsBack, hello, resumed}
 
 -- a basis is the same as itself
 itself : (b : BasisValue) → same_basis b b ≡ true
@@ -73,7 +73,8 @@ up_is child bid = bytes_by bid.gone child bid.number bid.demand
 
 module _ (lists : Lists) (p : Pricing) (numbering : Numbering) (sys : System) (x : ℕ) (node : IsNode lists x) (bid : BidMessage)
     (sent : BidWasSent p sys x bid) where
-  carried : (y : ℕ) → parent lists x ≡ y → ((y ≡ 0 → ⊥) → LimitsPassBy p y x) → (demand : Option (List Rattle.std.proofs.Common.ℤ)) → demand ≡ told_demand bid →
+  carried : (y : ℕ) → parent lists x ≡ y → ((y ≡ 0 → ⊥) → LimitsPassBy p y x) →
+      (demand : Option (List Rattle.std.proofs.Common.ℤ)) → demand ≡ told_demand bid →
       CarriesBid lists p numbering sys y (numbering.place x + 1) bid.number demand
   carried y up passes demand is = record {
     x = x;
@@ -100,7 +101,8 @@ module _ (lists : Lists) (p : Pricing) (numbering : Numbering) (sys : System) (x
   root_by up false e = carried 0 up (λ ne. absurd (ne refl)) (Some bid.demand) (sym (cond-false bid.gone None (Some bid.demand) e))
 
   -- a relay that reads these bytes reads that bid
-  pub relay_reads_bid : (c : ℕ) → parent lists x ≡ c → LimitsPassBy p c x → (own : RelaySetup) (place : RelayPlace) (frame : RelayFrame) (more behind : List ℕ) → IsRelayFormed place frame →
+  pub relay_reads_bid : (c : ℕ) → parent lists x ≡ c → LimitsPassBy p c x →
+      (own : RelaySetup) (place : RelayPlace) (frame : RelayFrame) (more behind : List ℕ) → IsRelayFormed place frame →
       IsRelayFormed place (relay_frame.Child (bid_frame (numbering.place x + 1) bid)) →
       relay_frame_bytes frame ++ more ≡ up_bytes (numbering.place x + 1) bid ++ behind → RelayMayRead lists p numbering own sys c frame × (more ≡ behind)
   relay_reads_bid c up passes own place frame more behind formed fits same =
@@ -110,7 +112,8 @@ module _ (lists : Lists) (p : Pricing) (numbering : Numbering) (sys : System) (x
       (subst (λ (f : RelayFrame). RelayMayRead lists p numbering own sys c f) (sym one.0) (relay_by own c up passes bid.gone refl), one.1)
 
   -- and one that reads those of limits reads the limits that are given under it
-  pub relay_reads_limits : (c : ℕ) → parent lists x ≡ c → bid.gone ≡ true → (limits : Limits) → GivesLimits p c x bid.number limits → (own : RelaySetup) →
+  pub relay_reads_limits : (c : ℕ) → parent lists x ≡ c → bid.gone ≡ true → (limits : Limits) → GivesLimits p c x bid.number limits →
+      (own : RelaySetup) →
       own.terms.giver ≡ Some (numbering.place x + 1) → (place : RelayPlace)
       (frame : RelayFrame) (more behind : List ℕ) → IsRelayFormed place frame → IsRelayFormed place (limits_frame bid limits) →
       relay_frame_bytes frame ++ more ≡ relay_frame_bytes (limits_frame bid limits) ++ behind →
@@ -130,9 +133,10 @@ module _ (lists : Lists) (p : Pricing) (numbering : Numbering) (sys : System) (x
         gives = gives;
       } in
       let may : RelayMayRead lists p numbering own sys c (limits_frame bid limits) = λ giver is.
-      subst (λ (g : ℕ). CarriesLimits lists p numbering sys c g bid.number limits) (some_same (numbering.place x + 1) giver (sym given ∙ is)) carries in
+      subst (λ (g : ℕ). CarriesLimits lists p numbering sys c g bid.number limits) (let same = sym given ∙ is in cc) carries in
       (subst (λ (f : RelayFrame). RelayMayRead lists p numbering own sys c f) (sym one.0) may, one.1)
 
+  -- the auctioneer may read a frame whose bytes are those of a bid that was sent to it, and reads no more of them
   pub root_reads_bid : parent lists x ≡ 0 → (stage : Stage) (frame : RootFrame) (more behind : List ℕ) → IsRootFormed stage frame →
       IsRootFormed stage (root_frame.Market (bid_frame (numbering.place x + 1) bid)) →
       root_frame_bytes frame ++ more ≡ up_bytes (numbering.place x + 1) bid ++ behind → RootMayRead lists p numbering sys frame × (more ≡ behind)
@@ -153,6 +157,7 @@ module _ (lists : Lists) (p : Pricing) (numbering : Numbering) (sys : System) (x
       let one = relay_framing_sound.one_frame place frame other more behind formed fits same in
       (subst (λ (f : RelayFrame). RelayMayRead lists p numbering own sys x f) (sym one.0) (refl, sent), one.1)
 
+  -- a device may read a frame whose bytes are those of a price that was sent to it, and reads no more of them
   pub device_reads_price : (basis : BasisValue) (child : NodePlace) (frame : DeviceFrame) (more behind : List ℕ) → IsDeviceFormed child frame →
       IsDeviceFormed child (device_frame.Parent (price_frame basis (numbering.place x + 1) price)) →
       device_frame_bytes frame ++ more ≡ down_frame_bytes basis (numbering.place x) price ++ behind →
@@ -196,11 +201,15 @@ kept_written (Some giver) old stored new reply is (inr some) =
     let given = subst (λ (g : Option ℕ). AnswersGivenIn g old number stored.limits new reply) is some.1 in
     let w = limits_written old.setup old.held giver number stored.limits given.0 reply given.2 in (
       w.0,
-      inr (some.0, subst (λ (h : WaitingRelay). WritesLimits old.setup old.held giver number stored.limits h w.0) (sym (ap (λ (r : OpenRelay). r.held) given.1)) w.1),
+      inr (
+        some.0,
+        subst (λ (h : WaitingRelay). WritesLimits old.setup old.held giver number stored.limits h w.0) (sym (ap (λ (r : OpenRelay). r.held) given.1)) w.1,
+      ),
       w.2,
       ap (λ (r : OpenRelay). r.setup) given.1,
     )
 
+-- a relay that was given Hello and what is stored comes back with it
 pub relay_is_back : (old : RelayServiceValue) (basis : Basis) (after : RelayServiceValue) (stored : StoredRelay) (reply : List ℕ) → old.relay ≡ None →
     RelayIsGiven old basis after stored reply → RelayIsBack old basis after stored reply
 relay_is_back old basis after _ _ closed (hello reply did) =
@@ -240,6 +249,7 @@ root_is_there : (basis : Basis) (after : Option OpenRoot) (reply : List ℕ) →
 root_is_there basis after reply did =
     record { up_root = record { basis = basis; bounds = no_bounds; root = did.0.root }; root_is = did.0.opened; basis_is = refl; back = did.0.back }
 
+-- so does an auctioneer
 pub root_is_back : (basis : Basis) (after : Option OpenRoot) (stored : StoredRoot) → RootIsGiven basis after stored → RootIsBack basis after stored
 root_is_back basis after _ (root_hello reply did) = root_is_there basis after reply did
 root_is_back basis after _ (root_resumed mid reply more stored first then) =
@@ -259,7 +269,8 @@ gone_if : (p : Pricing) (basis : BasisValue) (child number : ℕ) (test : Bool) 
 gone_if p basis child number true = refl
 gone_if p basis child number false = sym (Rattle.std.proofs.Common.append-nil (frame_bytes (Gone child number)))
 
-restart_written : (p : Pricing) (basis : BasisValue) (child : ℕ) (stored : StoredAgent) (newest : Option (List Rattle.std.proofs.Common.ℤ)) → stored.newest ≡ newest →
+restart_written : (p : Pricing) (basis : BasisValue) (child : ℕ) (stored : StoredAgent) (newest : Option (List Rattle.std.proofs.Common.ℤ)) →
+    stored.newest ≡ newest →
     IsNewestAccepted stored.number newest →
     sent_again child stored.number newest
     ≡ outputs_bytes agent_resume_bytes basis child (cond (eqb stored.number 0) [] (Up (bid_kept p stored.number newest) ∷ []))
@@ -269,7 +280,9 @@ restart_written p basis child stored (Some demand) is accepted =
     ∙ sym (ap (outputs_bytes agent_resume_bytes basis child) (cond-false (eqb stored.number 0) [] (Up (bid_kept p stored.number (Some demand)) ∷ [])
     (ne_eqb stored.number 0 (λ e. omega (Rattle.std.proofs.Common.arith, e, accepted.0)))))
 
-pub device_is_back : (p : Pricing) (old mid after : DeviceServiceValue) (basis : Basis) (stored : StoredAgent) (reply more : List ℕ) → old.device ≡ None →
+-- and so does a device, which writes its newest bid
+pub device_is_back : (p : Pricing) (old mid after : DeviceServiceValue) (basis : Basis) (stored : StoredAgent) (reply more : List ℕ) →
+    old.device ≡ None →
     IsNewestAccepted stored.number stored.newest → AnswersDevice old (device_frame.Hello basis) mid reply →
     AnswersDevice mid (device_frame.Resume stored) after more → DeviceIsBack p old.child basis after stored reply more
 device_is_back p old mid after basis stored reply more closed accepted first then =

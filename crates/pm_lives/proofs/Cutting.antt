@@ -7,7 +7,9 @@ use Rattle.pm_basis.specs.Prices.{BasisValue}
 use Rattle.pm_lives.specs.Outputs.{Output, output_bytes, outputs_bytes}
 use Rattle.pm_lives.specs.Cutting.{IsCutStream}
 
-pub cut_anywhere : {K : Type 0} (kept : K → List ℕ) (basis : BasisValue) (child : ℕ) (outs : List (Output K)) (m : ℕ) → IsCutStream kept basis child outs m
+-- of a stream that is cut at any byte there are some first frames, whole, and nothing else or a part of the next one
+pub cut_anywhere : {K : Type 0} (kept : K → List ℕ) (basis : BasisValue) (child : ℕ) (outs : List (Output K)) (m : ℕ) →
+    IsCutStream kept basis child outs m
 cut_anywhere kept basis child [] m = record { n = 0; rest = []; held = take_all m [] (omega arith); part = inl refl }
 cut_anywhere kept basis child (out ∷ outs) m =
     let b : List ℕ = output_bytes kept basis child out in

@@ -1,5 +1,7 @@
 -- What the service of a device's agent answers to a frame is some calls of the device.
-use Rattle.std.proofs.Common.{◌≡◌, ◌∙◌, sym, ap, subst, ℕ, ◌+◌, ◌-◌, ◌<◌, ◌≤◌, ◌^◌, Bool, true, false, cond, ltb, ℤ, List, [], ◌∷◌, ◌++◌, length, Option, Some, None, refl, inl, inr, arith, length-append, append-nil, ltb-true}
+use Rattle.std.proofs.Common.{◌≡◌, ◌∙◌, sym, ap, subst, ℕ, ◌+◌, ◌-◌, ◌<◌, ◌≤◌, ◌^◌, Bool, true, false, cond, ltb}
+use Rattle.std.proofs.Common.{ℤ, List, [], ◌∷◌, ◌++◌, length, Option, Some, None, refl, inl, inr, arith, length-append, append-nil}
+use Rattle.std.proofs.Common.{ltb-true}
 use Rattle.std.proofs.lemmas.Bool.{cases_Bool, cond-true, cond-false, lt-ltb}
 use Rattle.std.proofs.lemmas.List.{get_or_at}
 use Rattle.std.specs.List.{Contains}
@@ -25,11 +27,13 @@ use Rattle.pm_system.proofs.Moving.{new_in}
 use Rattle.pm_lives.specs.Outputs.{Output, Up, Says, BidWasSent, WereSent, EachKept}
 use Rattle.pm_lives.specs.DeviceWrites.{stored_agent, made_outs, told_outs, device_outs}
 use Rattle.pm_lives.specs.Moves.{OnlyMoves, AreCalm, lets_none}
-use Rattle.pm_lives.specs.DeviceLife.{IsIndexOfSent, AgentStands, IsAgentKept, IsGivenOffer, IsGivenLeaving, DeviceMayRead, AgentStandsTold, told_of, DeviceFollows}
+use Rattle.pm_lives.specs.DeviceLife.{IsIndexOfSent, AgentStands, IsAgentKept, IsGivenOffer, IsGivenLeaving, DeviceMayRead, AgentStandsTold, told_of}
+use Rattle.pm_lives.specs.DeviceLife.{DeviceFollows}
 use Rattle.pm_lives.proofs.Staying.{then_moves, agent_moved, bid_pushed, setpoints_pushed, price_stays}
 use Rattle.pm_lives.proofs.After.{nothing_follows, says, follows_as}
 use Rattle.pm_lives.proofs.AgentFacts.{AreWithin, within_more, within_push, PriceLeaves, price_leaves, pushed_demand}
 
+-- an index of a price that was sent to a device stays one
 pub index_stays : (y : ℕ) (sys new : System) → OnlyMoves y sys new → (d index : ℕ) → IsIndexOfSent sys d index → IsIndexOfSent new d index
 index_stays y sys new moves d index (inl none) = inl none
 index_stays y sys new moves d index (inr at) =
@@ -37,7 +41,8 @@ index_stays y sys new moves d index (inr at) =
     inr (at.0, there.0, ap (λ (q : PriceMessage). q.index) there.1 ∙ at.2)
 
 -- what it stores of itself may be stored
-own_kept : (own : BasisValue) (sys : System) (d : ℕ) (agent : DeviceAgent) → sys.agents d ≡ agent → IsIndexOfSent sys d agent.index → IsAgentKept sys d (stored_agent own agent)
+own_kept : (own : BasisValue) (sys : System) (d : ℕ) (agent : DeviceAgent) → sys.agents d ≡ agent → IsIndexOfSent sys d agent.index →
+    IsAgentKept sys d (stored_agent own agent)
 own_kept own sys d agent is held = record {
   number = ap (λ (a : DeviceAgent). a.number) (sym is);
   newest = ap newest_demand (sym is);
@@ -64,9 +69,11 @@ module _ (lists : Lists) (p : Pricing) (numbering : Numbering) (own : BasisValue
       (untold sys sys (sys.agents d) stands refl)
 
   -- it makes a bid, which is sent behind a Resume; before it, it may make one that is not sent
-  makes : (sys mid : System) (before : List NodeCall) → SystemRuns lists p numbering sys before mid → ((x : ℕ) → AreCalm lets_none x before) → OnlyMoves d sys mid →
+  makes : (sys mid : System) (before : List NodeCall) → SystemRuns lists p numbering sys before mid →
+      ((x : ℕ) → AreCalm lets_none x before) → OnlyMoves d sys mid →
       mid.setpoints d ≡ sys.setpoints d →
-      (after : DeviceAgent) (bid : BidMessage) → DeviceChanges lists p mid d after bid → IsIndexOfSent mid d after.index → AreWithin after.number after.offers →
+      (after : DeviceAgent) (bid : BidMessage) → DeviceChanges lists p mid d after bid → IsIndexOfSent mid d after.index →
+      AreWithin after.number after.offers →
       bid ≡ bid_kept p after.number (newest_demand after) → Does after sys (made_outs p own after)
   makes sys mid before runs up only quiet after bid made held within bid_is =
       let new : System = with_bid_sent (with_agent mid d after) d bid in
@@ -114,7 +121,8 @@ module _ (lists : Lists) (p : Pricing) (numbering : Numbering) (own : BasisValue
         (within_more agent.number (agent.number + 2) (omega arith) agent.offers stands.within) (omega arith))
         (ap (bid_kept p (agent.number + 2)) (sym (pushed_demand (agent.number + 2) agent.offers demand agent.number stands.within (omega arith))))
 
-    offer_by : (may room : Bool) → may_offer agent ≡ may → (demand : List ℤ) → (may ≡ true → room ≡ true → IsGivenOffer lists p d (agent.number + 2) demand) →
+    offer_by : (may room : Bool) → may_offer agent ≡ may → (demand : List ℤ) →
+        (may ≡ true → room ≡ true → IsGivenOffer lists p d (agent.number + 2) demand) →
         Does (cond may (cond room (after_offer agent demand) agent) agent) sys
         (cond may (cond room (made_outs p own (after_offer agent demand)) (Says out_of_numbers_bytes ∷ [])) (Says window_full_bytes ∷ []))
     offer_by true true is demand given = offers demand is (given refl refl)
@@ -200,7 +208,8 @@ module _ (lists : Lists) (p : Pricing) (numbering : Numbering) (own : BasisValue
     told_kept new after price (setpoint ∷ more) own = (tt, (own, tt))
 
     takes : (k : ℕ) → k < length (sys.prices_sent d) →
-        DeviceFollows lists p numbering sys d (after_price agent (price_in_channel sys d k)) (setpoints_for agent (price_in_channel sys d k)) (told_outs own (after_price agent (price_in_channel sys d k)) (price_in_channel sys d k) (setpoints_for agent (price_in_channel sys d k)))
+        DeviceFollows lists p numbering sys d (after_price agent (price_in_channel sys d k)) (setpoints_for agent (price_in_channel sys d k))
+        (told_outs own (after_price agent (price_in_channel sys d k)) (price_in_channel sys d k) (setpoints_for agent (price_in_channel sys d k)))
     takes k inside =
         let price : PriceMessage = price_in_channel sys d k in
         let after : DeviceAgent = after_price agent price in
@@ -251,13 +260,15 @@ module _ (lists : Lists) (p : Pricing) (numbering : Numbering) (own : BasisValue
         ])
         (silent sys stands)
 
-    old_by : (newer room : Bool) (newest : Option (List ℤ)) → newest_demand agent ≡ newest → (newer ≡ true → room ≡ true → (demand : List ℤ) →
+    old_by : (newer room : Bool) (newest : Option (List ℤ)) → newest_demand agent ≡ newest →
+        (newer ≡ true → room ≡ true → (demand : List ℤ) →
         newest ≡ Some demand → IsGivenLeaving lists d (agent.number + 2) × IsGivenOffer lists p d (agent.number + 2 + 2) demand) →
         Does (cond newer (cond room (offered_anew agent newest) agent) agent) sys (given_by (cond newer (cond room (offered_anew agent newest) agent) agent))
     old_by true true (Some demand) is given =
         let after : DeviceAgent = after_offer left demand in
         let both = given refl refl demand refl in
-        follows_as lists p numbering lets_none (λ t stored. IsAgentKept t d stored) d (λ t. AgentStandsTold sys d after [] t) sys (made_outs p own after) (given_by after)
+        follows_as lists p numbering lets_none (λ t stored. IsAgentKept t d stored) d (λ t. AgentStandsTold sys d after [] t) sys
+        (made_outs p own after) (given_by after)
         (cond-true (ltb agent.number after.number) (made_outs p own after) [] (lt-ltb agent.number after.number (omega arith)))
         (anew demand both.0 both.1)
     old_by true true None is given = old_same
@@ -270,7 +281,8 @@ module _ (lists : Lists) (p : Pricing) (numbering : Numbering) (own : BasisValue
     frame_follows (Offer demand) may = offer_by (may_offer agent) (ltb (agent.number + 5) (2 ^ 32)) refl demand may
     frame_follows Leave may = leave_by (ltb (agent.number + 3) (2 ^ 32)) may
     frame_follows (Parent (Price child number index step basis)) may =
-        subst (λ (q : PriceMessage). DeviceFollows lists p numbering sys d (after_price agent q) (setpoints_for agent q) (told_outs own (after_price agent q) q (setpoints_for agent q))) may.1.2 (takes may.1.0 may.1.1)
+        subst (λ (q : PriceMessage). DeviceFollows lists p numbering sys d (after_price agent q) (setpoints_for agent q)
+        (told_outs own (after_price agent q) q (setpoints_for agent q))) may.1.2 (takes may.1.0 may.1.1)
     frame_follows (Parent (Old child kept)) may =
         old_by (ltb agent.number kept) (ltb (agent.number + 7) (2 ^ 32)) (newest_demand agent) refl may
     frame_follows (Resume stored) may = absurd may
@@ -280,5 +292,6 @@ pub device_answers : (lists : Lists) (p : Pricing) (numbering : Numbering) (sys 
     (old : DeviceAgent) (frame : DeviceFrame) → AgentStands sys d old → DeviceMayRead lists p own sys d frame →
     DeviceFollows lists p numbering sys d (agent_after old frame) (told_of old frame) (device_outs p own old frame)
 device_answers lists p numbering sys d leaf own old frame stands may =
-    subst (λ (a : DeviceAgent). DeviceFollows lists p numbering sys d (agent_after a frame) (told_of a frame) (device_outs p own a frame)) (sym stands.agent_is)
+    subst (λ (a : DeviceAgent). DeviceFollows lists p numbering sys d (agent_after a frame) (told_of a frame) (device_outs p own a frame))
+    (sym stands.agent_is)
     (frame_follows lists p numbering own d leaf sys (subst (λ (a : DeviceAgent). AgentStands sys d a) stands.agent_is stands) frame may)

@@ -1,5 +1,6 @@
 -- Prices for the children of a node, as frames.
-use Rattle.std.proofs.Common.{◌≡◌, ◌∙◌, sym, ap, ℕ, suc, ◌+◌, ◌<◌, List, [], ◌∷◌, ◌++◌, length, get_or, Some, None, refl, arith, append-nil}
+use Rattle.std.proofs.Common.{◌≡◌, ◌∙◌, sym, ap, ℕ, suc, ◌+◌, ◌<◌, List, [], ◌∷◌, ◌++◌, length, get_or, Some, None}
+use Rattle.std.proofs.Common.{refl, arith, append-nil}
 use Rattle.std.proofs.lemmas.Bool.{cond-true, cond-false}
 use Rattle.std.proofs.lemmas.Grind.{flat_map-append}
 use Rattle.pm_bid.specs.Heads.{nothing_sent}
@@ -22,6 +23,7 @@ module _ {K : Type 0} (kept : K → List ℕ) (basis : BasisValue) where
   abbrev bytes_of : ℕ → List (Output K) → List ℕ
   bytes_of child outs = outputs_bytes kept basis child outs
 
+  -- the bytes of frames after frames are their bytes, one after the other
   pub written_then : (child : ℕ) (first then : List (Output K)) (one two : List ℕ) → one ≡ bytes_of child first → two ≡ bytes_of child then →
       one ++ two ≡ bytes_of child (first ++ then)
   written_then child first then one two a b =
@@ -37,6 +39,7 @@ module _ {K : Type 0} (kept : K → List ℕ) (basis : BasisValue) where
       (λ e. sym (append-nil (price_bytes (place + 1) head.number index step basis))
       ∙ sym (ap (bytes_of child) (cond-false head.gone [] (Down place (price_message head.number index step) ∷ []) e)))
 
+  -- the bytes of the prices for all children are those of their frames
   pub downs_written : (child index step place : ℕ) (heads : List BidHead) →
       prices_bytes basis index step (place + 1) heads ≡ bytes_of child (downs index step place heads)
   downs_written child index step place [] = refl
@@ -63,7 +66,9 @@ module _ (K : Type 0) (lists : Lists) (p : Pricing) (numbering : Numbering) (sys
         tt,
       ))
 
-  pub downs_sent : (place : ℕ) (heads : List BidHead) → ((k : ℕ) → k < length heads → get_or all (place + k) nothing_sent ≡ get_or heads k nothing_sent) →
+  -- these prices were sent, each to its child
+  pub downs_sent : (place : ℕ) (heads : List BidHead) →
+      ((k : ℕ) → k < length heads → get_or all (place + k) nothing_sent ≡ get_or heads k nothing_sent) →
       WereSent {K = K} lists p numbering sys c (downs index step place heads)
   downs_sent place [] are = tt
   downs_sent place (head ∷ heads) are =
@@ -71,6 +76,7 @@ module _ (K : Type 0) (lists : Lists) (p : Pricing) (numbering : Numbering) (sys
       (down_sent place head (ap (λ (k : ℕ). get_or all k nothing_sent) (omega arith) ∙ are 0 (omega arith)))
       (downs_sent (place + 1) heads (λ k inside. ap (λ (j : ℕ). get_or all j nothing_sent) (omega arith) ∙ are (suc k) (omega (arith, inside))))
 
+-- there is no Resume among them
 pub downs_keep_none : {K : Type 0} (Is : K → Type 0) (index step place : ℕ) (heads : List BidHead) → EachKept Is (downs index step place heads)
 downs_keep_none Is index step place [] = tt
 downs_keep_none {K = K} Is index step place (head ∷ heads) =

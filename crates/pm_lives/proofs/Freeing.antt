@@ -1,5 +1,7 @@
 -- For any lives there are lists: those in which each device offers what it offered.
-use Rattle.std.proofs.Common.{◌≡◌, ◌⊎◌, ◌∙◌, sym, ap, subst, ℕ, ℤ, zero, suc, ◌+◌, ◌-◌, ◌<◌, ◌≤◌, ◌^◌, Bool, true, false, cond, ltb, eqb, ◌&&◌, List, [], ◌∷◌, take, Option, Some, None, refl, inl, inr, arith, ◌%◌, ◌/◌, ◌*◌}
+use Rattle.std.proofs.Common.{◌≡◌, ◌⊎◌, ◌∙◌, sym, ap, subst, ℕ, ℤ, zero, suc, ◌+◌, ◌-◌, ◌<◌, ◌≤◌, ◌^◌}
+use Rattle.std.proofs.Common.{Bool, true, false, cond, ltb, eqb, ◌&&◌, List, [], ◌∷◌, take, Option, Some, None, refl, inl, inr, arith}
+use Rattle.std.proofs.Common.{◌%◌, ◌/◌, ◌*◌}
 use Rattle.std.proofs.lemmas.Bool.{cases_eq, cases_Bool, cond-true, cond-false, eq-eqb, ne_eqb, both_ways, and_parts, and_from, ltb-true}
 use Rattle.pm_bid.specs.Bids.{zeros}
 use Rattle.pm_market.specs.Lists.{Lists, parent, IsLeaf}
@@ -40,7 +42,8 @@ use Rattle.pm_lives.proofs.Giving.{price_number}
 
 -- ---- the same frames over other lists
 
-pub handed_same : {K : Type 0} (tree : Lists) (member : ℕ → ℕ → Bool) (count : ℕ) (numbering : Numbering) (y : ℕ) (outs : List (Output K)) (seen : System) →
+pub handed_same : {K : Type 0} (tree : Lists) (member : ℕ → ℕ → Bool) (count : ℕ) (numbering : Numbering) (y : ℕ)
+    (outs : List (Output K)) (seen : System) →
     handed_out (lists_of tree member count) numbering seen y outs ≡ handed_out tree numbering seen y outs
 unfolding parent
 handed_same tree member count numbering y [] seen = refl
@@ -48,10 +51,13 @@ handed_same tree member count numbering y (Up bid ∷ outs) seen = handed_same t
 handed_same tree member count numbering y (Down place price ∷ outs) seen =
     handed_same tree member count numbering y outs (with_prices_sent tree numbering seen y (λ k. cond (eqb k place) (price ∷ []) []))
 handed_same tree member count numbering y (Keeps stored ∷ outs) seen = handed_same tree member count numbering y outs seen
-handed_same tree member count numbering y (Tells setpoint ∷ outs) seen = handed_same tree member count numbering y outs (with_setpoints seen y (setpoint ∷ []))
+handed_same tree member count numbering y (Tells setpoint ∷ outs) seen =
+    handed_same tree member count numbering y outs (with_setpoints seen y (setpoint ∷ []))
 handed_same tree member count numbering y (Says bytes ∷ outs) seen = handed_same tree member count numbering y outs seen
 
-pub relay_let_same : (tree : Lists) (member : ℕ → ℕ → Bool) (count : ℕ) (numbering : Numbering) (seen : System) (c : ℕ) (frame : RelayFrame) (f : ℕ → ℕ) →
+-- whom a relay lets go does not depend on members and numbers of the lists, but on their tree
+pub relay_let_same : (tree : Lists) (member : ℕ → ℕ → Bool) (count : ℕ) (numbering : Numbering) (seen : System) (c : ℕ)
+    (frame : RelayFrame) (f : ℕ → ℕ) →
     let_go_at_relay (lists_of tree member count) numbering seen c frame f ≡ let_go_at_relay tree numbering seen c frame f
 unfolding parent
 relay_let_same tree member count numbering seen c (relay_frame.Child frame) f = refl
@@ -62,7 +68,9 @@ relay_let_same tree member count numbering seen c (relay_frame.Limits number lim
 relay_let_same tree member count numbering seen c (relay_frame.Bound sender bound) f = refl
 relay_let_same tree member count numbering seen c (relay_frame.Resume stored) f = refl
 
-pub root_let_same : (tree : Lists) (member : ℕ → ℕ → Bool) (count : ℕ) (numbering : Numbering) (seen : System) (frame : RootFrame) (f : ℕ → ℕ) →
+-- nor does whom the auctioneer lets go
+pub root_let_same : (tree : Lists) (member : ℕ → ℕ → Bool) (count : ℕ) (numbering : Numbering) (seen : System) (frame : RootFrame)
+    (f : ℕ → ℕ) →
     let_go_at_root (lists_of tree member count) numbering seen frame f ≡ let_go_at_root tree numbering seen frame f
 unfolding parent
 root_let_same tree member count numbering seen (root_frame.Market frame) f = refl
@@ -76,12 +84,15 @@ module _ (p q : Pricing) (same : q.steps ≡ p.steps) (own : BasisValue) where
   kept_same n (Some demand) = refl
 
   made_same : (after : DeviceAgent) → made_outs q own after ≡ made_outs p own after
-  made_same after = ap (λ (b : Rattle.pm_net.specs.Messages.BidMessage). Keeps (stored_agent own after) ∷ Up b ∷ []) (kept_same after.number (newest_demand after))
+  made_same after =
+      ap (λ (b : Rattle.pm_net.specs.Messages.BidMessage). Keeps (stored_agent own after) ∷ Up b ∷ []) (kept_same after.number (newest_demand after))
 
+  -- what a device answers is the same under both markets
   pub outs_same : (agent : DeviceAgent) (frame : DeviceFrame) → device_outs q own agent frame ≡ device_outs p own agent frame
   outs_same agent (Hello basis) = refl
   outs_same agent (Offer demand) =
-      ap (λ (l : List (Output StoredAgent)). cond (may_offer agent) (cond (ltb (agent.number + 5) (2 ^ 32)) l (Says Rattle.pm_frames.specs.Answers.out_of_numbers_bytes ∷ []))
+      ap (λ (l : List (Output StoredAgent)). cond (may_offer agent)
+      (cond (ltb (agent.number + 5) (2 ^ 32)) l (Says Rattle.pm_frames.specs.Answers.out_of_numbers_bytes ∷ []))
       (Says Rattle.pm_frames.specs.Answers.window_full_bytes ∷ [])) (made_same (after_offer agent demand))
   outs_same agent Leave =
       ap (λ (l : List (Output StoredAgent)). cond (ltb (agent.number + 3) (2 ^ 32)) l (Says Rattle.pm_frames.specs.Answers.out_of_numbers_bytes ∷ []))
@@ -92,24 +103,29 @@ module _ (p q : Pricing) (same : q.steps ≡ p.steps) (own : BasisValue) where
       ap (λ (l : List (Output StoredAgent)). cond (ltb agent.number after.number) l []) (made_same after)
   outs_same agent (Resume stored) = refl
 
+  -- so is what it writes when it comes back
   pub restart_same : (stored : StoredAgent) → restart_outs q stored ≡ restart_outs p stored
-  restart_same stored = ap (λ (b : Rattle.pm_net.specs.Messages.BidMessage). cond (eqb stored.number 0) [] (Up b ∷ [])) (kept_same stored.number stored.newest)
+  restart_same stored =
+      ap (λ (b : Rattle.pm_net.specs.Messages.BidMessage). cond (eqb stored.number 0) [] (Up b ∷ [])) (kept_same stored.number stored.newest)
 
 -- ---- the numbers of a device
 
 -- what is stored of it has its newest number
 module _ (p : Pricing) (own : BasisValue) where
   abbrev KeepsNumber : DeviceAgent → List (Output StoredAgent) → Type 0
-  KeepsNumber after outs = (k : StoredAgent) (n : ℕ) → (outs ≡ [] → k.number ≡ after.number) → HandledSome n outs → (stored_last k (take n outs)).number ≡ after.number
+  KeepsNumber after outs = (k : StoredAgent) (n : ℕ) → (outs ≡ [] → k.number ≡ after.number) → HandledSome n outs →
+      (stored_last k (take n outs)).number ≡ after.number
 
-  made_keeps : (after : DeviceAgent) (k : StoredAgent) (n : ℕ) → HandledSome n (made_outs p own after) → (stored_last k (take n (made_outs p own after))).number ≡ after.number
+  made_keeps : (after : DeviceAgent) (k : StoredAgent) (n : ℕ) → HandledSome n (made_outs p own after) →
+      (stored_last k (take n (made_outs p own after))).number ≡ after.number
   made_keeps after k zero (inl some) = absurd (omega (arith, some))
   made_keeps after k zero (inr none) = absurd (omega (arith, ap (λ l. Rattle.std.proofs.Common.length l) none))
   made_keeps after k (suc zero) handled = refl
   made_keeps after k (suc (suc zero)) handled = refl
   made_keeps after k (suc (suc (suc n))) handled = refl
 
-  said_keeps : (bytes : List ℕ) (number : ℕ) (k : StoredAgent) (n : ℕ) → k.number ≡ number → (stored_last k (take n (Says bytes ∷ []))).number ≡ number
+  said_keeps : (bytes : List ℕ) (number : ℕ) (k : StoredAgent) (n : ℕ) → k.number ≡ number →
+      (stored_last k (take n (Says bytes ∷ []))).number ≡ number
   said_keeps bytes number k zero is = is
   said_keeps bytes number k (suc zero) is = is
   said_keeps bytes number k (suc (suc n)) is = is
@@ -129,14 +145,17 @@ module _ (p : Pricing) (own : BasisValue) where
   price_keeps : (agent : DeviceAgent) (price : PriceMessage) (k : StoredAgent) (n : ℕ) → k.number ≡ agent.number →
       (stored_last k (take n (told_outs own (after_price agent price) price (setpoints_for agent price)))).number ≡ (after_price agent price).number
   price_keeps agent price k n is =
-      either (λ (l : List agents.Setpoint). (stored_last k (take n (told_outs own (after_price agent price) price l))).number ≡ (after_price agent price).number)
+      either (λ (l : List agents.Setpoint). (stored_last k (take n (told_outs own (after_price agent price) price l))).number ≡
+      (after_price agent price).number)
       (ltb agent.index price.index) (setpoints_of price (kept_offer agent price.number)) []
       (λ e. told_keeps (after_price agent price) price (kept_offer agent price.number) k n (is ∙ sym (price_number agent price)))
-      (λ e. said_keeps (Rattle.pm_frames.specs.Answers.dropped_bytes price.number price.index) (after_price agent price).number k n (is ∙ sym (price_number agent price)))
+      (λ e. said_keeps (Rattle.pm_frames.specs.Answers.dropped_bytes price.number price.index) (after_price agent price).number k n
+      (is ∙ sym (price_number agent price)))
 
   offer_keeps : (may room : Bool) (agent after : DeviceAgent) (k : StoredAgent) (n : ℕ) (full out : List ℕ) → k.number ≡ agent.number →
       HandledSome n (cond may (cond room (made_outs p own after) (Says out ∷ [])) (Says full ∷ [])) →
-      (stored_last k (take n (cond may (cond room (made_outs p own after) (Says out ∷ [])) (Says full ∷ [])))).number ≡ (cond may (cond room after agent) agent).number
+      (stored_last k (take n (cond may (cond room (made_outs p own after) (Says out ∷ [])) (Says full ∷ [])))).number ≡
+      (cond may (cond room after agent) agent).number
   offer_keeps true true agent after k n full out is handled = made_keeps after k n handled
   offer_keeps true false agent after k n full out is handled = said_keeps out agent.number k n is
   offer_keeps false room agent after k n full out is handled = said_keeps full agent.number k n is
@@ -192,6 +211,7 @@ module _ (p : Pricing) (own : BasisValue) where
 -- ---- what is wanted of lists
 
 pub record Wanted : Type 0 where
+  -- whether a device is a member under a number
   pub member : ℕ → ℕ → Bool
   pub offer : ℕ → ℕ → List ℤ
 
@@ -217,13 +237,16 @@ asks_device a d (Resume stored) w = w
 abbrev pub SameAt : Wanted → Wanted → ℕ → ℕ → Type 0
 SameAt w v x n = (w.member x n ≡ v.member x n) × (w.offer x n ≡ v.offer x n)
 
+-- what is wanted of other devices and numbers stays
 pub wanted_other : (w : Wanted) (d m : ℕ) (demand : List ℤ) (x n : ℕ) → (x ≡ d → n ≡ m → ⊥) → SameAt (with_wanted w d m demand) w x n
 wanted_other w d m demand x n ne = (
   Rattle.pm_net.proofs.Messages.two_other w.member d m true x n ne,
   Rattle.pm_net.proofs.Messages.two_other w.offer d m demand x n ne,
 )
 
-pub wanted_same : (w : Wanted) (d m : ℕ) (demand : List ℤ) → ((with_wanted w d m demand).member d m ≡ true) × ((with_wanted w d m demand).offer d m ≡ demand)
+-- of this device and number it is the new offer
+pub wanted_same : (w : Wanted) (d m : ℕ) (demand : List ℤ) →
+    ((with_wanted w d m demand).member d m ≡ true) × ((with_wanted w d m demand).offer d m ≡ demand)
 wanted_same w d m demand = (
   Rattle.pm_net.proofs.Messages.two_same w.member d m true d m refl refl,
   Rattle.pm_net.proofs.Messages.two_same w.offer d m demand d m refl refl,
@@ -253,7 +276,8 @@ old_goes true true a (Some demand) = record { by = 2; is = omega arith }
 old_goes true false a o = record { by = 0; is = omega arith }
 old_goes false room a o = record { by = 0; is = omega arith }
 
-goes : (p : Pricing) (own : BasisValue) (seen : System) (d : ℕ) (a : DeviceAgent) (frame : DeviceFrame) → DeviceIsFree p own seen d frame → Goes a.number (agent_after a frame).number
+goes : (p : Pricing) (own : BasisValue) (seen : System) (d : ℕ) (a : DeviceAgent) (frame : DeviceFrame) → DeviceIsFree p own seen d frame →
+    Goes a.number (agent_after a frame).number
 goes p own seen d a (Hello basis) free = record { by = 0; is = omega arith }
 goes p own seen d a (Offer demand) free = offer_goes (may_offer a) (ltb (a.number + 5) (2 ^ 32)) a (after_offer a demand) refl
 goes p own seen d a Leave free = leave_goes (ltb (a.number + 3) (2 ^ 32)) a (after_leaving a) refl
@@ -326,17 +350,20 @@ asks_odd a half even d (Resume stored) w x k = refl
 unfoldable pub AreDemands : Pricing → Wanted → Type 0
 AreDemands p w = (x n : ℕ) → IsDemand p.steps (w.offer x n)
 
-wanted_demands : (p : Pricing) (w : Wanted) (d m : ℕ) (demand : List ℤ) → AreDemands p w → IsDemand p.steps demand → AreDemands p (with_wanted w d m demand)
+wanted_demands : (p : Pricing) (w : Wanted) (d m : ℕ) (demand : List ℤ) → AreDemands p w → IsDemand p.steps demand →
+    AreDemands p (with_wanted w d m demand)
 unfolding AreDemands update
 wanted_demands p w d m demand were is x n =
     either (λ (f : ℕ → List ℤ). IsDemand p.steps (f n)) (eqb x d) (update (w.offer d) m demand) (w.offer x)
     (λ e. either (λ (l : List ℤ). IsDemand p.steps l) (eqb n m) demand (w.offer d n) (λ e. is) (λ e. were d n)) (λ e. were x n)
 
-asks_demands : (p : Pricing) (own : BasisValue) (seen : System) (d : ℕ) (frame : DeviceFrame) (w : Wanted) → DeviceIsFree p own seen d frame → AreDemands p w →
+asks_demands : (p : Pricing) (own : BasisValue) (seen : System) (d : ℕ) (frame : DeviceFrame) (w : Wanted) → DeviceIsFree p own seen d frame →
+    AreDemands p w →
     AreDemands p (asks_device (seen.agents d) d frame w)
 asks_demands p own seen d (Hello basis) w free were = were
 asks_demands p own seen d (Offer demand) w free were =
-    either (AreDemands p) (may_offer (seen.agents d)) (cond (ltb ((seen.agents d).number + 5) (2 ^ 32)) (with_wanted w d ((seen.agents d).number + 2) demand) w) w
+    either (AreDemands p) (may_offer (seen.agents d))
+    (cond (ltb ((seen.agents d).number + 5) (2 ^ 32)) (with_wanted w d ((seen.agents d).number + 2) demand) w) w
     (λ e. either (AreDemands p) (ltb ((seen.agents d).number + 5) (2 ^ 32)) (with_wanted w d ((seen.agents d).number + 2) demand) w
     (λ e. wanted_demands p w d ((seen.agents d).number + 2) demand were free) (λ e. were)) (λ e. were)
 asks_demands p own seen d Leave w free were = were
@@ -357,8 +384,10 @@ asks_demands p own seen d (Resume stored) w free were = absurd free
 
 -- a device whose process runs has the number that is stored, which is even
 pub record FineOf (up : Bool) (agent kept : ℕ) : Type 0 where
+  -- while a process runs, its number is the stored one
   pub same : up ≡ true → agent ≡ kept
   pub half : ℕ
+  -- the stored number is even
   pub even : kept ≡ half + half
 
 abbrev pub number_now : World → ℕ → ℕ
@@ -368,6 +397,7 @@ abbrev pub FineAt : World → ℕ → Type 0
 FineAt world d = FineOf (world.up d) (world.seen.agents d).number (world.agent_kept d).number
 
 pub record StepAt (world new : World) (d : ℕ) : Type 0 where
+  -- the device is still as it should be
   pub fine : FineAt new d
   pub rises : number_now world d ≤ number_now new d
 
@@ -402,6 +432,7 @@ asks_of world (Root frame n) w = w
 asks_of world (DeviceUp d n) w = w
 asks_of world (Device d frame n) w = asks_device (world.seen.agents d) d frame w
 
+-- the number under which a parent lets a child go is odd
 pub is_odd : (known : ℕ) → (k : ℕ) × (parents_number known ≡ k + k + 1)
 is_odd known =
     let parts : known / 2 * 2 + known % 2 ≡ known = Rattle.std.proofs.lemmas.Nat.div-add-mod' known 2 in
@@ -418,7 +449,8 @@ module _ (tree : Lists) (p : Pricing) (numbering : Numbering) (market : IsTreeMa
   no_root d leaf e = omega (arith, e, (leaf_node tree market.law d leaf).0)
 
   -- the number that a device has after a frame is stored
-  pub device_now : (world new : World) (d : ℕ) (frame : DeviceFrame) (n : ℕ) → AllFine world → (did : Rattle.pm_lives.specs.Free.DeviceReadsFree tree p numbering world d frame n new) →
+  pub device_now : (world new : World) (d : ℕ) (frame : DeviceFrame) (n : ℕ) → AllFine world →
+      (did : Rattle.pm_lives.specs.Free.DeviceReadsFree tree p numbering world d frame n new) →
       number_now new d ≡ (agent_after (world.seen.agents d) frame).number
   device_now world new d frame n fine did =
       ap (λ (w : World). number_now w d) did.new_is
@@ -426,10 +458,13 @@ module _ (tree : Lists) (p : Pricing) (numbering : Numbering) (market : IsTreeMa
       (stored_last (world.agent_kept d) (take n (device_outs p world.basis (world.seen.agents d) frame))))
       ∙ answer_keeps p world.basis world.seen d (world.seen.agents d) frame (world.agent_kept d) n did.may (sym ((fine d did.leaf).same did.runs)) did.handled
 
-  pub step_at : (world new : World) (step : LifeStep) → LivesFree1 tree p numbering world step new → AllFine world → (d : ℕ) → IsLeaf tree d → StepAt world new d
+  -- a step leaves each device as it should be, and its number does not fall
+  pub step_at : (world new : World) (step : LifeStep) → LivesFree1 tree p numbering world step new → AllFine world → (d : ℕ) →
+      IsLeaf tree d → StepAt world new d
   step_at world new (RelayUp c i) did fine d leaf =
       let base : System = Rattle.pm_system.specs.System.with_relay world.seen c did.after.relay in
-      quiet_step world new d (ap (λ (w : World). w.up d) did.new_is ∙ updated_other world.up c true d (Rattle.pm_system.proofs.Moving.relay_no_leaf tree c d did.conc leaf))
+      quiet_step world new d
+      (ap (λ (w : World). w.up d) did.new_is ∙ updated_other world.up c true d (Rattle.pm_system.proofs.Moving.relay_no_leaf tree c d did.conc leaf))
       (ap (λ (w : World). (w.seen.agents d).number) did.new_is ∙ ap (λ f. (f d).number) (handed_values tree numbering c (take i did.outs) base).2)
       (ap (λ (w : World). number_now w d) did.new_is) (fine d leaf)
   step_at world new (Relay c frame n) did fine d leaf =
@@ -493,6 +528,7 @@ module _ (tree : Lists) (p : Pricing) (numbering : Numbering) (market : IsTreeMa
             (fine d leaf)
       ]
 
+  -- so it leaves all devices
   pub all_fine : (world new : World) (step : LifeStep) → LivesFree1 tree p numbering world step new → AllFine world → AllFine new
   all_fine world new step did fine d leaf = (step_at world new step did fine d leaf).fine
 
@@ -507,7 +543,8 @@ module _ (tree : Lists) (p : Pricing) (numbering : Numbering) (market : IsTreeMa
   bound (step ∷ steps) world new live = bound_of world step + bound steps live.0 new live.2
 
   -- a step asks nothing outside the numbers that it gives
-  pub step_outside : (world new : World) (step : LifeStep) → LivesFree1 tree p numbering world step new → AllFine world → (w : Wanted) (d n : ℕ) → IsLeaf tree d →
+  pub step_outside : (world new : World) (step : LifeStep) → LivesFree1 tree p numbering world step new → AllFine world →
+      (w : Wanted) (d n : ℕ) → IsLeaf tree d →
       Outside (number_now world d) (number_now new d) n → SameAt (asks_of world step w) w d n
   step_outside world new (RelayUp c i) did fine w d n leaf out = same_self w d n
   step_outside world new (Relay c frame k) did fine w d n leaf out = same_self w d n
@@ -525,7 +562,8 @@ module _ (tree : Lists) (p : Pricing) (numbering : Numbering) (market : IsTreeMa
       ])
 
   -- nothing is wanted up to the number that is stored
-  pub built_low : (steps : List LifeStep) (world new : World) (live : LiveFree tree p numbering world steps new) → AllFine world → (d n : ℕ) → IsLeaf tree d →
+  pub built_low : (steps : List LifeStep) (world new : World) (live : LiveFree tree p numbering world steps new) → AllFine world →
+      (d n : ℕ) → IsLeaf tree d →
       n ≤ number_now world d → (built steps world new live).member d n ≡ false
   built_low [] world new live fine d n leaf low = refl
   built_low (step ∷ steps) world new live fine d n leaf low =
@@ -544,6 +582,7 @@ module _ (tree : Lists) (p : Pricing) (numbering : Numbering) (market : IsTreeMa
       let was = fine e did.leaf in
       asks_odd (world.seen.agents e) was.half (was.same did.runs ∙ was.even) e frame w d k
 
+  -- under odd numbers no device is a member
   pub built_odd : (steps : List LifeStep) (world new : World) (live : LiveFree tree p numbering world steps new) → AllFine world → (d k : ℕ) →
       (built steps world new live).member d (k + k + 1) ≡ false
   built_odd [] world new live fine d k = refl
@@ -551,7 +590,8 @@ module _ (tree : Lists) (p : Pricing) (numbering : Numbering) (market : IsTreeMa
       step_odd world live.0 step live.1 fine (built steps live.0 new live.2) d k
       ∙ built_odd steps live.0 new live.2 (all_fine world live.0 step live.1 fine) d k
 
-  step_demands : (world new : World) (step : LifeStep) → LivesFree1 tree p numbering world step new → (w : Wanted) → AreDemands p w → AreDemands p (asks_of world step w)
+  step_demands : (world new : World) (step : LifeStep) → LivesFree1 tree p numbering world step new → (w : Wanted) → AreDemands p w →
+      AreDemands p (asks_of world step w)
   step_demands world new (RelayUp c i) did w were = were
   step_demands world new (Relay c frame i) did w were = were
   step_demands world new RootUp did w were = were
@@ -559,6 +599,7 @@ module _ (tree : Lists) (p : Pricing) (numbering : Numbering) (market : IsTreeMa
   step_demands world new (DeviceUp e i) did w were = were
   step_demands world new (Device e frame i) did w were = asks_demands p world.basis world.seen e frame w did.may were
 
+  -- each offer is a demand
   pub built_demands : (steps : List LifeStep) (world new : World) (live : LiveFree tree p numbering world steps new) → IsDemand p.steps (zeros p.steps) →
       AreDemands p (built steps world new live)
   unfolding AreDemands

@@ -1,10 +1,9 @@
 -- Lives of which no lists are given are lives of the lists that they make.
-use Rattle.std.proofs.Common.{◌≡◌, ◌⊎◌, ◌∙◌, sym, ap, subst, ℕ, ℤ, ◌+◌, ◌-◌, ◌<◌, ◌≤◌, ◌^◌, Bool, true, false, cond, ltb, eqb, List, [], ◌∷◌, take, Some, refl, inl, inr, arith, pos, ◌≤ℤ◌, subst₂}
-use Rattle.std.proofs.lemmas.Int.{ints}
-use Rattle.pm_bid.proofs.Sums.{zeros-at}
+use Rattle.std.proofs.Common.{◌≡◌, ◌⊎◌, ◌∙◌, sym, ap, subst, ℕ, ℤ, ◌+◌, ◌-◌, ◌<◌, ◌≤◌, ◌^◌, Bool, true}
+use Rattle.std.proofs.Common.{false, cond, ltb, eqb, List, [], ◌∷◌, take, Some, refl, inl, inr, arith, ◌≤ℤ◌}
 use Rattle.std.proofs.lemmas.Bool.{cond-true, lt-ltb}
 use Rattle.pm_base.specs.Cuts.{Cut}
-use Rattle.pm_base.specs.Limits.{AreLimits, IsWithin, demand_limit}
+use Rattle.pm_base.specs.Limits.{AreLimits}
 use Rattle.pm_base.specs.declared.limits.Limits.{Limits}
 use Rattle.pm_bid.specs.Bids.{zeros}
 use Rattle.pm_market.specs.Lists.{Lists, parent, is_leaf, is_member, IsNode, IsLeaf}
@@ -37,12 +36,15 @@ use Rattle.pm_lives.specs.RelayLife.{CarriesBid, CarriesLimits, CarriesExpire, R
 use Rattle.pm_lives.specs.RootLife.{RootMayRead}
 use Rattle.pm_lives.specs.DeviceLife.{DeviceMayRead, IsGivenOffer, IsGivenLeaving}
 use Rattle.pm_lives.specs.DeviceWrites.{device_outs}
-use Rattle.pm_lives.specs.Lives.{World, LifeStep, RelayUp, Relay, RootUp, Root, DeviceUp, Device, HandledSome, handed_out, stored_last, restart_outs, Live, Lives1}
+use Rattle.pm_lives.specs.Lives.{World, LifeStep, RelayUp, Relay, RootUp, Root, DeviceUp, Device, HandledSome, handed_out, stored_last, restart_outs}
+use Rattle.pm_lives.specs.Lives.{Live, Lives1}
 use Rattle.pm_lives.specs.Lives.{let_go_at_relay, let_go_at_root, IsNewWorld}
 use Rattle.pm_lives.specs.Free.{CarriesLetGo, RelayIsFree, RootIsFree, DeviceIsFree, LivesFree1, LiveFree, HasLists}
+use Rattle.pm_system.proofs.Offers.{zeros_demand}
 use Rattle.pm_lives.proofs.Building.{lists_of, demand_of, pricing_of, members_are, changes_are, is_market}
 use Rattle.pm_lives.proofs.Freeing.{handed_same, relay_let_same, root_let_same, outs_same, restart_same, Wanted, SameAt, with_wanted, wanted_other, wanted_same}
-use Rattle.pm_lives.proofs.Freeing.{asks_anew, asks_device, FineAt, number_now, StepAt, bound_of, asks_of, is_odd, AllFine, device_now, step_at, all_fine, built, bound}
+use Rattle.pm_lives.proofs.Freeing.{asks_anew, asks_device, FineAt, number_now, StepAt, bound_of, asks_of, is_odd, AllFine, device_now, step_at}
+use Rattle.pm_lives.proofs.Freeing.{all_fine, built, bound}
 use Rattle.pm_lives.proofs.Freeing.{step_outside, built_low, built_odd, built_demands}
 
 module _ (tree : Lists) (p : Pricing) (numbering : Numbering) (market : IsTreeMarket tree p numbering) (all : Wanted) (count : ℕ)
@@ -86,7 +88,8 @@ module _ (tree : Lists) (p : Pricing) (numbering : Numbering) (market : IsTreeMa
         passes = carries.passes;
       }
 
-  same_bid : (sys : System) (y sender number : ℕ) (demand : Rattle.std.proofs.Common.Option (List ℤ)) → CarriesBid tree p numbering sys y sender number demand →
+  same_bid : (sys : System) (y sender number : ℕ) (demand : Rattle.std.proofs.Common.Option (List ℤ)) →
+      CarriesBid tree p numbering sys y sender number demand →
       CarriesBid lists pricing numbering sys y sender number demand
   unfolding parent
   same_bid sys y sender number demand c = record {
@@ -191,8 +194,10 @@ module _ (tree : Lists) (p : Pricing) (numbering : Numbering) (market : IsTreeMa
   Agrees world w = (d n : ℕ) → IsLeaf tree d → number_now world d < n → SameAt all w d n
 
   -- one step
-  step_live : (world new : World) (step : LifeStep) → LivesFree1 tree p numbering world step new → AllFine tree p numbering market world → (rest : Wanted) →
-      Agrees world (asks_of world step rest) → ((d n : ℕ) → IsLeaf tree d → n ≤ number_now new d → rest.member d n ≡ false) → bound_of world step ≤ count →
+  step_live : (world new : World) (step : LifeStep) → LivesFree1 tree p numbering world step new → AllFine tree p numbering market world →
+      (rest : Wanted) →
+      Agrees world (asks_of world step rest) → ((d n : ℕ) → IsLeaf tree d → n ≤ number_now new d → rest.member d n ≡ false) →
+      bound_of world step ≤ count →
       Lives1 lists pricing numbering world step new
   unfolding is_leaf
   step_live world new (RelayUp c n) did fine rest agree low le =
@@ -233,8 +238,10 @@ module _ (tree : Lists) (p : Pricing) (numbering : Numbering) (market : IsTreeMa
         writes = did.writes;
         handled = did.handled;
         new_is = did.new_is
-            ∙ ap (λ (s : System). world_of s (let_go_at_relay tree numbering world.seen c frame world.let_go)) (sym (handed_same tree all.member count numbering c outs base))
-            ∙ ap (λ (f : ℕ → ℕ). world_of (handed_out lists numbering base c outs) f) (sym (relay_let_same tree all.member count numbering world.seen c frame world.let_go));
+            ∙ ap (λ (s : System). world_of s (let_go_at_relay tree numbering world.seen c frame world.let_go))
+            (sym (handed_same tree all.member count numbering c outs base))
+            ∙ ap (λ (f : ℕ → ℕ). world_of (handed_out lists numbering base c outs) f)
+            (sym (relay_let_same tree all.member count numbering world.seen c frame world.let_go));
       }
   step_live world new RootUp did fine rest agree low le = record { root = did.root; back = did.back; new_is = did.new_is }
   step_live world new (Root frame n) did fine rest agree low le =
@@ -253,8 +260,10 @@ module _ (tree : Lists) (p : Pricing) (numbering : Numbering) (market : IsTreeMa
         writes = did.writes;
         handled = did.handled;
         new_is = did.new_is
-            ∙ ap (λ (s : System). world_of s (let_go_at_root tree numbering world.seen frame world.let_go)) (sym (handed_same tree all.member count numbering 0 outs base))
-            ∙ ap (λ (f : ℕ → ℕ). world_of (handed_out lists numbering base 0 outs) f) (sym (root_let_same tree all.member count numbering world.seen frame world.let_go));
+            ∙ ap (λ (s : System). world_of s (let_go_at_root tree numbering world.seen frame world.let_go))
+            (sym (handed_same tree all.member count numbering 0 outs base))
+            ∙ ap (λ (f : ℕ → ℕ). world_of (handed_out lists numbering base 0 outs) f)
+            (sym (root_let_same tree all.member count numbering world.seen frame world.let_go));
       }
   step_live world new (DeviceUp d n) did fine rest agree low le =
       let k : StoredAgent = world.agent_kept d in
@@ -263,7 +272,8 @@ module _ (tree : Lists) (p : Pricing) (numbering : Numbering) (market : IsTreeMa
       record {
         leaf = did.leaf;
         new_is = did.new_is ∙ ap world_of (sym (handed_same tree all.member count numbering d (take n (restart_outs p k)) base))
-            ∙ ap (λ (l : List (Output StoredAgent)). world_of (handed_out lists numbering base d (take n l))) (sym (restart_same p pricing refl world.basis k));
+            ∙ ap (λ (l : List (Output StoredAgent)). world_of (handed_out lists numbering base d (take n l)))
+            (sym (restart_same p pricing refl world.basis k));
       }
   step_live world new (Device d frame n) did fine rest agree low le =
       let a : DeviceAgent = world.seen.agents d in
@@ -281,8 +291,10 @@ module _ (tree : Lists) (p : Pricing) (numbering : Numbering) (market : IsTreeMa
             (λ i within. low d i did.leaf (omega (arith, within, now)));
         handled = subst (λ (l : List (Output StoredAgent)). HandledSome n l) (sym (outs_same p pricing refl world.basis a frame)) did.handled;
         new_is = did.new_is
-            ∙ ap (λ (s : System). world_of s (device_outs p world.basis a frame)) (sym (handed_same tree all.member count numbering d (take n (device_outs p world.basis a frame)) base))
-            ∙ ap (λ (l : List (Output StoredAgent)). world_of (handed_out lists numbering base d (take n l)) l) (sym (outs_same p pricing refl world.basis a frame));
+            ∙ ap (λ (s : System). world_of s (device_outs p world.basis a frame))
+            (sym (handed_same tree all.member count numbering d (take n (device_outs p world.basis a frame)) base))
+            ∙ ap (λ (l : List (Output StoredAgent)). world_of (handed_out lists numbering base d (take n l)) l)
+            (sym (outs_same p pricing refl world.basis a frame));
       }
 
   -- and all
@@ -305,21 +317,13 @@ module _ (tree : Lists) (p : Pricing) (numbering : Numbering) (market : IsTreeMa
             (omega (arith, le)),
       )
 
--- no power at any step is a demand
-no_power : (steps : ℕ) → IsDemand steps (zeros steps)
-no_power steps = record {
-  one_each = Rattle.std.proofs.lemmas.List.length-replicate steps (pos 0);
-  small = λ k inside. subst (λ (n : ℤ). IsWithin demand_limit n) (sym (zeros-at steps k)) (record { low = omega (arith, ints); high = omega (arith, ints) });
-  falls = λ k inside. subst₂ (λ (a b : ℤ). a ≤ℤ b) (sym (zeros-at steps (k + 1))) (sym (zeros-at steps k)) (omega (arith, ints));
-}
-
 -- for lives of any controls there are lists
 pub has_lists : (tree : Lists) (p : Pricing) (numbering : Numbering) → IsTreeMarket tree p numbering →
     ((x : ℕ) (cut : Cut) (l : Limits) → p.limits x cut ≡ Some l → AreLimits l) → (world new : World) (steps : List LifeStep) →
     IsNewWorld p numbering world → LiveFree tree p numbering world steps new → HasLists tree p numbering world steps new
 unfolding Rattle.pm_lives.proofs.Freeing.AreDemands is_leaf
 has_lists tree p numbering market around world new steps none live =
-    let nothing : IsDemand p.steps (zeros p.steps) = no_power p.steps in
+    let nothing : IsDemand p.steps (zeros p.steps) = zeros_demand p.steps in
     let all : Wanted = built tree p numbering market steps world new live in
     let count : ℕ = bound tree p numbering market steps world new live in
     let fine : AllFine tree p numbering market world = λ d leaf. record {

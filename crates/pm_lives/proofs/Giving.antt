@@ -1,5 +1,6 @@
 -- Which bids calls put into the channels of devices: their own, and those under which they are let go.
-use Rattle.std.proofs.Common.{◌≡◌, ◌⊎◌, ◌∙◌, sym, ap, subst, ℕ, ℤ, ◌+◌, ◌≤◌, ltb, true, false, List, [], ◌∷◌, ◌++◌, length, Option, Some, None, refl, inl, inr, arith}
+use Rattle.std.proofs.Common.{◌≡◌, ◌⊎◌, ◌∙◌, sym, ap, subst, ℕ, ℤ, ◌+◌, ◌≤◌, ltb, true, false, List, [], ◌∷◌}
+use Rattle.std.proofs.Common.{◌++◌, length, Option, Some, None, refl, inl, inr, arith}
 use Rattle.std.proofs.lemmas.Bool.{cases_lt}
 use Rattle.std.proofs.lemmas.List.{get_or_append_left, get_or_push, length_push}
 use Rattle.std.specs.List.{Contains}
@@ -17,6 +18,7 @@ use Rattle.pm_control.specs.Control.{newest_demand}
 use Rattle.pm_system.specs.System.{System, price_in_channel, with_agent, with_bid_sent, with_setpoints}
 use Rattle.pm_system.specs.Calls as call
 use Rattle.pm_system.specs.Calls.{NodeCall, SystemRuns, DeviceChanges, bid_kept}
+use Rattle.pm_system.proofs.Frames.{kept_number}
 use Rattle.pm_system.proofs.Moving.{relay_no_leaf}
 use Rattle.pm_lives.specs.Moves.{IsCalm, AreCalm}
 
@@ -42,6 +44,7 @@ calm_call_gives Lets x (call.Resends y) is = tt
 calm_call_gives Lets x call.StopsClearing is = tt
 calm_call_gives Lets x (call.TellsOne z) is = tt
 
+-- calm calls let a device go only under the numbers that they may
 pub calm_gives : (Lets : ℕ → ℕ → Type 0) (x : ℕ) (calls : List NodeCall) → AreCalm Lets x calls → GivesOnly Lets calls
 calm_gives Lets x [] are = tt
 calm_gives Lets x (one ∷ calls) are = (calm_call_gives Lets x one are.0, calm_gives Lets x calls are.1)
@@ -69,17 +72,15 @@ answered_number : (agent : DeviceAgent) (price : PriceMessage) (o : Option Offer
 answered_number agent price None = refl
 answered_number agent price (Some offer) = refl
 
+-- a price gives a device no number
 pub price_number : (agent : DeviceAgent) (price : PriceMessage) → (after_price agent price).number ≡ agent.number
 price_number agent price =
     either (λ (a : DeviceAgent). a.number ≡ agent.number) (ltb agent.index price.index) (answered_by agent price (kept_offer agent price.number)) agent
     (λ e. answered_number agent price (kept_offer agent price.number)) (λ e. refl)
 
-kept_number_is : (p : Pricing) (n : ℕ) (newest : Option (List ℤ)) → (bid_kept p n newest).number ≡ n
-kept_number_is p n None = refl
-kept_number_is p n (Some demand) = refl
-
 -- of a device x: its number never falls, and each bid in its channel was there, is of a number that it gave, or of one under which it was let go
 pub record Known (Lets : ℕ → ℕ → Type 0) (x : ℕ) (sys new : System) : Type 0 where
+  -- its number never falls
   pub rises : (sys.agents x).number ≤ (new.agents x).number
   pub bids : (bid : BidMessage) → Contains (new.bids_sent x) bid →
       Contains (sys.bids_sent x) bid ⊎ ((bid.number ≤ (new.agents x).number) ⊎ Lets x bid.number)
@@ -152,7 +153,8 @@ module _ (Lets : ℕ → ℕ → Type 0) (lists : Lists) (p : Pricing) (numberin
     rises = omega arith;
     bids = λ b at. elim (push_bids sys.bids_sent d (bid_message n true (zeros p.steps)) x b at) [
       | inl old ↦ inl old
-      | inr new ↦ inr (inr (subst (λ (z : ℕ). Lets z b.number) (sym new.0) (subst (λ (k : ℕ). Lets d k) (sym (ap (λ (q : BidMessage). q.number) new.1)) gives)))
+      | inr new ↦ inr
+          (inr (subst (λ (z : ℕ). Lets z b.number) (sym new.0) (subst (λ (k : ℕ). Lets d k) (sym (ap (λ (q : BidMessage). q.number) new.1)) gives)))
     ];
   })
   one_call (call.TakesBid y k) sys new (inl did) gives =
@@ -162,10 +164,11 @@ module _ (Lets : ℕ → ℕ → Type 0) (lists : Lists) (p : Pricing) (numberin
   one_call (call.Sends c) sys new did gives =
       subst (λ (t : System). Known Lets x sys t) (sym did.new_is) (record {
         rises = omega arith;
-        bids = λ b at. elim (push_bids sys.bids_sent c (bid_message did.number false (Rattle.pm_concentrator.specs.Concentrators.own_demand did.relay.gathered)) x b at) [
-          | inl old ↦ inl old
-          | inr new ↦ absurd (relay_no_leaf lists c x did.conc leaf new.0)
-        ];
+        bids = λ b at.
+            elim (push_bids sys.bids_sent c (bid_message did.number false (Rattle.pm_concentrator.specs.Concentrators.own_demand did.relay.gathered)) x b at) [
+              | inl old ↦ inl old
+              | inr new ↦ absurd (relay_no_leaf lists c x did.conc leaf new.0)
+            ];
       })
   one_call call.Clears sys new did gives =
       subst (λ (t : System). Known Lets x sys t) (sym did.new_is) (record { rises = omega arith; bids = λ b at. inl at })
@@ -194,7 +197,7 @@ module _ (Lets : ℕ → ℕ → Type 0) (lists : Lists) (p : Pricing) (numberin
       (Rattle.pm_concentrator.specs.Concentrators.own_demand (sys.relays c).gathered)) (relay_no_leaf lists c x did.conc leaf))
   one_call (call.Resends d) sys new (inr did) gives =
       subst (λ (t : System). Known Lets x sys t) (sym did.new_is) (own_known sys d (bid_kept p (sys.agents d).number (newest_demand (sys.agents d)))
-      (omega (arith, kept_number_is p (sys.agents d).number (newest_demand (sys.agents d)))))
+      (omega (arith, kept_number p (sys.agents d).number (newest_demand (sys.agents d)))))
   one_call call.StopsClearing sys new did gives =
       subst (λ (t : System). Known Lets x sys t) (sym did.new_is) (record { rises = omega arith; bids = λ b at. inl at })
   one_call (call.TellsOne z) sys new did gives =

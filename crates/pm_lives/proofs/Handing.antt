@@ -1,5 +1,6 @@
 -- What the carriers hand out was sent, and what they store may be stored.
-use Rattle.std.proofs.Common.{◌≡◌, ◌⊎◌, ◌∙◌, sym, ap, subst, ℕ, zero, suc, ◌<◌, ◌≤◌, cond, eqb, List, [], ◌∷◌, ◌++◌, length, get_or, take, refl, inl, inr, arith, append-nil, append_assoc}
+use Rattle.std.proofs.Common.{◌≡◌, ◌⊎◌, ◌∙◌, sym, ap, subst, ℕ, zero, suc, ◌<◌, ◌≤◌, cond, eqb, List, [], ◌∷◌}
+use Rattle.std.proofs.Common.{◌++◌, length, get_or, take, refl, inl, inr, arith, append-nil, append_assoc}
 use Rattle.std.proofs.lemmas.Bool.{cases_Bool, cases_eq, cond-true, cond-false, eqb-true}
 use Rattle.std.specs.List.{Contains}
 use Rattle.pm_market.specs.Lists.{Lists, parent, IsNode}
@@ -186,6 +187,7 @@ handed_told lists numbering y (Tells setpoint ∷ outs) seen =
     ∙ append_assoc (seen.setpoints y) (setpoint ∷ []) (told_by outs)
 handed_told lists numbering y (Says bytes ∷ outs) seen = handed_told lists numbering y outs seen
 
+-- what is handed out of a node's frames gives no other node a setpoint
 pub handed_untold : {K : Type 0} (lists : Lists) (numbering : Numbering) (y : ℕ) (outs : List (Output K)) (seen : System) (x : ℕ) → (x ≡ y → ⊥) →
     (handed_out lists numbering seen y outs).setpoints x ≡ seen.setpoints x
 handed_untold lists numbering y [] seen x ne = refl

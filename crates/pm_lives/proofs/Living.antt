@@ -1,5 +1,7 @@
 -- The lives of the nodes of a market are a run of a system.
-use Rattle.std.proofs.Common.{◌≡◌, ◌⊎◌, ◌∙◌, sym, ap, subst, ℕ, ◌+◌, ◌-◌, ◌<◌, ◌≤◌, ◌^◌, Bool, true, false, replicate, List, [], ◌∷◌, ◌++◌, length, take, Option, Some, None, refl, inl, inr, arith, append-nil, append_assoc}
+use Rattle.std.proofs.Common.{◌≡◌, ◌⊎◌, ◌∙◌, sym, ap, subst, ℕ, ◌+◌, ◌-◌, ◌<◌, ◌≤◌, ◌^◌, Bool, true, false}
+use Rattle.std.proofs.Common.{replicate, List, [], ◌∷◌, ◌++◌, length, take, Option, Some, None, refl, inl, inr, arith, append-nil}
+use Rattle.std.proofs.Common.{append_assoc}
 use Rattle.std.proofs.lemmas.Bool.{cases_Bool, cases_eq, both_ways}
 use Rattle.std.proofs.lemmas.List.{get_or-replicate}
 use Rattle.std.specs.List.{Contains}
@@ -55,7 +57,8 @@ use Rattle.pm_lives.proofs.Giving.{calm_gives, known_run}
 use Rattle.pm_lives.proofs.Telling.{BidsKnown, known_next, restart_silent, answer_told, relay_rises, relay_lets, root_rises, root_lets}
 use Rattle.pm_lives.proofs.Handing.{handed_told, handed_untold}
 use Rattle.pm_lives.proofs.Staying.{still, then_moves}
-use Rattle.pm_lives.specs.Lives.{World, AllIn, LivesAreCalls, handed_out, stored_last, RelayBegins, RelayReads, RootBegins, RootReads, DeviceBegins, DeviceReads, LifeStep, Lives1, Live, IsNewWorld, LivesKeepTheLaw, restart_outs}
+use Rattle.pm_lives.specs.Lives.{World, AllIn, LivesAreCalls, handed_out, stored_last, RelayBegins, RelayReads, RootBegins, RootReads, DeviceBegins}
+use Rattle.pm_lives.specs.Lives.{DeviceReads, LifeStep, Lives1, Live, IsNewWorld, LivesKeepTheLaw, restart_outs}
 use Rattle.pm_lives.specs.Lives.{RelayUp, Relay, RootUp, Root, DeviceUp, Device}
 use Rattle.pm_lives.proofs.After.{runs_on, up_on, calm_up}
 use Rattle.pm_services.specs.Receipts.{sender_place}
@@ -67,15 +70,19 @@ use Rattle.pm_lives.proofs.Beginning.{relay_begins, root_begins, device_begins, 
 
 -- ---- the world stands for a system
 
-pub record RelayOk (p : Pricing) (numbering : Numbering) (sys : System) (c : ℕ) (up : Bool) (relay : RelayValue) (waiting : Option PriceUpdate) (stored : StoredRelay) : Type 0 where
+pub record RelayOk (p : Pricing) (numbering : Numbering) (sys : System) (c : ℕ) (up : Bool) (relay : RelayValue) (waiting : Option PriceUpdate)
+    (stored : StoredRelay) : Type 0 where
+  -- what is stored of it may be
   pub kept : IsKept p numbering sys c stored
   pub stands : up ≡ true → RelayStands sys c (record { relay = relay; waiting = waiting })
 
 pub record RootOk (sys : System) (up : Bool) (root : RootValue) (stored : StoredRoot) : Type 0 where
+  -- what is stored of it may be
   pub kept : IsRootKept sys stored
   pub stands : up ≡ true → sys.root ≡ root
 
 pub record AgentOk (sys : System) (d : ℕ) (up : Bool) (agent : DeviceAgent) (stored : StoredAgent) : Type 0 where
+  -- what is stored of it may be
   pub kept : IsAgentKept sys d stored
   pub stands : up ≡ true → AgentStands sys d agent
   -- no process of it ran yet
@@ -92,8 +99,10 @@ AgentOkIn sys world d = AgentOk sys d (world.up d) (world.seen.agents d) (world.
 
 -- each process that runs is a node of the system, what is stored of each node may be, and what was handed out was sent
 pub record WorldStands (lists : Lists) (p : Pricing) (numbering : Numbering) (world : World) (sys : System) : Type 0 where
+  -- each relay is as it should be
   pub relays : (c : ℕ) → IsConcentrator lists c → RelayOkIn p numbering sys world c
   pub root : RootOkIn sys world
+  -- so is each device
   pub agents : (d : ℕ) → IsLeaf lists d → AgentOkIn sys world d
   pub sent : AllIn lists p world.seen sys
   -- each control was told what it was told in the system, and each bid of a device is known
@@ -102,18 +111,22 @@ pub record WorldStands (lists : Lists) (p : Pricing) (numbering : Numbering) (wo
 
 -- ---- the same values
 
-relay_ok_as : (p : Pricing) (numbering : Numbering) (sys : System) (c : ℕ) (up up' : Bool) (r r' : RelayValue) (w w' : Option PriceUpdate) (k k' : StoredRelay) → up' ≡ up → r' ≡ r → w' ≡ w →
+relay_ok_as : (p : Pricing) (numbering : Numbering) (sys : System) (c : ℕ) (up up' : Bool) (r r' : RelayValue) (w w' : Option PriceUpdate)
+    (k k' : StoredRelay) → up' ≡ up → r' ≡ r → w' ≡ w →
     k' ≡ k → RelayOk p numbering sys c up r w k → RelayOk p numbering sys c up' r' w' k'
 relay_ok_as p numbering sys c up up' r r' w w' k k' e1 e2 e3 e4 ok =
     subst (λ (x : Bool). RelayOk p numbering sys c x r' w' k') (sym e1) (subst (λ (x : RelayValue). RelayOk p numbering sys c up x w' k') (sym e2)
-    (subst (λ (x : Option PriceUpdate). RelayOk p numbering sys c up r x k') (sym e3) (subst (λ (x : StoredRelay). RelayOk p numbering sys c up r w x) (sym e4) ok)))
+    (subst (λ (x : Option PriceUpdate). RelayOk p numbering sys c up r x k') (sym e3)
+    (subst (λ (x : StoredRelay). RelayOk p numbering sys c up r w x) (sym e4) ok)))
 
-root_ok_as : (sys : System) (up up' : Bool) (r r' : RootValue) (k k' : StoredRoot) → up' ≡ up → r' ≡ r → k' ≡ k → RootOk sys up r k → RootOk sys up' r' k'
+root_ok_as : (sys : System) (up up' : Bool) (r r' : RootValue) (k k' : StoredRoot) → up' ≡ up → r' ≡ r → k' ≡ k → RootOk sys up r k →
+    RootOk sys up' r' k'
 root_ok_as sys up up' r r' k k' e1 e2 e4 ok =
     subst (λ (x : Bool). RootOk sys x r' k') (sym e1) (subst (λ (x : RootValue). RootOk sys up x k') (sym e2)
     (subst (λ (x : StoredRoot). RootOk sys up r x) (sym e4) ok))
 
-agent_ok_as : (sys : System) (d : ℕ) (up up' : Bool) (r r' : DeviceAgent) (k k' : StoredAgent) → up' ≡ up → r' ≡ r → k' ≡ k → AgentOk sys d up r k →
+agent_ok_as : (sys : System) (d : ℕ) (up up' : Bool) (r r' : DeviceAgent) (k k' : StoredAgent) → up' ≡ up → r' ≡ r → k' ≡ k →
+    AgentOk sys d up r k →
     AgentOk sys d up' r' k'
 agent_ok_as sys d up up' r r' k k' e1 e2 e4 ok =
     subst (λ (x : Bool). AgentOk sys d x r' k') (sym e1) (subst (λ (x : DeviceAgent). AgentOk sys d up x k') (sym e2)
@@ -121,7 +134,8 @@ agent_ok_as sys d up up' r r' k k' e1 e2 e4 ok =
 
 -- ---- elsewhere
 
-relay_elsewhere : (p : Pricing) (numbering : Numbering) (y c : ℕ) (sys new : System) → OnlyMoves y sys new → (c ≡ y → ⊥) → (up : Bool) (r : RelayValue) (w : Option PriceUpdate) (k : StoredRelay) →
+relay_elsewhere : (p : Pricing) (numbering : Numbering) (y c : ℕ) (sys new : System) → OnlyMoves y sys new → (c ≡ y → ⊥) →
+    (up : Bool) (r : RelayValue) (w : Option PriceUpdate) (k : StoredRelay) →
     RelayOk p numbering sys c up r w k → RelayOk p numbering new c up r w k
 relay_elsewhere p numbering y c sys new moves ne up r w k ok =
     let same : new.relays c ≡ sys.relays c = moves.relays c ne in
@@ -147,7 +161,8 @@ relay_elsewhere p numbering y c sys new moves ne up r w k ok =
     still_waits y c sys new moves None is = tt
     still_waits y c sys new moves (Some price) is = update_stays y sys new moves c price is
 
-root_elsewhere : (y : ℕ) (sys new : System) → OnlyMoves y sys new → (0 ≡ y → ⊥) → (up : Bool) (r : RootValue) (k : StoredRoot) → RootOk sys up r k →
+root_elsewhere : (y : ℕ) (sys new : System) → OnlyMoves y sys new → (0 ≡ y → ⊥) → (up : Bool) (r : RootValue) (k : StoredRoot) →
+    RootOk sys up r k →
     RootOk new up r k
 root_elsewhere y sys new moves ne up r k ok =
     let same : new.root ≡ sys.root = moves.root (λ e. ne (sym e)) in
@@ -187,8 +202,10 @@ pub record AgreesBut (y : ℕ) (world new : World) : Type 0 where
   agent_kept : (z : ℕ) → (z ≡ y → ⊥) → new.agent_kept z ≡ world.agent_kept z
   root_kept : (0 ≡ y → ⊥) → new.root_kept ≡ world.root_kept
 
-stands_but : (lists : Lists) (p : Pricing) (numbering : Numbering) (y : ℕ) (world new : World) (sys after : System) → AgreesBut y world new → OnlyMoves y sys after →
-    WorldStands lists p numbering world sys → AllIn lists p new.seen after → (IsConcentrator lists y → RelayOkIn p numbering after new y) → (0 ≡ y → RootOkIn after new) →
+stands_but : (lists : Lists) (p : Pricing) (numbering : Numbering) (y : ℕ) (world new : World) (sys after : System) → AgreesBut y world new →
+    OnlyMoves y sys after →
+    WorldStands lists p numbering world sys → AllIn lists p new.seen after → (IsConcentrator lists y → RelayOkIn p numbering after new y) →
+    (0 ≡ y → RootOkIn after new) →
     (IsLeaf lists y → AgentOkIn after new y) → ((d : ℕ) → IsLeaf lists d → new.seen.setpoints d ≡ after.setpoints d) →
     ((d : ℕ) → IsLeaf lists d → BidsKnown after new.let_go d) → WorldStands lists p numbering new after
 stands_but lists p numbering y world new sys after agrees moves stands sent relay root agent told known = record {
@@ -293,7 +310,8 @@ module _ (lists : Lists) (p : Pricing) (numbering : Numbering) (seen sys : Syste
   device_may own d node same (device_frame.Parent (Price child number index step basis)) may =
       (may.0, price_carried d (price_message number index step) node may.1)
   device_may own d node same (device_frame.Parent (Old child kept)) may =
-      subst (λ (a : DeviceAgent). Rattle.std.specs.Prelude.nat_lt a.number kept ≡ true → Rattle.std.specs.Prelude.nat_lt (a.number + 7) (2 ^ 32) ≡ true → (demand : List Rattle.std.proofs.Common.ℤ) →
+      subst (λ (a : DeviceAgent). Rattle.std.specs.Prelude.nat_lt a.number kept ≡ true →
+      Rattle.std.specs.Prelude.nat_lt (a.number + 7) (2 ^ 32) ≡ true → (demand : List Rattle.std.proofs.Common.ℤ) →
       newest_demand a ≡ Some demand → IsGivenLeaving lists d (a.number + 2)
       × IsGivenOffer lists p d (a.number + 2 + 2) demand) same may
   device_may own d node same (device_frame.Resume stored) may = may
@@ -341,7 +359,8 @@ module _ (lists : Lists) (p : Pricing) (numbering : Numbering) (market : IsTreeM
       goes lists p numbering before began.calls sys began.new market has began.runs in
       let l = relay_learns_kept goes lists p numbering (before ++ began.calls) began.new c market began_has did.conc (setup_of numbering world c) did.relay
       began.stands (world.terms c).giver stored did.after did.outs
-      (λ giver is some. limits_carried lists p numbering world.seen began.new began_sent c giver (child_number stored.numbers (sender_place giver)) stored.limits
+      (λ giver is some. limits_carried lists p numbering world.seen began.new began_sent c giver
+      (child_number stored.numbers (sender_place giver)) stored.limits
       (did.may giver is some)) did.learns in
       let f = l.follows in
       let first : List (Output StoredRelay) = take n did.outs in
@@ -392,8 +411,10 @@ module _ (lists : Lists) (p : Pricing) (numbering : Numbering) (market : IsTreeM
   relay_reads before has c frame n new did =
       let ok = stands.relays c did.conc in
       let here = ok.stands did.runs in
-      let f = relay_answers goes two lists p numbering before sys c market has did.conc (setup_of numbering world c) (record { relay = world.seen.relays c; waiting = world.waiting c })
-      did.after frame did.outs here (relay_may lists p numbering world.seen sys stands.sent (setup_of numbering world c) c did.conc here.relay_is frame did.may) did.writes in
+      let f = relay_answers goes two lists p numbering before sys c market has did.conc (setup_of numbering world c)
+      (record { relay = world.seen.relays c; waiting = world.waiting c })
+      did.after frame did.outs here
+      (relay_may lists p numbering world.seen sys stands.sent (setup_of numbering world c) c did.conc here.relay_is frame did.may) did.writes in
       let first : List (Output StoredRelay) = take n did.outs in
       let base : System = with_relay world.seen c did.after.relay in
       let kept : StoredRelay = stored_last (world.relay_kept c) first in
@@ -427,7 +448,8 @@ module _ (lists : Lists) (p : Pricing) (numbering : Numbering) (market : IsTreeM
             (ap (λ f. f c) values.0 ∙ updated_same world.seen.relays c did.after.relay) (updated_same world.waiting c did.after.waiting)
             (updated_same world.relay_kept c kept)
             (record {
-              kept = stored_may (λ k. IsKept p numbering sys c k) (λ k. IsKept p numbering f.new c k) (world.relay_kept c) n did.outs ok.kept f.kept f.first did.handled;
+              kept = stored_may (λ k. IsKept p numbering sys c k) (λ k. IsKept p numbering f.new c k)
+                  (world.relay_kept c) n did.outs ok.kept f.kept f.first did.handled;
               stands = λ e. f.stands;
             }))
             (λ e. absurd (relay_no_root lists c did.conc (sym e)))
@@ -772,7 +794,8 @@ module _ (lists : Lists) (p : Pricing) (numbering : Numbering) (market : IsTreeM
     stands : WorldStands lists p numbering new sys
     ups : (d : ℕ) → IsLeaf lists d → OnceFrom d world steps → StaysUp d calls
 
-  up_same : (world new : World) (step : LifeStep) → Lives1 lists p numbering world step new → (d : ℕ) → IsLeaf lists d → (lives.BeginsProcess d step → ⊥) →
+  up_same : (world new : World) (step : LifeStep) → Lives1 lists p numbering world step new → (d : ℕ) → IsLeaf lists d →
+      (lives.BeginsProcess d step → ⊥) →
       new.up d ≡ world.up d
   up_same world new (RelayUp c n) did d leaf other =
       ap (λ (w : World). w.up d) did.new_is ∙ updated_other world.up c true d (relay_no_leaf lists c d did.conc leaf)
@@ -784,7 +807,8 @@ module _ (lists : Lists) (p : Pricing) (numbering : Numbering) (market : IsTreeM
       ap (λ (w : World). w.up d) did.new_is ∙ updated_other world.up e true d (λ same. other (sym same))
   up_same world new (Device e frame n) did d leaf other = ap (λ (w : World). w.up d) did.new_is
 
-  first_of_once : (world : World) (step : LifeStep) (steps : List LifeStep) (d : ℕ) → OnceFrom d world (step ∷ steps) → lives.BeginsProcess d step → world.up d ≡ false
+  first_of_once : (world : World) (step : LifeStep) (steps : List LifeStep) (d : ℕ) → OnceFrom d world (step ∷ steps) →
+      lives.BeginsProcess d step → world.up d ≡ false
   first_of_once world step steps d (inl never) is = absurd (never.0 is)
   first_of_once world step steps d (inr once) is = once.0
 
@@ -854,13 +878,18 @@ module _ (lists : Lists) (p : Pricing) (numbering : Numbering) (market : IsTreeM
 
   -- the world in the end stands for the system after the calls
   pub record LivesStand (steps : List LifeStep) (new : World) : Type 0 where
+    -- the calls that the lives are
     pub calls : List NodeCall
     pub sys : System
+    -- they lead to this system
     pub runs : SystemRuns lists p numbering start calls sys
     pub stands : WorldStands lists p numbering new sys
+    -- a device that began once was not restarted by them
     pub up : (d : ℕ) → IsLeaf lists d → lives.BeginsOnce d steps → StaysUp d calls
 
-  pub lives_stand : (world new : World) (steps : List LifeStep) → IsNewWorld p numbering world → Live lists p numbering world steps new → LivesStand steps new
+  -- the lives of a world in which no process ran before are calls of a system, and it stands for that system
+  pub lives_stand : (world new : World) (steps : List LifeStep) → IsNewWorld p numbering world → Live lists p numbering world steps new →
+      LivesStand steps new
   lives_stand world new steps none live =
       let all = lives_from steps world [] start refl (new_stands lists p numbering market world start none started) new live in
       record { calls = all.calls; sys = all.sys; runs = all.runs; stands = all.stands; up = λ d leaf once. all.ups d leaf (inr (none.up d, once)) }

@@ -1,5 +1,7 @@
 -- What the service of a relay answers to a frame is some calls of the relay.
-use Rattle.std.proofs.Common.{◌≡◌, ◌⊎◌, ◌∙◌, sym, ap, subst, ℕ, ◌≤◌, Bool, true, false, cond, not, ◌&&◌, eqb, leb, ltb, ℤ, List, [], ◌∷◌, ◌++◌, length, get_or, Option, Some, None, refl, inl, inr, arith, append-nil, append_assoc, subst₂, ◌<◌}
+use Rattle.std.proofs.Common.{◌≡◌, ◌⊎◌, ◌∙◌, sym, ap, subst, ℕ, ◌≤◌, Bool, true, false, cond, not, ◌&&◌, eqb, leb, ltb}
+use Rattle.std.proofs.Common.{ℤ, List, [], ◌∷◌, ◌++◌, length, get_or, Option, Some, None, refl, inl, inr, arith, append-nil, append_assoc}
+use Rattle.std.proofs.Common.{subst₂, ◌<◌}
 use Rattle.std.specs.Prelude.{IfSome}
 use Rattle.std.proofs.lemmas.Bool.{cases_Bool, cond-true, eq-eqb, both_ways, and_parts}
 use Rattle.std.proofs.lemmas.List.{get_or_push, length_push}
@@ -51,8 +53,10 @@ use Rattle.pm_lives.specs.Outputs.{Output, Keeps, Says, PriceWasSent, WereSent, 
 use Rattle.pm_lives.specs.Moves.{OnlyMoves, AreCalm}
 use Rattle.pm_lives.specs.RelayWrites.{WritesBounded, WritesTold, WritesGiven, WritesKept, bid_outs}
 use Rattle.pm_lives.specs.Moves.{lets_none}
-use Rattle.pm_lives.specs.RelayWrites.{receipt_outs, downs, own_bid, again_outs, drop_outs, price_outs, WritesPrice, WritesWaiting, WritesBid, WritesLimits, WritesExpire, WritesSend, WritesRelay}
-use Rattle.pm_lives.specs.RelayLife.{IsOfPrice, UpdateWasSent, RelayStands, IsKept, numbers_in_places, CarriesBid, CarriesLimits, CarriesExpire, RelayMayRead, RelayFollows, RelayLets}
+use Rattle.pm_lives.specs.RelayWrites.{receipt_outs, downs, own_bid, again_outs, drop_outs, price_outs, WritesPrice, WritesWaiting, WritesBid}
+use Rattle.pm_lives.specs.RelayWrites.{WritesLimits, WritesExpire, WritesSend, WritesRelay}
+use Rattle.pm_lives.specs.RelayLife.{IsOfPrice, UpdateWasSent, RelayStands, IsKept, numbers_in_places, CarriesBid, CarriesLimits, CarriesExpire}
+use Rattle.pm_lives.specs.RelayLife.{RelayMayRead, RelayFollows, RelayLets}
 use Rattle.pm_lives.proofs.Staying.{still, then_moves, relay_moved, bid_pushed, prices_pushed, price_stays, were_sent, both_sent, kept_to, both_kept}
 use Rattle.pm_lives.proofs.Downs.{downs_sent, downs_keep_none}
 use Rattle.pm_lives.proofs.After.{runs_on, calm_on}
@@ -97,6 +101,7 @@ of_price_stays y sys new moves c answered index (inr at) =
       ap (λ (q : PriceMessage). q.index) there.1 ∙ at.3,
     )
 
+-- a price that was sent stays sent
 pub update_stays : (y : ℕ) (sys new : System) → OnlyMoves y sys new → (c : ℕ) (price : PriceUpdate) → UpdateWasSent sys c price →
     UpdateWasSent new c price
 update_stays y sys new moves c price at =
@@ -182,7 +187,8 @@ limits_known : (old : RelayValue) (child number : ℕ) (limits : Limits) →
     SameNumbers old (with_new_limits old child number limits) × ((with_new_limits old child number limits).answered ≡ old.answered)
     × ((with_new_limits old child number limits).index ≡ old.index)
 limits_known old child number limits =
-    either (λ (r : RelayValue). SameNumbers old r × (r.answered ≡ old.answered) × (r.index ≡ old.index)) (ltb (kept_number old.gathered.cache child) number)
+    either (λ (r : RelayValue). SameNumbers old r × (r.answered ≡ old.answered) × (r.index ≡ old.index))
+    (ltb (kept_number old.gathered.cache child) number)
     (record old { gathered = record (with_child_bid old child number None).gathered { limits = Some limits } }) old
     (λ e. (record { last = refl; recorded = refl; rises = omega arith }, refl, refl)) (λ e. (same_self old, refl, refl))
 
@@ -239,6 +245,7 @@ Outs = List (Output StoredRelay)
 -- what a relay makes of what is stored when a life begins: what is stored may stay
 pub record LearnsKept (lists : Lists) (p : Pricing) (numbering : Numbering) (Lets : ℕ → ℕ → Type 0) (sys : System) (c : ℕ) (after : WaitingRelay)
     (outs : List (Output StoredRelay)) : Type 0 where
+  -- the answer is some calls of the relay
   pub follows : RelayFollows lists p numbering Lets sys c after outs
   pub keeps : (stored : StoredRelay) → IsKept p numbering sys c stored → IsKept p numbering follows.new c stored
 
@@ -421,7 +428,9 @@ module _ (Lets : ℕ → ℕ → Type 0) (lists : Lists) (p : Pricing) (numberin
   -- what stands behind a bid is no message
   beyond_sent : (new : System) (r : RelayValue) →
       WereSent {K = StoredRelay} lists p numbering new c (cond (has_step_within r) [] (Says (out_of_limits_bytes (newest_bid_number r)) ∷ []))
-  beyond_sent new r = either (λ (l : Outs). WereSent {K = StoredRelay} lists p numbering new c l) (has_step_within r) [] (Says (out_of_limits_bytes (newest_bid_number r)) ∷ [])
+  beyond_sent new r =
+      either (λ (l : Outs). WereSent {K = StoredRelay} lists p numbering new c l) (has_step_within r) []
+      (Says (out_of_limits_bytes (newest_bid_number r)) ∷ [])
       (λ e. tt) (λ e. (tt, tt))
 
   beyond_kept : (new : System) (r : RelayValue) →
@@ -506,7 +515,8 @@ module _ (Lets : ℕ → ℕ → Type 0) (lists : Lists) (p : Pricing) (numberin
 
     told : (x : ℕ) → IsNode lists x → parent lists x ≡ c → (sent : PriceMessage) →
         messages_of (price_to (record_at relay price.number).heads
-        (settled_step_of_record (limits_of_number relay price.number) price.step (record_at relay price.number).sum) price.index (numbering.place x)) ≡ sent ∷ [] →
+        (settled_step_of_record (limits_of_number relay price.number) price.step (record_at relay price.number).sum) price.index (numbering.place x))
+        ≡ sent ∷ [] →
         PriceWasSent (after_price PassedOn) x sent
     told x node up sent is =
         let grown : (after_price PassedOn).prices_sent x ≡ sys.prices_sent x ++ sent ∷ [] =
@@ -541,7 +551,8 @@ module _ (Lets : ℕ → ℕ → Type 0) (lists : Lists) (p : Pricing) (numberin
     price_kept PassedOn mine =
         let sent : Rattle.pm_session.specs.Windows.Sent = record_at relay price.number in
         let step : ℕ = settled_step_of_record (limits_of_number relay price.number) price.step sent.sum in
-        both_kept (λ (k : StoredRelay). IsKept p numbering (after_price PassedOn) c k) (downs price.index step 0 sent.heads) (Keeps (stored_relay own relay) ∷ [])
+        both_kept (λ (k : StoredRelay). IsKept p numbering (after_price PassedOn) c k) (downs price.index step 0 sent.heads)
+        (Keeps (stored_relay own relay) ∷ [])
         (downs_keep_none (λ (k : StoredRelay). IsKept p numbering (after_price PassedOn) c k) price.index step 0 sent.heads) (mine, tt)
     price_kept Alone mine = (mine, tt)
     price_kept Waits mine = drops_kept (after_price Waits) waiting price
@@ -628,7 +639,8 @@ module _ (Lets : ℕ → ℕ → Type 0) (lists : Lists) (p : Pricing) (numberin
   ready_by sys r reply m = record { price = subst (λ (q : RelayValue). IsOfPrice m.new c q.answered q.index) (sym m.is) m.held; has = m.has }
 
   says_if : (sys : System) (test : Bool) (bytes : List ℕ) → Ready sys → Moves sys (sys.relays c) (cond test (Says bytes ∷ []) [])
-  says_if sys test bytes ready = either (λ (l : Outs). Moves sys (sys.relays c) l) test (Says bytes ∷ []) [] (λ e. says sys bytes ready) (λ e. stays sys ready)
+  says_if sys test bytes ready =
+      either (λ (l : Outs). Moves sys (sys.relays c) l) test (Says bytes ∷ []) [] (λ e. says sys bytes ready) (λ e. stays sys ready)
 
   some_last : (n : ℕ) → not (eqb n 0) ≡ true → 1 ≤ n
   some_last n e = elim (cases_Bool (eqb n 0)) [
@@ -790,7 +802,8 @@ module _ (Lets : ℕ → ℕ → Type 0) (lists : Lists) (p : Pricing) (numberin
           (did.replied ∙ ap (λ (l : Outs). l ++ did.waiting_reply) sent.2) (inr (stored_relay own did.asked, bid_outs did.asked, refl))
       | inr refused ↦
           let first : Outs = Says (answers.not_sent_reply refused.0) ∷ [] in
-          let m : Moves sys did.asked first = subst (λ (r : RelayValue). Moves sys r first) (sym refused.2) (says sys (answers.not_sent_reply refused.0) ready) in
+          let m : Moves sys did.asked first =
+          subst (λ (r : RelayValue). Moves sys r first) (sym refused.2) (says sys (answers.not_sent_reply refused.0) ready) in
           ends sys did.asked first m waiting after did.waiting_reply waits did.tries reply
           (did.replied ∙ ap (λ (l : Outs). l ++ did.waiting_reply) refused.3)
           (inl (kept_over sys did.asked first m
@@ -911,7 +924,8 @@ module _ (Lets : ℕ → ℕ → Type 0) (lists : Lists) (p : Pricing) (numberin
           (looks_learnt (sys.relays c) did.learnt (sender_place sender) (number_at c (sender_place sender)) None did.looks)))
 
       -- all frames of a relay that runs
-      frame_follows : (frame : RelayFrame) → ((d n : ℕ) → RelayLets lists numbering sys c frame d n → Lets d n) → RelayMayRead lists p numbering own sys c frame → WritesRelay own old frame after reply →
+      frame_follows : (frame : RelayFrame) → ((d n : ℕ) → RelayLets lists numbering sys c frame d n → Lets d n) →
+          RelayMayRead lists p numbering own sys c frame → WritesRelay own old frame after reply →
           RelayFollows lists p numbering Lets sys c after reply
       frame_follows (Child (Hello basis)) allows may did = silent_follows did.0 did.1
       frame_follows (Child (Bid sender number demand)) allows may did = bounded_follows sender number demand may did
@@ -921,26 +935,30 @@ module _ (Lets : ℕ → ℕ → Type 0) (lists : Lists) (p : Pricing) (numberin
           told_follows (record { step = step; number = number; index = index }) basis (may.1.0, may.1.1, ap update_of may.1.2) did
       frame_follows (Parent (Old child kept)) allows may did = silent_follows did.0 did.1
       frame_follows Send allows may did = send_follows did
-      frame_follows (Expire sender) allows may did = expire_follows sender may (allows may.x (number_at c (sender_place sender)) (may.up, may.sender_is, refl)) did
+      frame_follows (Expire sender) allows may did =
+          expire_follows sender may (allows may.x (number_at c (sender_place sender)) (may.up, may.sender_is, refl)) did
       frame_follows (given.Limits number limits) allows may did = given_follows own.terms.giver number limits may did
       frame_follows (Bound sender bound) allows may did = silent_follows did.0 did.1
       frame_follows (Resume stored) allows may did = absurd may
 
 -- What a relay's service answers to a frame is some calls of its node.
-pub relay_answers : RunsGoOn → ExpiringIsTwoCalls → (lists : Lists) (p : Pricing) (numbering : Numbering) (before : List NodeCall) (sys : System) (c : ℕ) →
+pub relay_answers : RunsGoOn → ExpiringIsTwoCalls →
+    (lists : Lists) (p : Pricing) (numbering : Numbering) (before : List NodeCall) (sys : System) (c : ℕ) →
     IsTreeMarket lists p numbering → RunsTheMarket lists p numbering before sys → IsConcentrator lists c → (own : RelaySetup)
     (old after : WaitingRelay) (frame : RelayFrame) (outs : List (Output StoredRelay)) →
     RelayStands sys c old → RelayMayRead lists p numbering own sys c frame → WritesRelay own old frame after outs →
     RelayFollows lists p numbering (RelayLets lists numbering sys c frame) sys c after outs
 relay_answers goes two lists p numbering before sys c market has conc own old after frame outs stands may did =
     frame_follows (RelayLets lists numbering sys c frame) lists p numbering c conc market goes own sys old.waiting after outs stands.waiting
-    (record { price = subst (λ (r : RelayValue). IsOfPrice sys c r.answered r.index) stands.relay_is stands.held; has = (before, has) }) two frame (λ d n lets. lets) may
+    (record { price = subst (λ (r : RelayValue). IsOfPrice sys c r.answered r.index) stands.relay_is stands.held; has = (before, has) }) two frame
+    (λ d n lets. lets) may
     (subst (λ (r : RelayValue). WritesRelay own (record { relay = r; waiting = old.waiting }) frame after outs) stands.relay_is did)
 
 -- A relay that came back learns the limits that it was given.
 pub relay_learns_kept : RunsGoOn → (lists : Lists) (p : Pricing) (numbering : Numbering) (before : List NodeCall) (sys : System) (c : ℕ) →
     IsTreeMarket lists p numbering → RunsTheMarket lists p numbering before sys → IsConcentrator lists c → (own : RelaySetup) (relay : RelayValue) →
-    RelayStands sys c (record { relay = relay; waiting = None }) → (giver : Option ℕ) (stored : StoredRelay) (after : WaitingRelay) (outs : List (Output StoredRelay)) →
+    RelayStands sys c (record { relay = relay; waiting = None }) →
+    (giver : Option ℕ) (stored : StoredRelay) (after : WaitingRelay) (outs : List (Output StoredRelay)) →
     ((place : ℕ) → giver ≡ Some place → 0 < child_number stored.numbers (sender_place place) →
     CarriesLimits lists p numbering sys c place (child_number stored.numbers (sender_place place)) stored.limits) →
     WritesKept giver own (record { relay = relay; waiting = None }) stored after outs → LearnsKept lists p numbering lets_none sys c after outs

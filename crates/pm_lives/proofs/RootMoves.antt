@@ -1,5 +1,6 @@
 -- What the service of an auctioneer answers to a frame is some calls of the root.
-use Rattle.std.proofs.Common.{◌≡◌, ◌∙◌, sym, ap, subst, ℕ, zero, suc, ◌<◌, ◌≤◌, Bool, true, false, cond, not, ◌&&◌, eqb, leb, ℤ, List, [], ◌∷◌, ◌++◌, length, get_or, Option, Some, None, refl, inl, inr, arith}
+use Rattle.std.proofs.Common.{◌≡◌, ◌∙◌, sym, ap, subst, ℕ, zero, suc, ◌<◌, ◌≤◌, Bool, true, false, cond, not, ◌&&◌, eqb}
+use Rattle.std.proofs.Common.{leb, ℤ, List, [], ◌∷◌, ◌++◌, length, get_or, Option, Some, None, refl, inl, inr, arith}
 use Rattle.std.proofs.lemmas.Bool.{cases_eq, cond-true, eq-eqb, both_ways, and_parts}
 use Rattle.std.proofs.lemmas.List.{get_or_push, length_push}
 use Rattle.pm_bid.specs.Bids.{zeros}
@@ -126,7 +127,8 @@ module _ (Lets : ℕ → ℕ → Type 0) (lists : Lists) (p : Pricing) (numberin
     up : (x : ℕ) → AreCalm Lets x calls
     only : OnlyMoves 0 sys new
     same : new.root ≡ sys.root
-    sent : (x : ℕ) → IsNode lists x → x ≤ n → parent lists x ≡ 0 → (price : PriceMessage) → root_prices sys.root (numbering.place x) ≡ price ∷ [] →
+    sent : (x : ℕ) → IsNode lists x → x ≤ n → parent lists x ≡ 0 → (price : PriceMessage) →
+        root_prices sys.root (numbering.place x) ≡ price ∷ [] →
         PriceWasSent new x price
 
   module _ (sys : System) (has : 0 < sys.root.auction.index) (unchanged : sys.root.auction.changed ≡ false) where
@@ -235,7 +237,8 @@ module _ (Lets : ℕ → ℕ → Type 0) (lists : Lists) (p : Pricing) (numberin
 
   module _ (sys : System) (after : RootValue) (reply : Outs) where
     -- what is told again of the clearing that the root has again
-    told_again : (r : RootValue) (said : Outs) (first : Does r sys said) → (test : Bool) → (test ≡ true → (0 < r.auction.index) × (r.auction.changed ≡ false)) →
+    told_again : (r : RootValue) (said : Outs) (first : Does r sys said) → (test : Bool) →
+        (test ≡ true → (0 < r.auction.index) × (r.auction.changed ≡ false)) →
         Does r sys (said ++ cond test (clearing_outs r) [])
     told_again r said first test may =
         goes_on sys r said first (cond test (clearing_outs r) [])
@@ -257,7 +260,8 @@ module _ (Lets : ℕ → ℕ → Type 0) (lists : Lists) (p : Pricing) (numberin
         (looks_again sys.root after (sender_place sender) number demand did.looks))
 
     -- what goes down with a clearing
-    cleared_told : (x : ℕ) → IsNode lists x → parent lists x ≡ 0 → (price : PriceMessage) → root_prices after (numbering.place x) ≡ price ∷ [] →
+    cleared_told : (x : ℕ) → IsNode lists x → parent lists x ≡ 0 → (price : PriceMessage) →
+        root_prices after (numbering.place x) ≡ price ∷ [] →
         PriceWasSent (with_prices_sent lists numbering (with_root sys after) 0 (root_prices after)) x price
     cleared_told x node up price is =
         let new : System = with_prices_sent lists numbering (with_root sys after) 0 (root_prices after) in
@@ -273,7 +277,8 @@ module _ (Lets : ℕ → ℕ → Type 0) (lists : Lists) (p : Pricing) (numberin
     clear_follows : WritesClear basis sys.root after reply → RootFollows lists p numbering Lets sys after reply
     clear_follows (inl cleared) =
         let new : System = with_prices_sent lists numbering (with_root sys after) 0 (root_prices after) in
-        follows_as lists p numbering Lets IsRootKept 0 (λ t. t.root ≡ after) sys (Keeps (stored_root basis after) ∷ clearing_outs after) reply cleared.3 (record {
+        follows_as lists p numbering Lets IsRootKept 0 (λ t. t.root ≡ after) sys
+        (Keeps (stored_root basis after) ∷ clearing_outs after) reply cleared.3 (record {
           calls = call.Clears ∷ [];
           new = new;
           runs = (new, record { root = after; index = cleared.0; step = cleared.1; cleared = cleared.2; new_is = refl }, refl);
@@ -354,13 +359,15 @@ module _ (Lets : ℕ → ℕ → Type 0) (lists : Lists) (p : Pricing) (numberin
           (told_again after [] (lets_go sender carries lets did.looks) (eqb sys.root.auction.index 0 && not (eqb after.auction.index 0))
           (looks_again sys.root after (sender_place sender) (number_at (sender_place sender)) None did.looks))
 
-      frame_follows : (frame : RootFrame) → ((d n : ℕ) → RootLets lists numbering sys frame d n → Lets d n) → RootMayRead lists p numbering sys frame → WritesRoot basis sys.root frame after reply →
+      frame_follows : (frame : RootFrame) → ((d n : ℕ) → RootLets lists numbering sys frame d n → Lets d n) →
+          RootMayRead lists p numbering sys frame → WritesRoot basis sys.root frame after reply →
           RootFollows lists p numbering Lets sys after reply
       frame_follows (Market (Hello basis)) allows may did = silent_follows did.0 did.1
       frame_follows (Market (Bid sender number demand)) allows may did = bounded_follows sender number demand may did
       frame_follows (Market (Gone sender number)) allows may did = bid_follows sender number None may did
       frame_follows (Market Clear) allows may did = clear_follows did
-      frame_follows (Expire sender) allows may did = expire_follows sender may (allows may.x (number_at (sender_place sender)) (may.up, may.sender_is, refl)) did
+      frame_follows (Expire sender) allows may did =
+          expire_follows sender may (allows may.x (number_at (sender_place sender)) (may.up, may.sender_is, refl)) did
       frame_follows (Bound sender bound) allows may did = silent_follows did.0 did.1
       frame_follows (Resume stored) allows may did = absurd may
 

@@ -1,5 +1,6 @@
 -- A settled world is current.
-use Rattle.std.proofs.Common.{◌≡◌, ◌∙◌, sym, ap, subst, ℕ, zero, suc, ◌<◌, ◌≤◌, Bool, true, false, cond, eqb, List, length, get_or, pos, refl, inl, inr, arith}
+use Rattle.std.proofs.Common.{◌≡◌, ◌∙◌, sym, ap, subst, ℕ, zero, suc, ◌<◌, ◌≤◌, Bool, true, false, cond, eqb, List, length}
+use Rattle.std.proofs.Common.{get_or, pos, refl, inl, inr, arith}
 use Rattle.std.proofs.lemmas.Bool.{cases_eq, cond-true, cond-false, eq-eqb, ne_eqb, both_ways}
 use Rattle.std.proofs.lemmas.List.{get_or_default}
 use Rattle.std.specs.List.{All, Contains}
@@ -56,7 +57,8 @@ module _ (lists : Lists) (p : Pricing) (numbering : Numbering) (market : IsTreeM
   parent_conc x node e = parent_relay lists market.law x node (λ z. both_ways (eqb (parent lists x) 0) e (eq-eqb (parent lists x) 0 z))
 
   made_same : (x : ℕ) → IsNode lists x → number_made lists world.seen x ≡ number_made lists sys x
-  made_same x node = cond_same (is_leaf lists x) (seen.agents x).number (sys.agents x).number (newest_bid_number (seen.relays x)) (newest_bid_number (sys.relays x))
+  made_same x node =
+      cond_same (is_leaf lists x) (seen.agents x).number (sys.agents x).number (newest_bid_number (seen.relays x)) (newest_bid_number (sys.relays x))
       (λ leaf. ap (λ (a : DeviceAgent). a.number) (agent_same x leaf)) (λ inner. ap newest_bid_number (relay_same x (node.0, node.1, inner)))
 
   index_same : (x : ℕ) → IsNode lists x → index_of_held lists world.seen x ≡ index_of_held lists sys x
@@ -97,14 +99,16 @@ module _ (lists : Lists) (p : Pricing) (numbering : Numbering) (market : IsTreeM
         | inl none ↦ absurd (omega (arith, some, none.1))
         | inr at ↦ omega (arith, (sent.prices c at.0 node at.1).number, at.2)
       ] in
-      let made : number_made lists seen c ≡ newest_bid_number (seen.relays c) = cond-false (is_leaf lists c) (seen.agents c).number (newest_bid_number (seen.relays c)) conc.2 in
+      let made : number_made lists seen c ≡ newest_bid_number (seen.relays c) =
+      cond-false (is_leaf lists c) (seen.agents c).number (newest_bid_number (seen.relays c)) conc.2 in
       let order : (seen.relays c).answered ≤ newest_bid_number (seen.relays c) =
       subst (λ (r : RelayValue). r.answered ≤ newest_bid_number r) (sym (relay_same c conc)) (has.is.relays c conc).matches.order in
       inr (conc, omega (arith, answered, order, made, quiet.bids c node, number_is seen c))
 
   -- what a parent has is of the newest clearing, where it reached the parent
   above_from : (x : ℕ) → IsNode lists x → CountsAtParent lists numbering world.seen x →
-      ((c : ℕ) → c < x → IsNode lists c → CountsAtParent lists numbering world.seen c → newest_index world.seen.root ≤ index_of_held lists world.seen c) →
+      ((c : ℕ) → c < x → IsNode lists c → CountsAtParent lists numbering world.seen c →
+      newest_index world.seen.root ≤ index_of_held lists world.seen c) →
       newest_index world.seen.root ≤ index_above world.seen (parent lists x)
   above_from x node counts earlier = elim (cases_eq (parent lists x) 0) [
     | inl up ↦ omega (arith, cond-true (eqb (parent lists x) 0) (newest_index seen.root) (seen.relays (parent lists x)).index (eq-eqb (parent lists x) 0 up))
@@ -132,10 +136,12 @@ module _ (lists : Lists) (p : Pricing) (numbering : Numbering) (market : IsTreeM
         above_from x node counts (λ c before c_node c_counts. reached_to n c (omega (arith, before, less)) c_node c_counts),
       )
 
-  reached_seen : (x : ℕ) → IsNode lists x → CountsAtParent lists numbering world.seen x → newest_index world.seen.root ≤ index_of_held lists world.seen x
+  reached_seen : (x : ℕ) → IsNode lists x → CountsAtParent lists numbering world.seen x →
+      newest_index world.seen.root ≤ index_of_held lists world.seen x
   reached_seen x node counts = reached_to (suc x) x (omega arith) node counts
 
-  above_newest : (x : ℕ) → IsNode lists x → CountsAtParent lists numbering world.seen x → newest_index world.seen.root ≤ index_above world.seen (parent lists x)
+  above_newest : (x : ℕ) → IsNode lists x → CountsAtParent lists numbering world.seen x →
+      newest_index world.seen.root ≤ index_above world.seen (parent lists x)
   above_newest x node counts = above_from x node counts (λ c before c_node c_counts. reached_seen c c_node c_counts)
 
   counts_seen : (x : ℕ) → IsNode lists x → CountsAtParent lists numbering sys x → CountsAtParent lists numbering world.seen x
@@ -159,6 +165,7 @@ module _ (lists : Lists) (p : Pricing) (numbering : Numbering) (market : IsTreeM
         | inr gone ↦ omega (arith, gone, quiet.let_go d leaf, held_same d node)
       ]
 
+  -- the system of a settled world has nothing under way
   pub is_reached : IsReachedSystem lists numbering sys
   is_reached = record {
     bids = λ x node. omega (arith, quiet.bids x node, made_same x node, held_same x node);
@@ -197,12 +204,15 @@ module _ (lists : Lists) (p : Pricing) (numbering : Numbering) (market : IsTreeM
           let at = quiet.told d node counts in
           let there = stands.sent.prices d at.0 node at.1 in
           let q : PriceMessage = price_in_channel seen d at.0 in
-          let taken : (seen.agents d).index ≡ newest_index seen.root = ap (λ (a : DeviceAgent). a.index) (agent_same d leaf) ∙ own.taken ∙ sym newest_same in
+          let taken : (seen.agents d).index ≡ newest_index seen.root =
+          ap (λ (a : DeviceAgent). a.index) (agent_same d leaf) ∙ own.taken ∙ sym newest_same in
           let index_is : index_of_held lists seen d ≡ (seen.agents d).index = cond-true (is_leaf lists d) (seen.agents d).index (seen.relays d).index leaf in
           let q_index : q.index ≡ newest_index seen.root = omega (arith, quiet.prices d at.0 node at.1, at.2, above_newest d node counts, taken, index_is) in
           let s = moves.after lists law.journal in
-          let one : price_in_channel sys d there.0 ≡ price_of_clearing lists p s d (price_in_channel sys d there.0).index = (law.prices d there.0 node there.1).1 in
-          let two : price_in_channel sys d own.place ≡ price_of_clearing lists p s d (price_in_channel sys d own.place).index = (law.prices d own.place node own.inside).1 in
+          let one : price_in_channel sys d there.0 ≡ price_of_clearing lists p s d (price_in_channel sys d there.0).index =
+          (law.prices d there.0 node there.1).1 in
+          let two : price_in_channel sys d own.place ≡ price_of_clearing lists p s d (price_in_channel sys d own.place).index =
+          (law.prices d own.place node own.inside).1 in
           let same : (price_in_channel sys d there.0).index ≡ (price_in_channel sys d own.place).index =
           ap (λ (m : PriceMessage). m.index) there.2 ∙ q_index ∙ newest_same ∙ sym (ap (λ (m : PriceMessage). m.index) own.price) in
           record {
@@ -231,6 +241,7 @@ module _ (lists : Lists) (p : Pricing) (numbering : Numbering) (market : IsTreeM
       counted_own : numbers_counted lists numbering world.seen d ≡ (world.seen.agents d).number
       counted_own = held_same d node ∙ cur.counted d leaf member_too ∙ number_same
 
+    -- a settled world is current
     pub current_world : (steps : List LifeStep) → ((d : ℕ) → IsLeaf lists d → BeginsOnce d steps → StaysUp d calls) →
         IsCurrentWorld lists p numbering steps world
     current_world steps ups = record {

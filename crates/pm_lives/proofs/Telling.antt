@@ -1,5 +1,6 @@
 -- Of what a device answers, each setpoint is handed out; and who was told to let a device go.
-use Rattle.std.proofs.Common.{◌≡◌, ◌⊎◌, ◌∙◌, sym, ap, ℕ, zero, suc, ◌+◌, ◌-◌, ◌≤◌, ◌^◌, true, cond, ltb, eqb, ◌&&◌, List, [], ◌∷◌, length, take, Option, Some, None, refl, inl, inr, arith, max}
+use Rattle.std.proofs.Common.{◌≡◌, ◌⊎◌, ◌∙◌, sym, ap, ℕ, zero, suc, ◌+◌, ◌-◌, ◌≤◌, ◌^◌, true, cond, ltb, eqb}
+use Rattle.std.proofs.Common.{◌&&◌, List, [], ◌∷◌, length, take, Option, Some, None, refl, inl, inr, arith, max}
 use Rattle.std.proofs.lemmas.Bool.{cond-true, eq-eqb, and_from}
 use Rattle.std.specs.List.{Contains}
 use Rattle.pm_market.specs.Lists.{Lists, parent}
@@ -55,13 +56,15 @@ module _ (p : Pricing) (own : BasisValue) where
   made_silent after (suc (suc zero)) = refl
   made_silent after (suc (suc (suc n))) = refl
 
+  -- a device that comes back gives its control no setpoint
   pub restart_silent : (stored : StoredAgent) (n : ℕ) → told_by (take n (restart_outs p stored)) ≡ []
   restart_silent stored n =
       either (λ (l : List (Output StoredAgent)). told_by (take n l) ≡ []) (eqb stored.number 0) []
       (Up (Rattle.pm_system.specs.Calls.bid_kept p stored.number stored.newest) ∷ []) (λ e. none_silent n)
       (λ e. up_silent (Rattle.pm_system.specs.Calls.bid_kept p stored.number stored.newest) n)
 
-  none_or_one : (after : DeviceAgent) (price : PriceMessage) (o : Option agents.Offer) (n : ℕ) → HandledSome n (told_outs own after price (setpoints_of price o)) →
+  none_or_one : (after : DeviceAgent) (price : PriceMessage) (o : Option agents.Offer) (n : ℕ) →
+      HandledSome n (told_outs own after price (setpoints_of price o)) →
       told_by (take n (told_outs own after price (setpoints_of price o))) ≡ setpoints_of price o
   none_or_one after price None n handled = said_silent (Rattle.pm_frames.specs.Answers.dropped_bytes price.number price.index) n
   none_or_one after price (Some offer) zero (inl some) = absurd (omega (arith, some))
@@ -70,10 +73,12 @@ module _ (p : Pricing) (own : BasisValue) where
   none_or_one after price (Some offer) (suc (suc zero)) handled = refl
   none_or_one after price (Some offer) (suc (suc (suc n))) handled = refl
 
-  price_told : (agent : DeviceAgent) (price : PriceMessage) (n : ℕ) → HandledSome n (told_outs own (after_price agent price) price (setpoints_for agent price)) →
+  price_told : (agent : DeviceAgent) (price : PriceMessage) (n : ℕ) →
+      HandledSome n (told_outs own (after_price agent price) price (setpoints_for agent price)) →
       told_by (take n (told_outs own (after_price agent price) price (setpoints_for agent price))) ≡ setpoints_for agent price
   price_told agent price n =
-      either (λ (l : List Setpoint). HandledSome n (told_outs own (after_price agent price) price l) → told_by (take n (told_outs own (after_price agent price) price l)) ≡ l)
+      either (λ (l : List Setpoint). HandledSome n (told_outs own (after_price agent price) price l) →
+      told_by (take n (told_outs own (after_price agent price) price l)) ≡ l)
       (ltb agent.index price.index) (setpoints_of price (kept_offer agent price.number)) []
       (λ e handled. none_or_one (after_price agent price) price (kept_offer agent price.number) n handled)
       (λ e handled. said_silent (Rattle.pm_frames.specs.Answers.dropped_bytes price.number price.index) n)
@@ -105,7 +110,8 @@ module _ (p : Pricing) (own : BasisValue) where
 le_max_left : (a b : ℕ) → a ≤ max a b
 le_max_left a b = Rattle.std.proofs.Math.Nat.le-max_left a b
 
-rises_by : (lists : Lists) (numbering : Numbering) (y sender number : ℕ) (let_go : ℕ → ℕ) (d : ℕ) → let_go d ≤ let_go_by lists numbering y sender number let_go d
+rises_by : (lists : Lists) (numbering : Numbering) (y sender number : ℕ) (let_go : ℕ → ℕ) (d : ℕ) →
+    let_go d ≤ let_go_by lists numbering y sender number let_go d
 rises_by lists numbering y sender number let_go d =
     either (λ (n : ℕ). let_go d ≤ n) (eqb (parent lists d) y && eqb sender (numbering.place d + 1)) (max (let_go d) number) (let_go d)
     (λ e. le_max_left (let_go d) number) (λ e. omega arith)
@@ -122,6 +128,7 @@ lets_by lists numbering y sender number let_go d n lets =
       cond-true (eqb (parent lists d) y && eqb sender (numbering.place d + 1)) (max (let_go d) number) (let_go d) test,
     )
 
+-- the number under which a device was let go never falls by what a relay reads
 pub relay_rises : (lists : Lists) (numbering : Numbering) (seen : System) (c : ℕ) (frame : RelayFrame) (let_go : ℕ → ℕ) (d : ℕ) →
     let_go d ≤ let_go_at_relay lists numbering seen c frame let_go d
 relay_rises lists numbering seen c (relay_frame.Child frame) let_go d = omega arith
@@ -132,7 +139,9 @@ relay_rises lists numbering seen c (relay_frame.Limits number limits) let_go d =
 relay_rises lists numbering seen c (relay_frame.Bound sender bound) let_go d = omega arith
 relay_rises lists numbering seen c (relay_frame.Resume stored) let_go d = omega arith
 
-pub relay_lets : (lists : Lists) (numbering : Numbering) (seen sys : System) (c : ℕ) → seen.relays c ≡ sys.relays c → (frame : RelayFrame) (let_go : ℕ → ℕ) (d n : ℕ) →
+-- it is no less than the number under which a relay lets it go
+pub relay_lets : (lists : Lists) (numbering : Numbering) (seen sys : System) (c : ℕ) → seen.relays c ≡ sys.relays c →
+    (frame : RelayFrame) (let_go : ℕ → ℕ) (d n : ℕ) →
     RelayLets lists numbering sys c frame d n → n ≤ let_go_at_relay lists numbering seen c frame let_go d
 relay_lets lists numbering seen sys c same (relay_frame.Child frame) let_go d n lets = absurd lets
 relay_lets lists numbering seen sys c same (relay_frame.Parent frame) let_go d n lets = absurd lets
@@ -142,12 +151,14 @@ relay_lets lists numbering seen sys c same (relay_frame.Expire sender) let_go d 
       lets.0,
       lets.1,
       lets.2 ∙ ap
-          (λ (r : Rattle.pm_relay.specs.Relays.RelayValue). Rattle.pm_relay.specs.Numbers.parents_number (Rattle.pm_relay.specs.Numbers.known_number r.recorded r.gathered.cache.heads (sender - 1))) (sym same),
+          (λ (r : Rattle.pm_relay.specs.Relays.RelayValue). Rattle.pm_relay.specs.Numbers.parents_number
+          (Rattle.pm_relay.specs.Numbers.known_number r.recorded r.gathered.cache.heads (sender - 1))) (sym same),
     )
 relay_lets lists numbering seen sys c same (relay_frame.Limits number limits) let_go d n lets = absurd lets
 relay_lets lists numbering seen sys c same (relay_frame.Bound sender bound) let_go d n lets = absurd lets
 relay_lets lists numbering seen sys c same (relay_frame.Resume stored) let_go d n lets = absurd lets
 
+-- nor does it fall by what the auctioneer reads
 pub root_rises : (lists : Lists) (numbering : Numbering) (seen : System) (frame : RootFrame) (let_go : ℕ → ℕ) (d : ℕ) →
     let_go d ≤ let_go_at_root lists numbering seen frame let_go d
 root_rises lists numbering seen (root_frame.Market frame) let_go d = omega arith
@@ -155,7 +166,9 @@ root_rises lists numbering seen (root_frame.Expire sender) let_go d = rises_by l
 root_rises lists numbering seen (root_frame.Bound sender bound) let_go d = omega arith
 root_rises lists numbering seen (root_frame.Resume stored) let_go d = omega arith
 
-pub root_lets : (lists : Lists) (numbering : Numbering) (seen sys : System) → seen.root ≡ sys.root → (frame : RootFrame) (let_go : ℕ → ℕ) (d n : ℕ) →
+-- and it is no less than the number under which the auctioneer lets it go
+pub root_lets : (lists : Lists) (numbering : Numbering) (seen sys : System) → seen.root ≡ sys.root →
+    (frame : RootFrame) (let_go : ℕ → ℕ) (d n : ℕ) →
     RootLets lists numbering sys frame d n → n ≤ let_go_at_root lists numbering seen frame let_go d
 root_lets lists numbering seen sys same (root_frame.Market frame) let_go d n lets = absurd lets
 root_lets lists numbering seen sys same (root_frame.Expire sender) let_go d n lets =
@@ -163,7 +176,8 @@ root_lets lists numbering seen sys same (root_frame.Expire sender) let_go d n le
       lets.0,
       lets.1,
       lets.2 ∙ ap
-          (λ (r : Rattle.pm_relay.specs.Roots.RootValue). Rattle.pm_relay.specs.Numbers.parents_number (Rattle.pm_relay.specs.Numbers.known_number r.recorded r.auction.cache.heads (sender - 1))) (sym same),
+          (λ (r : Rattle.pm_relay.specs.Roots.RootValue). Rattle.pm_relay.specs.Numbers.parents_number
+          (Rattle.pm_relay.specs.Numbers.known_number r.recorded r.auction.cache.heads (sender - 1))) (sym same),
     )
 root_lets lists numbering seen sys same (root_frame.Bound sender bound) let_go d n lets = absurd lets
 root_lets lists numbering seen sys same (root_frame.Resume stored) let_go d n lets = absurd lets
@@ -173,7 +187,9 @@ abbrev pub BidsKnown : System → (ℕ → ℕ) → ℕ → Type 0
 BidsKnown sys let_go d =
     (bid : BidMessage) → Contains (sys.bids_sent d) bid → (bid.number ≤ (sys.agents d).number) ⊎ (bid.number ≤ let_go d)
 
-pub known_next : (Lets : ℕ → ℕ → Type 0) (sys new : System) (old later : ℕ → ℕ) (d : ℕ) → BidsKnown sys old d → old d ≤ later d → Known Lets d sys new →
+-- after more calls each bid of a device is still one that it gave, or one under which it was let go
+pub known_next : (Lets : ℕ → ℕ → Type 0) (sys new : System) (old later : ℕ → ℕ) (d : ℕ) → BidsKnown sys old d →
+    old d ≤ later d → Known Lets d sys new →
     ((n : ℕ) → Lets d n → n ≤ later d) → BidsKnown new later d
 known_next Lets sys new old later d was rises known lets bid at = elim (known.bids bid at) [
   | inl there ↦ elim (was bid there) [

@@ -33,8 +33,10 @@ read_after lists p numbering world d frame n = record world {
   agent_kept = update world.agent_kept d (stored_last (world.agent_kept d) (take n (device_outs p world.basis (world.seen.agents d) frame)));
 }
 
+-- the cut life goes on: the bid is handed out under the stored number
 pub goes_on : (lists : Lists) (p : Pricing) (numbering : Numbering) (basis : BasisValue) (terms : ℕ → RelayTerms) (root : RootValue)
-    (relays : ℕ → RelayValue) (demand : List ℤ) → ((c : ℕ) (l : Limits) → p.limits c no_changes ≡ Some l → (terms c).limits ≡ l) → IsLeaf lists 1 → IsGivenOffer lists p 1 2 demand →
+    (relays : ℕ → RelayValue) (demand : List ℤ) →
+    ((c : ℕ) (l : Limits) → p.limits c no_changes ≡ Some l → (terms c).limits ≡ l) → IsLeaf lists 1 → IsGivenOffer lists p 1 2 demand →
     LifeGoesOn lists p numbering (new_world numbering basis terms root relays) demand
 unfolding update
 goes_on lists p numbering basis terms root relays demand are leaf given =

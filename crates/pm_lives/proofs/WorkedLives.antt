@@ -1,7 +1,7 @@
 -- The worked world: each step, one by one.
-use Rattle.std.proofs.Common.{◌≡◌, ◌∙◌, sym, ap, ℕ, zero, suc, ◌+◌, ◌<◌, ◌≤◌, true, false, ℤ, pos, negsuc, List, [], ◌∷◌, length, take, replicate, Some, None, refl, inl, inr, arith}
+use Rattle.std.proofs.Common.{◌≡◌, ◌∙◌, sym, ap, ℕ, ◌+◌, ◌<◌, ◌≤◌, true, false, ℤ, pos, negsuc, List, [], ◌∷◌}
+use Rattle.std.proofs.Common.{length, take, replicate, Some, None, refl, inl, inr, arith}
 use Rattle.pm_base.specs.Limits.{most_nodes}
-use Rattle.pm_base.specs.declared.limits.Limits.{Limits}
 use Rattle.pm_bid.specs.Clearing.{clearing_step}
 use Rattle.pm_bid.specs.Taken.{said_between}
 use Rattle.pm_bid.specs.declared.head.BidHead.{BidHead}
@@ -31,9 +31,12 @@ use Rattle.pm_services.specs.RelaySetups.{RelaySetup}
 use Rattle.pm_lives.specs.DeviceWrites.{agent_after}
 use Rattle.pm_system.specs.System.{price_in_channel, with_root, with_relay, with_agent}
 use Rattle.pm_system.specs.Settled.{number_made, number_held, index_of_held, HasNothingToSend}
-use Rattle.pm_system.specs.Worked.{small_tree, small_places, small_limits, small_demand, small_pricing}
-use Rattle.pm_system.proofs.Worked.{reaches, reached, suffices, enough, noted, one_kept, relay_back, new_root, sent_relay, rebuilt_relay, cleared_root, passed_relay}
+use Rattle.pm_system.specs.Worked.{small_tree, small_places, small_limits, small_device_demand, small_pricing}
+use Rattle.pm_system.proofs.Worked.{reaches, reached, suffices, enough, noted, one_kept, relay_back, new_root, sent_relay, rebuilt_relay}
+use Rattle.pm_system.proofs.Worked.{cleared_root, passed_relay}
 use Rattle.pm_system.proofs.WorkedGiven.{each_node}
+use Rattle.pm_system.proofs.Given.{some_same}
+use Rattle.pm_system.proofs.WorkedEnd.{only_one}
 use Rattle.pm_lives.specs.Outputs.{Output, Keeps}
 use Rattle.pm_lives.specs.RelayWrites.{bid_outs, price_outs}
 use Rattle.pm_lives.specs.RootWrites.{clearing_outs}
@@ -68,7 +71,8 @@ relay_begun world relay = record world { seen = with_relay world.seen 1 relay; u
 abbrev device_begun : World → ℕ → World
 device_begun world d = record world {
   seen = handed_out small_tree small_places (with_agent world.seen d
-      (agent_stored (world.agent_kept d).number (world.agent_kept d).newest (world.agent_kept d).index)) d (take 0 (restart_outs small_pricing (world.agent_kept d)));
+      (agent_stored (world.agent_kept d).number (world.agent_kept d).newest (world.agent_kept d).index)) d
+      (take 0 (restart_outs small_pricing (world.agent_kept d)));
   up = update world.up d true;
 }
 
@@ -80,7 +84,7 @@ device_read world d frame = record world {
 }
 
 abbrev heard : World → ℕ → ℕ → ℕ → RelayValue
-heard world place number d = with_child_bid (world.seen.relays 1) place number (Some (small_demand d number))
+heard world place number d = with_child_bid (world.seen.relays 1) place number (Some (small_device_demand d number))
 
 abbrev heard_root : World → ℕ → List ℤ → RootValue
 heard_root world number demand = with_root_bid world.seen.root 0 number (Some demand)
@@ -107,10 +111,10 @@ abbrev w4 : World
 w4 = device_begun w3 3
 
 abbrev w5 : World
-w5 = device_read w4 2 (device_frame.Offer (small_demand 2 2))
+w5 = device_read w4 2 (device_frame.Offer (small_device_demand 2 2))
 
 abbrev w6 : World
-w6 = device_read w5 3 (device_frame.Offer (small_demand 3 2))
+w6 = device_read w5 3 (device_frame.Offer (small_device_demand 3 2))
 
 abbrev w7 : World
 w7 = relay_read w6 (heard w6 0 2 2) [] 0
@@ -128,7 +132,7 @@ abbrev w11 : World
 w11 = root_read w10 (cleared_root w10.seen.root) (cleared_outs (cleared_root w10.seen.root)) 1
 
 abbrev w12 : World
-w12 = device_read w11 2 (device_frame.Offer (small_demand 2 4))
+w12 = device_read w11 2 (device_frame.Offer (small_device_demand 2 4))
 
 abbrev w13 : World
 w13 = relay_read w12 (heard w12 0 4 2) [] 0
@@ -152,7 +156,8 @@ abbrev w19 : World
 w19 = root_read w18 (cleared_root w18.seen.root) (cleared_outs (cleared_root w18.seen.root)) 2
 
 abbrev w20 : World
-w20 = relay_read w19 (passed_relay (w19.seen.relays 1)) (price_outs small_setup None (passed_relay (w19.seen.relays 1)) (record { step = 0; number = 2; index = 2 }) PassedOn) 3
+w20 = relay_read w19 (passed_relay (w19.seen.relays 1))
+    (price_outs small_setup None (passed_relay (w19.seen.relays 1)) (record { step = 0; number = 2; index = 2 }) PassedOn) 3
 
 abbrev w21 : World
 w21 = device_read w20 2 (device_frame.Parent (Price 1 4 2 1 small_basis))
@@ -175,7 +180,13 @@ does_2 = record {
   outs = [];
   learns = (refl, refl);
   back = record {
-    gathered = record { cache = refl; window = record { children = refl; steps = refl; answered = refl; last = refl; opening = refl }; limits = refl; announced = refl };
+    gathered =
+        record {
+          cache = refl;
+          window = record { children = refl; steps = refl; answered = refl; last = refl; opening = refl };
+          limits = refl;
+          announced = refl;
+        };
     base = refl;
     answered = refl;
     index = refl;
@@ -193,23 +204,46 @@ does_4 : Lives1 small_tree small_pricing small_places w3 (DeviceUp 3 0) w4
 unfolding parent is_leaf is_member changes update place_in children_to said_between reaches suffices
 does_4 = record { leaf = refl; new_is = refl }
 
-does_5 : Lives1 small_tree small_pricing small_places w4 (Device 2 (device_frame.Offer (small_demand 2 2)) 2) w5
+does_5 : Lives1 small_tree small_pricing small_places w4 (Device 2 (device_frame.Offer (small_device_demand 2 2)) 2) w5
 unfolding parent is_leaf is_member changes update place_in children_to said_between reaches suffices
-does_5 = record { leaf = refl; runs = refl; may = λ e room. record { has = omega arith; member = refl; is = refl }; handled = inl (omega arith); new_is = refl }
+does_5 = record {
+  leaf = refl;
+  runs = refl;
+  may = λ e room. record { has = omega arith; member = refl; is = refl };
+  handled = inl (omega arith);
+  new_is = refl;
+}
 
-does_6 : Lives1 small_tree small_pricing small_places w5 (Device 3 (device_frame.Offer (small_demand 3 2)) 2) w6
+does_6 : Lives1 small_tree small_pricing small_places w5 (Device 3 (device_frame.Offer (small_device_demand 3 2)) 2) w6
 unfolding parent is_leaf is_member changes update place_in children_to said_between reaches suffices
-does_6 = record { leaf = refl; runs = refl; may = λ e room. record { has = omega arith; member = refl; is = refl }; handled = inl (omega arith); new_is = refl }
+does_6 = record {
+  leaf = refl;
+  runs = refl;
+  may = λ e room. record { has = omega arith; member = refl; is = refl };
+  handled = inl (omega arith);
+  new_is = refl;
+}
 
 does_7 : Lives1 small_tree small_pricing small_places w6 (bid_to_relay 1 2 2 0) w7
 unfolding parent is_leaf is_member changes update place_in children_to said_between reaches suffices
 does_7 = record {
   conc = (omega arith, omega arith, refl);
   runs = refl;
-  may = record { x = 2; node = (omega arith, omega arith); up = refl; sender_is = refl; place = 0; inside = omega arith; number_is = refl; demand_is = refl; passes = λ ne a b same. refl };
+  may = record {
+    x = 2;
+    node = (omega arith, omega arith);
+    up = refl;
+    sender_is = refl;
+    place = 0;
+    inside = omega arith;
+    number_is = refl;
+    demand_is = refl;
+    passes = λ ne a b same. refl;
+  };
   after = record { relay = heard w6 0 2 2; waiting = None };
   outs = [];
-  writes = inl (record { learnt = heard w6 0 2 2; looks = inr ((λ h. omega (arith, h.came_back)), refl); waiting_reply = []; tries = (refl, refl); replied = refl });
+  writes = inl
+      (record { learnt = heard w6 0 2 2; looks = inr ((λ h. omega (arith, h.came_back)), refl); waiting_reply = []; tries = (refl, refl); replied = refl });
   handled = inr refl;
   new_is = refl;
 }
@@ -219,10 +253,21 @@ unfolding parent is_leaf is_member changes update place_in children_to said_betw
 does_8 = record {
   conc = (omega arith, omega arith, refl);
   runs = refl;
-  may = record { x = 3; node = (omega arith, omega arith); up = refl; sender_is = refl; place = 0; inside = omega arith; number_is = refl; demand_is = refl; passes = λ ne a b same. refl };
+  may = record {
+    x = 3;
+    node = (omega arith, omega arith);
+    up = refl;
+    sender_is = refl;
+    place = 0;
+    inside = omega arith;
+    number_is = refl;
+    demand_is = refl;
+    passes = λ ne a b same. refl;
+  };
   after = record { relay = heard w7 1 2 3; waiting = None };
   outs = [];
-  writes = inl (record { learnt = heard w7 1 2 3; looks = inr ((λ h. omega (arith, h.came_back)), refl); waiting_reply = []; tries = (refl, refl); replied = refl });
+  writes = inl
+      (record { learnt = heard w7 1 2 3; looks = inr ((λ h. omega (arith, h.came_back)), refl); waiting_reply = []; tries = (refl, refl); replied = refl });
   handled = inr refl;
   new_is = refl;
 }
@@ -249,7 +294,15 @@ does_9 = record {
           room = omega arith;
           number = refl;
           demand = refl;
-          sent = record { at = refl; others = λ number keeps. absurd (omega (arith, keeps.one, keeps.to)); last = refl; answered = refl; children = refl; steps = refl };
+          sent = record {
+            at = refl;
+            others = λ number keeps. absurd (omega (arith, keeps.one, keeps.to));
+            last = refl;
+            answered = refl;
+            children =
+                refl;
+            steps = refl;
+          };
           cache = refl;
           limits = refl;
         };
@@ -274,7 +327,28 @@ does_9 = record {
 
 does_10 : Lives1 small_tree small_pricing small_places w9 (Root (root_frame.Market (market_frame.Bid 1 1 (pos 5 ∷ pos 5 ∷ negsuc 2 ∷ []))) 0) w10
 unfolding parent is_leaf is_member changes update place_in children_to said_between reaches suffices
-does_10 = record { runs = refl; may = record { x = 1; node = (omega arith, omega arith); up = refl; sender_is = refl; place = 0; inside = omega arith; number_is = refl; demand_is = refl; passes = λ ne. absurd (ne refl) }; after = heard_root w9 1 (pos 5 ∷ pos 5 ∷ negsuc 2 ∷ []); outs = []; writes = inl (record { looks = inr ((λ h. omega (arith, h.came_back)), refl); replied = refl }); handled = inr refl; new_is = refl }
+does_10 =
+    record {
+      runs = refl;
+      may =
+          record {
+            x = 1;
+            node = (omega arith, omega arith);
+            up = refl;
+            sender_is = refl;
+            place = 0;
+            inside = omega arith;
+            number_is = refl;
+            demand_is = refl;
+            passes = λ ne. absurd (ne refl);
+          };
+      after = heard_root w9 1 (pos 5 ∷ pos 5 ∷ negsuc 2 ∷ []);
+      outs = [];
+      writes =
+          inl (record { looks = inr ((λ h. omega (arith, h.came_back)), refl); replied = refl });
+      handled = inr refl;
+      new_is = refl;
+    }
 
 does_11 : Lives1 small_tree small_pricing small_places w10 (Root (root_frame.Market market_frame.Clear) 1) w11
 unfolding parent is_leaf is_member changes update place_in children_to said_between reaches suffices
@@ -300,19 +374,31 @@ does_11 = record {
   new_is = refl;
 }
 
-does_12 : Lives1 small_tree small_pricing small_places w11 (Device 2 (device_frame.Offer (small_demand 2 4)) 2) w12
+does_12 : Lives1 small_tree small_pricing small_places w11 (Device 2 (device_frame.Offer (small_device_demand 2 4)) 2) w12
 unfolding parent is_leaf is_member changes update place_in children_to said_between reaches suffices
-does_12 = record { leaf = refl; runs = refl; may = λ e room. record { has = omega arith; member = refl; is = refl }; handled = inl (omega arith); new_is = refl }
+does_12 =
+    record { leaf = refl; runs = refl; may = λ e room. record { has = omega arith; member = refl; is = refl }; handled = inl (omega arith); new_is = refl }
 
 does_13 : Lives1 small_tree small_pricing small_places w12 (bid_to_relay 1 4 2 0) w13
 unfolding parent is_leaf is_member changes update place_in children_to said_between reaches suffices
 does_13 = record {
   conc = (omega arith, omega arith, refl);
   runs = refl;
-  may = record { x = 2; node = (omega arith, omega arith); up = refl; sender_is = refl; place = 1; inside = omega arith; number_is = refl; demand_is = refl; passes = λ ne a b same. refl };
+  may = record {
+    x = 2;
+    node = (omega arith, omega arith);
+    up = refl;
+    sender_is = refl;
+    place = 1;
+    inside = omega arith;
+    number_is = refl;
+    demand_is = refl;
+    passes = λ ne a b same. refl;
+  };
   after = record { relay = heard w12 0 4 2; waiting = None };
   outs = [];
-  writes = inl (record { learnt = heard w12 0 4 2; looks = inr ((λ h. omega (arith, h.came_back)), refl); waiting_reply = []; tries = (refl, refl); replied = refl });
+  writes = inl
+      (record { learnt = heard w12 0 4 2; looks = inr ((λ h. omega (arith, h.came_back)), refl); waiting_reply = []; tries = (refl, refl); replied = refl });
   handled = inr refl;
   new_is = refl;
 }
@@ -339,7 +425,16 @@ does_14 = record {
           room = omega arith;
           number = refl;
           demand = refl;
-          sent = record { at = refl; others = λ number keeps. ap (λ (n : ℕ). record_of (sent_relay (w13.seen.relays 1)).gathered.window n) (one_kept number keeps.one keeps.to) ∙ sym (ap (λ (n : ℕ). record_of (w13.seen.relays 1).gathered.window n) (one_kept number keeps.one keeps.to)); last = refl; answered = refl; children = refl; steps = refl };
+          sent = record {
+            at = refl;
+            others =
+                λ number keeps. ap (λ (n : ℕ). record_of (sent_relay (w13.seen.relays 1)).gathered.window n) (one_kept number keeps.one keeps.to)
+                ∙ sym (ap (λ (n : ℕ). record_of (w13.seen.relays 1).gathered.window n) (one_kept number keeps.one keeps.to));
+            last = refl;
+            answered = refl;
+            children = refl;
+            steps = refl;
+          };
           cache = refl;
           limits = refl;
         };
@@ -373,7 +468,13 @@ does_15 = record {
   outs = [];
   learns = (refl, refl);
   back = record {
-    gathered = record { cache = refl; window = record { children = refl; steps = refl; answered = refl; last = refl; opening = refl }; limits = refl; announced = refl };
+    gathered =
+        record {
+          cache = refl;
+          window = record { children = refl; steps = refl; answered = refl; last = refl; opening = refl };
+          limits = refl;
+          announced = refl;
+        };
     base = refl;
     answered = refl;
     index = refl;
@@ -388,10 +489,28 @@ unfolding parent is_leaf is_member changes update place_in children_to said_betw
 does_16 = record {
   conc = (omega arith, omega arith, refl);
   runs = refl;
-  may = record { x = 3; node = (omega arith, omega arith); up = refl; sender_is = refl; place = 0; inside = omega arith; number_is = refl; demand_is = refl; passes = λ ne a b same. refl };
+  may = record {
+    x = 3;
+    node = (omega arith, omega arith);
+    up = refl;
+    sender_is = refl;
+    place = 0;
+    inside = omega arith;
+    number_is = refl;
+    demand_is = refl;
+    passes = λ ne a b same. refl;
+  };
   after = record { relay = heard w15 1 2 3; waiting = None };
   outs = [];
-  writes = inl (record { learnt = heard w15 1 2 3; looks = inr ((λ h. omega (arith, h.caught_up 0 (omega arith))), refl); waiting_reply = []; tries = (refl, refl); replied = refl });
+  writes = inl
+      (record {
+        learnt = heard w15 1 2 3;
+        looks = inr ((λ h. omega (arith, h.caught_up 0 (omega arith))), refl);
+        waiting_reply = [];
+        tries =
+            (refl, refl);
+        replied = refl;
+      });
   handled = inr refl;
   new_is = refl;
 }
@@ -401,7 +520,17 @@ unfolding parent is_leaf is_member changes update place_in children_to said_betw
 does_17 = record {
   conc = (omega arith, omega arith, refl);
   runs = refl;
-  may = record { x = 2; node = (omega arith, omega arith); up = refl; sender_is = refl; place = 1; inside = omega arith; number_is = refl; demand_is = refl; passes = λ ne a b same. refl };
+  may = record {
+    x = 2;
+    node = (omega arith, omega arith);
+    up = refl;
+    sender_is = refl;
+    place = 1;
+    inside = omega arith;
+    number_is = refl;
+    demand_is = refl;
+    passes = λ ne a b same. refl;
+  };
   after = record { relay = rebuilt_relay (heard w16 0 4 2); waiting = None };
   outs = bid_outs (rebuilt_relay (heard w16 0 4 2));
   writes = inl (record {
@@ -414,7 +543,20 @@ does_17 = record {
         nothing_newer = enough (heard w16 0 4 2).recorded (heard w16 0 4 2).gathered.cache.heads refl;
         changed = λ e. absurd (omega (arith, ap (λ (l : List BidHead). head_number l 0) e));
       },
-      record { base = refl; last = refl; window = refl; heads = refl; sum = refl; announced = refl; cache = refl; limits = refl; answered = refl; index = refl; recorded = refl; made_under = refl },
+      record {
+        base = refl;
+        last = refl;
+        window = refl;
+        heads = refl;
+        sum = refl;
+        announced = refl;
+        cache = refl;
+        limits = refl;
+        answered = refl;
+        index = refl;
+        recorded = refl;
+        made_under = refl;
+      },
     );
     waiting_reply = [];
     tries = (refl, refl);
@@ -426,7 +568,27 @@ does_17 = record {
 
 does_18 : Lives1 small_tree small_pricing small_places w17 (Root (root_frame.Market (market_frame.Bid 1 2 (negsuc 0 ∷ negsuc 0 ∷ negsuc 0 ∷ []))) 0) w18
 unfolding parent is_leaf is_member changes update place_in children_to said_between reaches suffices
-does_18 = record { runs = refl; may = record { x = 1; node = (omega arith, omega arith); up = refl; sender_is = refl; place = 1; inside = omega arith; number_is = refl; demand_is = refl; passes = λ ne. absurd (ne refl) }; after = heard_root w17 2 (negsuc 0 ∷ negsuc 0 ∷ negsuc 0 ∷ []); outs = []; writes = inl (record { looks = inr ((λ h. omega (arith, h.came_back)), refl); replied = refl }); handled = inr refl; new_is = refl }
+does_18 =
+    record {
+      runs = refl;
+      may =
+          record {
+            x = 1;
+            node = (omega arith, omega arith);
+            up = refl;
+            sender_is = refl;
+            place = 1;
+            inside = omega arith;
+            number_is = refl;
+            demand_is = refl;
+            passes = λ ne. absurd (ne refl);
+          };
+      after = heard_root w17 2 (negsuc 0 ∷ negsuc 0 ∷ negsuc 0 ∷ []);
+      outs = [];
+      writes = inl (record { looks = inr ((λ h. omega (arith, h.came_back)), refl); replied = refl });
+      handled = inr refl;
+      new_is = refl;
+    }
 
 does_19 : Lives1 small_tree small_pricing small_places w18 (Root (root_frame.Market market_frame.Clear) 2) w19
 unfolding parent is_leaf is_member changes update place_in children_to said_between reaches suffices
@@ -504,13 +666,6 @@ does_22 : Lives1 small_tree small_pricing small_places w21 (Device 3 (device_fra
 unfolding parent is_leaf is_member changes update place_in children_to said_between reaches suffices
 does_22 = record { leaf = refl; runs = refl; may = (refl, (0, omega arith, refl)); handled = inl (omega arith); new_is = refl }
 
-some_same : (l k : Limits) → Some l ≡ Some k → l ≡ k
-some_same l k e = cc
-
-only_one : (P : ℕ → Type 0) → P 0 → (k : ℕ) → k < 1 → P k
-only_one P one zero inside = one
-only_one P one (suc k) inside = absurd (omega (arith, inside))
-
 settled : IsSettledWorld small_tree small_places w22
 unfolding parent is_leaf is_member changes update place_in children_to said_between reaches suffices
 settled = record {
@@ -520,11 +675,13 @@ settled = record {
   ];
   bids = each_node (λ x. number_made small_tree w22.seen x ≤ number_held small_tree small_places w22.seen x) (omega arith) (omega arith) (omega arith);
   let_go = λ d leaf. omega arith;
-  prices = λ x k node. each_node (λ x. (k : ℕ) → k < length (w22.seen.prices_sent x) → (price_in_channel w22.seen x k).index ≤ index_of_held small_tree w22.seen x)
+  prices = λ x k node. each_node
+      (λ x. (k : ℕ) → k < length (w22.seen.prices_sent x) → (price_in_channel w22.seen x k).index ≤ index_of_held small_tree w22.seen x)
       (only_one (λ k. (price_in_channel w22.seen 1 k).index ≤ 2) (omega arith))
       (only_one (λ k. (price_in_channel w22.seen 2 k).index ≤ 2) (omega arith))
       (only_one (λ k. (price_in_channel w22.seen 3 k).index ≤ 2) (omega arith)) x node k;
-  told = λ x node counts. each_node (λ x. (k : ℕ) × (k < length (w22.seen.prices_sent x)) × ((price_in_channel w22.seen x k).index ≡ index_above w22.seen (parent small_tree x)))
+  told = λ x node counts. each_node
+      (λ x. (k : ℕ) × (k < length (w22.seen.prices_sent x)) × ((price_in_channel w22.seen x k).index ≡ index_above w22.seen (parent small_tree x)))
       (0, omega arith, refl) (0, omega arith, refl) (0, omega arith, refl) x node;
   relays = λ c conc. each_node (λ c. is_leaf small_tree c ≡ false → HasNothingToSend (w22.seen.relays c))
       (λ inner. (send_fault.NotChanged, (reached (w22.seen.relays 1).recorded (w22.seen.relays 1).gathered.cache.heads refl, refl), (λ e. absurd cc)))
@@ -532,13 +689,101 @@ settled = record {
   root = (root_fault.NotChanged, (reached w22.seen.root.recorded w22.seen.root.auction.cache.heads refl, refl), (λ e. absurd cc));
 }
 
+-- the worked lives settle
 pub settles : LivesSettle
 unfolding parent is_leaf is_member changes update place_in children_to said_between reaches suffices
 settles = record {
   world = w0;
-  none = record { up = λ y. refl; limits = λ c limits e. some_same small_limits limits e; relay_kept = λ c. refl; root_kept = refl; agent_kept = λ d. refl; bids_sent = λ x. refl; prices_sent = λ x. refl; setpoints = λ d. refl; let_go = λ d. refl };
+  none = record {
+    up = λ y. refl;
+    limits = λ c limits e. some_same small_limits limits e;
+    relay_kept = λ c. refl;
+    root_kept = refl;
+    agent_kept =
+        λ d. refl;
+    bids_sent = λ x. refl;
+    prices_sent = λ x. refl;
+    setpoints = λ d. refl;
+    let_go = λ d. refl;
+  };
   new = w22;
-  live = (w1, does_1, (w2, does_2, (w3, does_3, (w4, does_4, (w5, does_5, (w6, does_6, (w7, does_7, (w8, does_8, (w9, does_9, (w10, does_10, (w11, does_11, (w12, does_12, (w13, does_13, (w14, does_14, (w15, does_15, (w16, does_16, (w17, does_17, (w18, does_18, (w19, does_19, (w20, does_20, (w21, does_21, (w22, does_22, refl))))))))))))))))))))));
+  live = (
+    w1,
+    does_1,
+    (
+      w2,
+      does_2,
+      (
+        w3,
+        does_3,
+        (
+          w4,
+          does_4,
+          (
+            w5,
+            does_5,
+            (
+              w6,
+              does_6,
+              (
+                w7,
+                does_7,
+                (
+                  w8,
+                  does_8,
+                  (
+                    w9,
+                    does_9,
+                    (
+                      w10,
+                      does_10,
+                      (
+                        w11,
+                        does_11,
+                        (
+                          w12,
+                          does_12,
+                          (
+                            w13,
+                            does_13,
+                            (
+                              w14,
+                              does_14,
+                              (
+                                w15,
+                                does_15,
+                                (
+                                  w16,
+                                  does_16,
+                                  (
+                                    w17,
+                                    does_17,
+                                    (
+                                      w18,
+                                      does_18,
+                                      (
+                                        w19,
+                                        does_19,
+                                        (w20, does_20, (w21, does_21, (w22, does_22, refl))),
+                                      ),
+                                    ),
+                                  ),
+                                ),
+                              ),
+                            ),
+                          ),
+                        ),
+                      ),
+                    ),
+                  ),
+                ),
+              ),
+            ),
+          ),
+        ),
+      ),
+    ),
+  );
   settled = settled;
   setpoints_2 = refl;
   setpoints_3 = refl;

@@ -81,7 +81,8 @@ pub record RootIsBack (basis : BasisValue) (after : Option OpenRoot) (stored : S
 
 -- the service of a device was given Hello, and then a Resume with what is stored: it is an agent that comes back with that, and it
 -- wrote its newest bid
-pub record DeviceIsBack (p : Pricing) (child : ℕ) (basis' : BasisValue) (after : DeviceServiceValue) (stored : StoredAgent) (reply more : List ℕ) : Type 0 where
+pub record DeviceIsBack (p : Pricing) (child : ℕ) (basis' : BasisValue) (after : DeviceServiceValue) (stored : StoredAgent)
+    (reply more : List ℕ) : Type 0 where
   pub device_is : after.device ≡ Some (record { agent = agent_stored stored.number stored.newest stored.index; basis = basis' })
   pub silent : reply ≡ []
   pub written : more ≡ outputs_bytes agent_resume_bytes basis' child (restart_outs p stored)

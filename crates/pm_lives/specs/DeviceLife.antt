@@ -49,8 +49,7 @@ pub record IsGivenLeaving (lists : Lists) (d number : ℕ) : Type 0 where
   pub absent : is_member lists d number ≡ false
 
 -- What the control asks for is what the lists have under the number that it gets, if it gets one. A price, of the device's basis, was
--- sent to d. After an Old
--- by which its parent let it go, the lists have that it leaves and offers anew.
+-- sent to d. After an Old by which its parent let it go, the lists have that it leaves and offers anew.
 abbrev pub DeviceMayRead : Lists → Pricing → BasisValue → System → ℕ → DeviceFrame → Type 0
 DeviceMayRead lists p own sys d (Hello basis) = ⊤
 DeviceMayRead lists p own sys d (Offer demand) =
@@ -59,7 +58,8 @@ DeviceMayRead lists p own sys d Leave = nat_lt ((sys.agents d).number + 3) (2 ^ 
 DeviceMayRead lists p own sys d (Parent (Price child number index step basis)) =
     (same_basis basis own ≡ true) × PriceWasSent sys d (price_message number index step)
 DeviceMayRead lists p own sys d (Parent (Old child kept)) =
-    nat_lt (sys.agents d).number kept ≡ true → nat_lt ((sys.agents d).number + 7) (2 ^ 32) ≡ true → (demand : List ℤ) → newest_demand (sys.agents d) ≡ Some demand →
+    nat_lt (sys.agents d).number kept ≡ true → nat_lt ((sys.agents d).number + 7) (2 ^ 32) ≡ true → (demand : List ℤ) →
+    newest_demand (sys.agents d) ≡ Some demand →
     IsGivenLeaving lists d ((sys.agents d).number + 2) × IsGivenOffer lists p d ((sys.agents d).number + 2 + 2) demand
 DeviceMayRead lists p own sys d (Resume stored) = ⊥
 
@@ -74,6 +74,7 @@ pub record AgentStandsTold (sys : System) (d : ℕ) (after : DeviceAgent) (given
   pub told : t.setpoints d ≡ sys.setpoints d ++ given
 
 -- what an agent makes of a frame: some calls of d, after which its service stands for it again
-abbrev pub DeviceFollows : Lists → Pricing → Numbering → System → (d : ℕ) → DeviceAgent → List agents.Setpoint → List (Output StoredAgent) → Type 0
+abbrev pub DeviceFollows : Lists → Pricing → Numbering → System → (d : ℕ) → DeviceAgent → List agents.Setpoint →
+    List (Output StoredAgent) → Type 0
 DeviceFollows lists p numbering sys d after given outs =
     FollowsByCalls lists p numbering lets_none (λ t stored. IsAgentKept t d stored) (λ t. AgentStandsTold sys d after given t) sys d outs

@@ -1,5 +1,6 @@
 -- The lives of the nodes of a market: which process reads which frame, what of its answer the carriers handled, and what is stored.
-use Rattle.std.specs.Prelude.{◌≡◌, ◌⊎◌, ℕ, ◌<◌, ◌≤◌, ◌==◌, ◌&&◌, ◌+◌, max, if◌then◌else◌, Bool, true, false, List, [], ◌∷◌, length, take, replicate, Option, Some, None, ⊤}
+use Rattle.std.specs.Prelude.{◌≡◌, ◌⊎◌, ℕ, ◌<◌, ◌≤◌, ◌==◌, ◌&&◌, ◌+◌, max, if◌then◌else◌, Bool, true, false}
+use Rattle.std.specs.Prelude.{List, [], ◌∷◌, length, take, replicate, Option, Some, None, ⊤}
 use Rattle.std.specs.List.{Contains}
 use Rattle.pm_base.specs.Limits.{most_nodes}
 use Rattle.pm_base.specs.declared.limits.Limits.{Limits}

@@ -37,10 +37,11 @@ pub record OnlyMoves (y : ℕ) (sys new : System) : Type 0 where
   pub setpoints : (x : ℕ) → (more : List Setpoint) × (new.setpoints x ≡ sys.setpoints x ++ more)
   pub untold : (x : ℕ) → (x ≡ y → ⊥) → new.setpoints x ≡ sys.setpoints x
 
--- Some calls of node y, none of which is a restart; they let go whom they may. After them the system is as `Stands` says. Each message in the frames `outs` was sent by
--- these calls. Each Resume in them may be stored after these calls; and what might be stored before may stay, or the first frame is a
--- Resume.
-pub record FollowsByCalls {K : Type 0} (lists : Lists) (p : Pricing) (numbering : Numbering) (Lets : ℕ → ℕ → Type 0) (MayBeKept : System → K → Type 0)
+-- Some calls of node y, none of which is a restart; they let go whom they may. After them the system is as `Stands` says. Each
+-- message in the frames `outs` was sent by these calls. Each Resume in them may be stored after these calls; and what might be
+-- stored before may stay, or the first frame is a Resume.
+pub record FollowsByCalls {K : Type 0} (lists : Lists) (p : Pricing) (numbering : Numbering) (Lets : ℕ → ℕ → Type 0)
+    (MayBeKept : System → K → Type 0)
     (Stands : System → Type 0) (sys : System) (y : ℕ) (outs : List (Output K)) : Type 0 where
   pub calls : List NodeCall
   pub new : System

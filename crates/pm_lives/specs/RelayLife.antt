@@ -1,5 +1,6 @@
 -- The service of a relay over a stream, and the relay of a system for which it stands.
-use Rattle.std.specs.Prelude.{◌≡◌, ◌⊎◌, ℕ, ◌+◌, ◌-◌, ◌<◌, ◌≤◌, ℤ, List, length, replicate, Option, Some, None, IfSome, ⊤, true}
+use Rattle.std.specs.Prelude.{◌≡◌, ◌⊎◌, ℕ, ◌+◌, ◌-◌, ◌<◌, ◌≤◌, ℤ, List, length, replicate, Option, Some, None}
+use Rattle.std.specs.Prelude.{IfSome, ⊤, true}
 use Rattle.pm_base.specs.Cuts.{Cut}
 use Rattle.pm_base.specs.Limits.{most_nodes}
 use Rattle.pm_base.specs.declared.limits.Limits.{Limits}
@@ -143,6 +144,7 @@ RelayLets lists numbering sys c frame d n = ⊥
 -- ---- what an answer is
 
 -- what a relay makes of a frame: some calls of c, after which its service stands for it again
-abbrev pub RelayFollows : Lists → Pricing → Numbering → (ℕ → ℕ → Type 0) → System → (c : ℕ) → WaitingRelay → List (Output StoredRelay) → Type 0
+abbrev pub RelayFollows : Lists → Pricing → Numbering → (ℕ → ℕ → Type 0) → System → (c : ℕ) → WaitingRelay →
+    List (Output StoredRelay) → Type 0
 RelayFollows lists p numbering Lets sys c after outs =
     FollowsByCalls lists p numbering Lets (λ t stored. IsKept p numbering t c stored) (λ t. RelayStands t c after) sys c outs

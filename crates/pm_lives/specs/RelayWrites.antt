@@ -1,5 +1,6 @@
 -- What a relay's service answers, frame by frame.
-use Rattle.std.specs.Prelude.{◌≡◌, ◌⊎◌, ℕ, ◌<◌, ◌+◌, ◌==◌, ◌&&◌, not, nat_le, if◌then◌else◌, ℤ, List, [], ◌∷◌, ◌++◌, Option, Some, None, false}
+use Rattle.std.specs.Prelude.{◌≡◌, ◌⊎◌, ℕ, ◌<◌, ◌+◌, ◌==◌, ◌&&◌, not, nat_le, if◌then◌else◌, ℤ, List, []}
+use Rattle.std.specs.Prelude.{◌∷◌, ◌++◌, Option, Some, None, false}
 use Rattle.pm_base.specs.declared.limits.Limits.{Limits}
 use Rattle.pm_bid.specs.declared.head.BidHead.{BidHead}
 use Rattle.pm_cache.specs.Cache.{kept_number}
@@ -10,7 +11,8 @@ use Rattle.pm_net.specs.Messages.{BidMessage, bid_message, price_message}
 use Rattle.pm_wire.specs.Answers.{answer_bytes}
 use Rattle.pm_wire.specs.declared.answer.Reply as reply
 use Rattle.pm_wire.specs.declared.frame.Frame.TheVariants.{Hello, Bid, Gone, Clear}
-use Rattle.pm_relay.specs.Relays.{RelayValue, newest_bid_number, record_at, with_child_bid, with_new_limits, limits_of_number, LooksForRecord, BidSent, NotSent, TakesPrice}
+use Rattle.pm_relay.specs.Relays.{RelayValue, newest_bid_number, record_at, with_child_bid, with_new_limits, limits_of_number, LooksForRecord}
+use Rattle.pm_relay.specs.Relays.{BidSent, NotSent, TakesPrice}
 use Rattle.pm_relay.specs.Numbers.{child_number, known_number, parents_number}
 use Rattle.pm_relay.specs.declared.fault.SendFault.{SendFault}
 use Rattle.pm_relay.specs.declared.outcome.PriceOutcome.{PriceOutcome}
@@ -75,7 +77,8 @@ abbrev pub WritesWaiting : RelaySetup → Option PriceUpdate → RelayValue → 
 WritesWaiting own None relay' new outs = (new ≡ record { relay = relay'; waiting = None }) × (outs ≡ [])
 WritesWaiting own (Some price) relay' new outs = WritesPrice own (record { relay = relay'; waiting = None }) price new outs
 
-pub record WritesBid (own : RelaySetup) (old : WaitingRelay) (sender number : ℕ) (demand : Option (List ℤ)) (new : WaitingRelay) (outs : List (Output StoredRelay)) : Type 0 where
+pub record WritesBid (own : RelaySetup) (old : WaitingRelay) (sender number : ℕ) (demand : Option (List ℤ)) (new : WaitingRelay)
+    (outs : List (Output StoredRelay)) : Type 0 where
   pub learnt : RelayValue
   pub looks : LooksForRecord (with_child_bid old.relay (sender_place sender) number demand) learnt
   pub waiting_reply : List (Output StoredRelay)
@@ -84,7 +87,8 @@ pub record WritesBid (own : RelaySetup) (old : WaitingRelay) (sender number : �
       receipt_outs (kept_number old.relay.gathered.cache (sender_place sender)) sender number ++ (again_outs old.relay learnt ++ waiting_reply)
 
 -- new limits are learnt under their number, as a child's bid is
-pub record WritesLimits (own : RelaySetup) (old : WaitingRelay) (sender number : ℕ) (limits : Limits) (new : WaitingRelay) (outs : List (Output StoredRelay)) : Type 0 where
+pub record WritesLimits (own : RelaySetup) (old : WaitingRelay) (sender number : ℕ) (limits : Limits) (new : WaitingRelay)
+    (outs : List (Output StoredRelay)) : Type 0 where
   pub learnt : RelayValue
   pub looks : LooksForRecord (with_new_limits old.relay (sender_place sender) number limits) learnt
   pub waiting_reply : List (Output StoredRelay)

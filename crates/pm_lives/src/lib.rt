@@ -125,11 +125,13 @@ pub fn device_frames_are_calls()
 pub fn lives_keep_the_law()
     ensures run { (lists : Lists) (p : Pricing) (numbering : Numbering) (start : System)
         (world new : World) (steps : List LifeStep) → IsTreeMarket lists p numbering →
-        IsStarted lists p start → IsNewWorld p numbering world → Live lists p numbering world steps new →
+        IsStarted lists p start → IsNewWorld p numbering world →
+        Live lists p numbering world steps new →
         LivesAreCalls lists p numbering start steps new }
     ensures law { (lists : Lists) (p : Pricing) (numbering : Numbering) (start : System)
         (world new : World) (steps : List LifeStep) → IsTreeMarket lists p numbering →
-        IsStarted lists p start → IsNewWorld p numbering world → Live lists p numbering world steps new →
+        IsStarted lists p start → IsNewWorld p numbering world →
+        Live lists p numbering world steps new →
         LivesKeepTheLaw lists p new }
 {
     // The calls tell facts: what runs of a system are, and that to let a child go is two calls of it.
@@ -146,7 +148,8 @@ pub fn lives_keep_the_law()
 pub fn settled_lives_are_current()
     ensures current { (lists : Lists) (p : Pricing) (numbering : Numbering) (start : System)
         (world new : World) (steps : List LifeStep) → IsTreeMarket lists p numbering →
-        IsStarted lists p start → IsNewWorld p numbering world → Live lists p numbering world steps new →
+        IsStarted lists p start → IsNewWorld p numbering world →
+        Live lists p numbering world steps new →
         IsSettledWorld lists numbering new → IsCurrentWorld lists p numbering steps new }
     ensures flows { (lists : Lists) (p : Pricing) (numbering : Numbering) (world : World) →
         IsTreeMarket lists p numbering →
@@ -154,7 +157,8 @@ pub fn settled_lives_are_current()
         (TakeWhatWasTold lists p (numbers_counted lists numbering world.seen) world.seen) }
     ensures rising { (lists : Lists) (p : Pricing) (numbering : Numbering) (start : System)
         (world new : World) (steps : List LifeStep) (d : ℕ) → IsTreeMarket lists p numbering →
-        IsStarted lists p start → IsNewWorld p numbering world → Live lists p numbering world steps new →
+        IsStarted lists p start → IsNewWorld p numbering world →
+        Live lists p numbering world steps new →
         IsLeaf lists d → BeginsOnce d steps →
         AllPairs (λ (a b : Setpoint). a.index < b.index) (new.seen.setpoints d) }
 {
@@ -207,8 +211,8 @@ pub fn answers_are_frames()
 pub fn frames_are_carried()
     ensures relay_bids { (lists : Lists) (p : Pricing) (numbering : Numbering) (sys : System)
         (x : ℕ) → IsNode lists x → (bid : BidMessage) → BidWasSent p sys x bid → (c : ℕ) →
-        parent lists x ≡ c → LimitsPassBy p c x → (own : RelaySetup) (place : RelayPlace) (frame : RelayFrame)
-        (more behind : List ℕ) →
+        parent lists x ≡ c → LimitsPassBy p c x → (own : RelaySetup) (place : RelayPlace)
+        (frame : RelayFrame) (more behind : List ℕ) →
         IsRelayFormed place frame →
         IsRelayFormed place (RelayFrame.Child (bid_frame (numbering.place x + 1) bid)) →
         relay_frame_bytes frame ++ more ≡ up_bytes (numbering.place x + 1) bid ++ behind →
@@ -234,14 +238,16 @@ pub fn frames_are_carried()
         (place : RelayPlace) (frame : RelayFrame) (more behind : List ℕ) →
         IsRelayFormed place frame → IsRelayFormed place
         (RelayFrame.Parent (price_frame own.basis (numbering.place x + 1) price)) →
-        relay_frame_bytes frame ++ more ≡ down_frame_bytes own.basis (numbering.place x) price ++ behind →
+        relay_frame_bytes frame ++ more
+        ≡ down_frame_bytes own.basis (numbering.place x) price ++ behind →
         RelayMayRead lists p numbering own sys x frame × (more ≡ behind) }
     ensures device_prices { (lists : Lists) (p : Pricing) (numbering : Numbering) (sys : System)
         (x : ℕ) (price : PriceMessage) → PriceWasSent sys x price → (basis : BasisValue)
         (place : NodePlace) (frame : DeviceFrame) (more behind : List ℕ) →
         IsDeviceFormed place frame → IsDeviceFormed place
         (DeviceFrame.Parent (price_frame basis (numbering.place x + 1) price)) →
-        device_frame_bytes frame ++ more ≡ down_frame_bytes basis (numbering.place x) price ++ behind →
+        device_frame_bytes frame ++ more
+        ≡ down_frame_bytes basis (numbering.place x) price ++ behind →
         DeviceMayRead lists p basis sys x frame × (more ≡ behind) }
 {}
 
