@@ -1,19 +1,19 @@
 -- What the devices below a node take together is what the node announced.
 use Rattle.std.proofs.Common.{◌≡◌, ◌∙◌, sym, ap, subst, ℕ, zero, suc, ◌+◌, ◌<◌, ◌≤◌, true, ℤ, pos, ◌+ℤ◌}
-use Rattle.std.proofs.Common.{◌≤ℤ◌, cond, eqb, List, length, Option, Some, None}
-use Rattle.std.proofs.Common.{inl, inr, refl, arith}
+use Rattle.std.proofs.Common.{◌≤ℤ◌, cond, eqb, List, length, Some}
+use Rattle.std.proofs.Common.{inl, inr, arith}
 use Rattle.std.proofs.lemmas.Bool.{cases_eq, cases_Bool, cond-true, cond-false, eqb-true}
 use Rattle.pm_base.specs.Cuts.{Cut}
 use Rattle.pm_base.specs.declared.limits.Limits.{Limits}
-use Rattle.pm_bid.specs.Bids.{demand_at, NeverRises, zeros, pairwise_sum}
+use Rattle.pm_bid.specs.Bids.{demand_at, NeverRises, pairwise_sum}
 use Rattle.pm_bid.specs.Clearing.{clearing_step}
-use Rattle.pm_bid.specs.Taken.{announced, settled_step, IsWithinLimits, HasStepWithin}
+use Rattle.pm_bid.specs.Taken.{settled_step, IsWithinLimits, HasStepWithin}
 use Rattle.pm_bid.proofs.EachStep.{pairwise_sum-at, length-added}
 use Rattle.pm_bid.proofs.Sums.{length-zeros, zeros-at}
 use Rattle.pm_bid.proofs.FoundStep.{first_at_most_is_first}
 use Rattle.pm_bid.proofs.Taken.{length-announced, settled_step_inside, announced_is_taken, settled_within}
 use Rattle.pm_market.specs.Lists.{Lists, nodes, parent, is_leaf, is_below, IsNode, IsLeaf, IsInner, IsConcentrator, Lawful}
-use Rattle.pm_market.specs.Offers.{int_sum_to, sum_on, sum_children}
+use Rattle.pm_market.specs.Offers.{int_sum_to, sum_children}
 use Rattle.pm_market.proofs.Tree.{below_itself, below_parent, leaf_zero}
 use Rattle.pm_laws.proofs.Offers.{int_sum_same, sum_on_leaf, sum_on_inner}
 use Rattle.pm_net.specs.Pricing.{Pricing, GoesByNodes}

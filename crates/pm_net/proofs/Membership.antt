@@ -1,6 +1,6 @@
 -- The offers that an agent keeps are all of the device's present membership.
-use Rattle.std.proofs.Common.{◌≡◌, ◌∙◌, sym, ap, ℕ, zero, suc, ◌+◌, ◌-◌, ◌<◌, ◌≤◌, true, List}
-use Rattle.std.proofs.Common.{[], ◌∷◌, length, get_or, inl, inr, arith}
+use Rattle.std.proofs.Common.{◌≡◌, ◌∙◌, ap, ℕ, zero, suc, ◌+◌, ◌<◌, true, List}
+use Rattle.std.proofs.Common.{[], ◌∷◌, length, get_or, arith}
 use Rattle.std.specs.List.{All}
 use Rattle.pm_market.specs.Lists.{Lists, is_member}
 use Rattle.pm_net.specs.Pricing.{Pricing}

@@ -1,6 +1,6 @@
 -- A price settles by the limits of the bid that it answers.
 use Rattle.std.proofs.Common.{◌≡◌, ◌∙◌, sym, ap, subst, ℕ}
-use Rattle.pm_market.specs.Lists.{Lists, IsNode, IsConcentrator, IsLeafOf, Lawful}
+use Rattle.pm_market.specs.Lists.{Lists, IsNode, IsLeafOf, Lawful}
 use Rattle.pm_market.specs.State.{State, part, cleared_cut}
 use Rattle.pm_market.specs.Sound.{Sound}
 use Rattle.pm_market.proofs.Tree.{leaf_of_itself, leaf_of_parent}

@@ -1,5 +1,5 @@
 -- Limits that never bind may be put in and taken out.
-use Rattle.std.proofs.Common.{◌≡◌, ◌∙◌, sym, ap, ℕ, ◌<◌, ℤ, List, length, Option, Some, None, refl, inl, inr}
+use Rattle.std.proofs.Common.{◌≡◌, ◌∙◌, sym, ap, ℕ, ℤ, List, Option, Some, None, refl, inl, inr}
 use Rattle.pm_base.specs.Cuts.{Cut}
 use Rattle.pm_base.specs.declared.limits.Limits.{Limits}
 use Rattle.pm_bid.specs.Taken.{announced, settled_step}

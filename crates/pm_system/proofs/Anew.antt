@@ -1,6 +1,5 @@
 -- An agent that offers anew does what two calls of a system do.
-use Rattle.std.proofs.Common.{◌≡◌, ◌∙◌, sym, ap, subst, ℕ, ◌+◌, ◌-◌, ◌≤◌, ◌^◌, ltb, cond, true, false, List, []}
-use Rattle.std.proofs.Common.{◌∷◌, refl, inl, inr, arith}
+use Rattle.std.proofs.Common.{◌≡◌, ◌∙◌, sym, ap, subst, ℕ, ◌+◌, ◌-◌, ◌≤◌, ◌^◌, ltb, cond, true, false, refl, inl, inr, arith}
 use Rattle.std.proofs.Math.Path.{fun_ext}
 use Rattle.std.proofs.lemmas.Bool.{cases_eq, cond-true, lt-ltb}
 use Rattle.pm_bid.specs.Bids.{zeros}

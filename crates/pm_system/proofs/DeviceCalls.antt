@@ -1,6 +1,5 @@
 -- The calls of a device's agent are events of the network.
-use Rattle.std.proofs.Common.{◌≡◌, ◌⊎◌, ◌∙◌, sym, ap, subst, ℕ, ◌+◌, ◌<◌, ◌≤◌, Bool, true, false, cond, not, ltb}
-use Rattle.std.proofs.Common.{leb, eqb, ◌&&◌}
+use Rattle.std.proofs.Common.{◌≡◌, ◌⊎◌, ◌∙◌, sym, ap, subst, ℕ, ◌+◌, ◌<◌, ◌≤◌, Bool, true, false, cond, not, ltb, leb, eqb}
 use Rattle.std.proofs.Common.{◌||◌, List, [], ◌∷◌, ◌++◌, length, Option, Some, None, arith, inl, inr, refl}
 use Rattle.std.proofs.lemmas.Bool.{cases_Bool, cases_eq, cases_lt, cond-true, cond-false, and_from, lt-ltb, eq-eqb, ne_eqb}
 use Rattle.std.proofs.lemmas.List.{get_or_append_left, get_or_push, length_push}
@@ -9,9 +8,7 @@ use Rattle.pm_bid.specs.Bids.{zeros}
 use Rattle.pm_market.proofs.Cuts.{updated_same, updated_other}
 use Rattle.pm_laws.proofs.Facts.{updated_at}
 use Rattle.pm_market.specs.Lists.{Lists, is_leaf, is_member, changes, IsNode, IsLeaf}
-use Rattle.pm_market.specs.Legality.{is_node}
 use Rattle.pm_market.specs.State.{State, update}
-use Rattle.pm_market.proofs.Legality.{is_node_at}
 use Rattle.pm_market.proofs.Tree.{leaf_node}
 use Rattle.pm_net.specs.Pricing.{Pricing}
 use Rattle.pm_net.specs.Messages.{BidMessage, PriceMessage, bid_message}

@@ -1,5 +1,5 @@
 -- What was given for one clearing adds up to what was announced for it.
-use Rattle.std.proofs.Common.{◌≡◌, ◌∙◌, sym, ap, subst, ℕ, ◌⊎◌, false, ℤ, pos, ◌≤ℤ◌, List, length, Some, inl, inr}
+use Rattle.std.proofs.Common.{◌≡◌, ◌∙◌, sym, ap, subst, ℕ, ◌⊎◌, false, ℤ, pos, ◌≤ℤ◌, List, Some, inl, inr}
 use Rattle.std.specs.List.{All}
 use Rattle.pm_base.specs.Cuts.{Cut}
 use Rattle.pm_base.specs.declared.limits.Limits.{Limits}
@@ -7,7 +7,7 @@ use Rattle.pm_bid.specs.Bids.{demand_at, NeverRises}
 use Rattle.pm_bid.specs.Taken.{CanSay, HasStepWithin, IsWithinLimits, AreSmall}
 use Rattle.pm_bid.proofs.Sums.{zeros-at}
 use Rattle.pm_bid.proofs.Taken.{settled_small}
-use Rattle.pm_market.specs.Lists.{Lists, is_member, IsLeaf, IsLeafOf, IsConcentrator}
+use Rattle.pm_market.specs.Lists.{Lists, is_member, IsLeaf, IsConcentrator}
 use Rattle.pm_market.specs.Offers.{sum_on}
 use Rattle.pm_market.specs.State.{State, cleared_cut}
 use Rattle.pm_market.proofs.Tree.{leaf_of_parts}

@@ -1,6 +1,6 @@
 -- One node of a system moves, and the others stay what the network has of them.
-use Rattle.std.proofs.Common.{◌≡◌, ◌⊎◌, ◌∙◌, sym, ap, subst, ℕ, ◌+◌, ◌<◌, ◌≤◌, eqb, List, [], ◌∷◌, ◌++◌}
-use Rattle.std.proofs.Common.{length, get_or, arith, inl, inr, refl}
+use Rattle.std.proofs.Common.{◌≡◌, ◌⊎◌, ◌∙◌, sym, ap, subst, ℕ, ◌+◌, ◌<◌, eqb, List, [], ◌∷◌, ◌++◌, length}
+use Rattle.std.proofs.Common.{get_or, arith, inl, inr, refl}
 use Rattle.std.proofs.lemmas.Bool.{cases_eq, cond-true, cond-false, eq-eqb, ne_eqb, both_ways}
 use Rattle.pm_market.specs.Lists.{Lists, parent, is_leaf, IsNode, IsLeaf, IsConcentrator, Lawful}
 use Rattle.pm_market.specs.State.{update}

@@ -1,15 +1,15 @@
 -- Each node's offer is a demand that a bid may have, and each local step is one of the steps.
-use Rattle.std.proofs.Common.{◌≡◌, ◌∙◌, sym, ap, subst, ℕ, zero, suc, ◌+◌, ◌<◌, ◌≤◌, ℤ, pos, ◌≤ℤ◌}
-use Rattle.std.proofs.Common.{cond, eqb, List, [], ◌∷◌, length, arith, inl, inr}
+use Rattle.std.proofs.Common.{◌≡◌, ◌∙◌, sym, ap, subst, ℕ, zero, suc, ◌+◌, ◌<◌, ℤ, pos, ◌≤ℤ◌}
+use Rattle.std.proofs.Common.{eqb, List, [], ◌∷◌, length, arith, inl, inr}
 use Rattle.std.specs.Prelude.{All}
 use Rattle.std.proofs.lemmas.Bool.{cases_eq, cases_Bool, cond-true, cond-false, eq-eqb, ne_eqb}
 use Rattle.std.proofs.lemmas.Int.{ints}
 use Rattle.std.proofs.lemmas.List.Elements.{All-head, All-tail}
 use Rattle.std.proofs.lemmas.List.FromFn.{get_or-map-range_with_len, length-map-range_with_len}
 use Rattle.pm_base.specs.Cuts.{Cut}
-use Rattle.pm_base.specs.Limits.{demand_limit, most_nodes, IsWithin}
+use Rattle.pm_base.specs.Limits.{demand_limit, most_nodes}
 use Rattle.pm_base.specs.declared.limits.Limits.{Limits}
-use Rattle.pm_bid.specs.Bids.{NeverRises, HaveSteps, demand_at, sum_of, zeros}
+use Rattle.pm_bid.specs.Bids.{NeverRises, HaveSteps, sum_of, zeros}
 use Rattle.pm_bid.specs.Taken.{announced_in, announced, settled_step}
 use Rattle.pm_bid.proofs.Taken.{announced-length, announced-small, announced-falls, settled_inside}
 use Rattle.pm_bid.proofs.FoundStep.{first_at_most_is_first}

@@ -1,8 +1,8 @@
 -- Where each node that counts was reached by the newest clearing, and nothing can be sent, that is over all current bids.
 use Rattle.std.proofs.Common.{◌≡◌, ◌∙◌, sym, ap, ℕ, ◌-◌, ◌<◌, ◌≤◌, Bool, true, false, not, ltb, ◌&&◌, inl}
-use Rattle.std.proofs.Common.{inr, length, arith, refl, eqb}
+use Rattle.std.proofs.Common.{inr, length, arith, refl}
 use Rattle.std.proofs.Common.{◌⊎◌}
-use Rattle.std.proofs.lemmas.Bool.{cases_eq, cases_Bool, eqb-true, cond-true, cond-false, and_from, lt-ltb, not_from_false, both_ways}
+use Rattle.std.proofs.lemmas.Bool.{cases_eq, cases_Bool, cond-false, and_from, lt-ltb, not_from_false, both_ways}
 use Rattle.pm_base.specs.Cuts.{Cut}
 use Rattle.pm_base.specs.Limits.{window_size}
 use Rattle.pm_market.specs.Lists.{Lists, parent, nodes, is_leaf, is_member, IsNode, IsLeaf, IsInner, IsConcentrator, Lawful}
@@ -13,12 +13,10 @@ use Rattle.pm_market.specs.declared.moves.Move.TheVariants.{Publish, Clear, Pass
 use Rattle.pm_market.proofs.Tree.{leaf_node, leaf_zero}
 use Rattle.pm_market.proofs.Cuts.{newest_leaf, newest_inner, part_inner}
 use Rattle.pm_market.proofs.Legality.{is_node_at}
-use Rattle.pm_laws.proofs.MoveLaws.{due_from}
 use Rattle.pm_laws.proofs.Numbers.{known_heads, number_leaf, number_down, addressed_number, cleared_is_part}
 use Rattle.pm_laws.specs.Rest.{Rests}
 use Rattle.pm_laws.proofs.Quiet.{rest_counts, rest_passed}
 use Rattle.pm_laws.proofs.Facts.{last_within}
-use Rattle.pm_laws.specs.Due.{is_due}
 use Rattle.pm_market.specs.Moves.{NodeLegal}
 use Rattle.pm_net.specs.Pricing.{Pricing, GoesByNodes}
 use Rattle.pm_net.specs.Messages.{BidMessage, PriceMessage, price_message}
@@ -32,8 +30,6 @@ use Rattle.pm_net.proofs.Settled.{none_at_root, root_gone}
 use Rattle.pm_net.proofs.Learns.{learnt_to, passing, Learning, learning_to, learning_sound}
 use Rattle.pm_net.proofs.News.{no_news, caught_at}
 use Rattle.pm_laws.proofs.Gone.{gone_addresses, gone_leaf}
-use Rattle.pm_net.proofs.Gone.{not_flips}
-use Rattle.pm_laws.proofs.Quiet.{addressed_index}
 use Rattle.pm_net.proofs.Adding.{knowing}
 use Rattle.pm_laws.proofs.Facts.{contains_within}
 use Rattle.pm_net.proofs.Answered.{answered_exact}

@@ -6,7 +6,7 @@ use Rattle.std.proofs.lemmas.Bool.{cases_eq, cases_Bool, cond-true, cond-false, 
 use Rattle.pm_bid.specs.Bids.{zeros}
 use Rattle.pm_market.specs.Lists.{Lists, parent, is_leaf, is_member, changes, IsNode, IsLeaf, IsConcentrator}
 use Rattle.pm_market.specs.State.{State, update, part, no_changes, cleared_cut}
-use Rattle.pm_market.proofs.Cuts.{updated_same, updated_other, part_leaf, part_zero, number_inner, greatest_le}
+use Rattle.pm_market.proofs.Cuts.{updated_other, part_leaf, part_zero, number_inner, greatest_le}
 use Rattle.pm_laws.specs.Gone.{is_gone}
 use Rattle.pm_laws.proofs.Gone.{gone_leaf, gone_inner}
 use Rattle.pm_session.specs.Windows.{Sent, Keeps, record_of}

@@ -2,7 +2,7 @@
 use Rattle.std.proofs.Common.{◌≡◌, ◌∙◌, sym, ap, ℕ, zero, suc, ◌≤◌, true, false, not, inl, inr, length, arith, refl}
 use Rattle.std.proofs.lemmas.Bool.{cases_eq, cond-true, cond-false}
 use Rattle.pm_market.specs.Lists.{Lists, parent, is_leaf, is_member, IsNode, IsLeaf, IsConcentrator, Lawful}
-use Rattle.pm_market.specs.State.{State, cut_at, number, clearings, cleared_cut, last_index, addresses}
+use Rattle.pm_market.specs.State.{State, cut_at, number, clearings, cleared_cut, addresses}
 use Rattle.pm_market.proofs.Tree.{leaf_node}
 use Rattle.pm_market.proofs.Cuts.{newest_leaf, newest_inner}
 use Rattle.pm_laws.proofs.Facts.{last_within}

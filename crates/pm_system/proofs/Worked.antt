@@ -1,6 +1,6 @@
 -- The worked system: each call, one by one.
-use Rattle.std.proofs.Common.{◌≡◌, ◌∙◌, sym, ap, ℕ, zero, suc, ◌+◌, ◌-◌, ◌<◌, ◌≤◌, Bool, true, false, leb, ◌&&◌}
-use Rattle.std.proofs.Common.{ℤ, pos, negsuc, List, [], ◌∷◌, ◌++◌, length, map, replicate, get_or, Some, None}
+use Rattle.std.proofs.Common.{◌≡◌, ◌∙◌, sym, ap, ℕ, zero, suc, ◌+◌, ◌-◌, ◌≤◌, Bool, true, false, leb, ◌&&◌, List, []}
+use Rattle.std.proofs.Common.{◌∷◌, ◌++◌, map, replicate, Some, None}
 use Rattle.std.proofs.Common.{refl, inl, inr, arith}
 use Rattle.std.proofs.lemmas.Bool.{leb-true, and_parts}
 use Rattle.std.proofs.Math.ListN.{get_or-map}
@@ -14,14 +14,14 @@ use Rattle.pm_cache.specs.Cache.{aggregate_of, empty_cache}
 use Rattle.pm_session.specs.Windows.{WindowValue, record_of}
 use Rattle.pm_market.specs.Lists.{parent, is_leaf, is_member, changes}
 use Rattle.pm_market.specs.State.{update}
-use Rattle.pm_net.specs.Messages.{BidMessage, bid_message}
+use Rattle.pm_net.specs.Messages.{bid_message}
 use Rattle.pm_net.specs.Agents.{new_agent, after_offer, setpoints_for, after_price}
-use Rattle.pm_net_plan.specs.Places.{children_to, place_in, child_in}
+use Rattle.pm_net_plan.specs.Places.{children_to, place_in}
 use Rattle.pm_auctioneer.specs.Auctions.{new_auction}
 use Rattle.pm_concentrator.specs.Concentrators.{own_demand}
 use Rattle.pm_relay.specs.Numbers.{child_number, head_number, AreReached, AreEnough}
-use Rattle.pm_relay.specs.Relays.{RelayValue, limits_places, with_child_bid, HearsItsRecord}
-use Rattle.pm_relay.specs.Roots.{RootValue, with_root_bid, HearsItsClearing}
+use Rattle.pm_relay.specs.Relays.{RelayValue, limits_places, with_child_bid}
+use Rattle.pm_relay.specs.Roots.{RootValue, with_root_bid}
 use Rattle.pm_relay.specs.declared.outcome.PriceOutcome.TheVariants.{PassedOn}
 use Rattle.pm_relay_net.specs.RelayIs.{LimitsPassBy, told_demand, update_of, prices_down}
 use Rattle.pm_relay_net.specs.RootIs.{root_prices}

@@ -1,13 +1,10 @@
 -- The worked system in the end.
-use Rattle.std.proofs.Common.{◌≡◌, ◌∙◌, sym, ap, subst, ℕ, ℤ, zero, suc, Some, [], ◌∷◌, ◌<◌, ◌≤◌, true, false, pos}
-use Rattle.std.proofs.Common.{negsuc, ◌≤ℤ◌, List, length, get_or, refl, inl, inr, arith}
+use Rattle.std.proofs.Common.{◌≡◌, ◌∙◌, sym, ap, subst, ℕ, ℤ, zero, suc, Some, [], ◌∷◌, ◌<◌, ◌≤◌, false, pos, negsuc}
+use Rattle.std.proofs.Common.{List, length, get_or, refl, arith}
 use Rattle.std.proofs.lemmas.Int.{ints}
-use Rattle.pm_base.specs.Limits.{IsWithin, demand_limit, most_nodes}
-use Rattle.pm_base.specs.declared.limits.Limits.{Limits}
 use Rattle.pm_bid.specs.Bids.{demand_at}
 use Rattle.pm_bid.specs.Taken.{CanSay, HasStepWithin, IsWithinLimits, said_between}
-use Rattle.pm_cache.specs.Cache.{child_head}
-use Rattle.pm_market.specs.Lists.{parent, is_leaf, is_member, changes, is_below, IsNode, IsLeaf, IsConcentrator}
+use Rattle.pm_market.specs.Lists.{parent, is_leaf, is_member, changes, IsNode, IsLeaf, IsConcentrator}
 use Rattle.pm_market.specs.State.{update}
 use Rattle.pm_market.specs.Offers.{sum_on}
 use Rattle.pm_net.specs.Flow.{SaysBelow, sum_of_offers}
@@ -18,7 +15,7 @@ use Rattle.pm_net.specs.Messages.{BidMessage}
 use Rattle.pm_relay.specs.declared.fault.SendFault.TheVariants as send_fault
 use Rattle.pm_relay.specs.declared.fault.RootFault.TheVariants as root_fault
 use Rattle.pm_relay.specs.Roots.{newest_index}
-use Rattle.pm_system.specs.System.{System, price_in_channel}
+use Rattle.pm_system.specs.System.{price_in_channel}
 use Rattle.pm_system.specs.Calls.{SystemRuns}
 use Rattle.pm_system.specs.Settled.{number_made, number_held, index_of_held, numbers_counted, IsSettledSystem, HasNothingToSend}
 use Rattle.pm_system.specs.Flow.{TakeWhatWasTold}

@@ -1,12 +1,11 @@
 -- The worked system is over a market.
-use Rattle.std.proofs.Common.{◌≡◌, ap, ℕ, zero, suc, ◌+◌, ◌<◌, ◌≤◌, Bool, true, false, ℤ, pos, negsuc, ◌≤ℤ◌, List, []}
-use Rattle.std.proofs.Common.{◌∷◌, length, cond, eqb}
-use Rattle.std.proofs.Common.{refl, inl, inr, arith}
+use Rattle.std.proofs.Common.{◌≡◌, ℕ, zero, suc, ◌+◌, ◌<◌, ◌≤◌, false, ℤ, pos, negsuc, ◌≤ℤ◌, List, [], ◌∷◌, cond, eqb}
+use Rattle.std.proofs.Common.{refl, inr, arith}
 use Rattle.std.proofs.lemmas.Int.{ints}
 use Rattle.std.proofs.lemmas.Bool.{cond-false}
 use Rattle.pm_base.specs.Limits.{IsWithin, demand_limit, most_depth}
 use Rattle.pm_bid.specs.Bids.{zeros, demand_at}
-use Rattle.pm_market.specs.Lists.{parent, is_leaf, is_member, changes, end_count, path_depth, path_depth_in, nodes, IsNode, IsLeaf, Lawful}
+use Rattle.pm_market.specs.Lists.{parent, is_leaf, is_member, changes, end_count, path_depth, path_depth_in, IsNode, IsLeaf, Lawful}
 use Rattle.pm_net.proofs.Messages.{either}
 use Rattle.pm_net_plan.specs.Places.{HasFewChildren}
 use Rattle.pm_net_plan.proofs.Children.{small}

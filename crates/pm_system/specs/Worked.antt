@@ -1,10 +1,9 @@
 -- A worked system that settles: a root, a relay with limits below it, and two devices below the relay.
 use Rattle.std.specs.Prelude.{◌≡◌, ◌==◌, ℕ, if◌then◌else◌, true, false, ℤ, pos, negsuc, List, [], ◌∷◌}
-use Rattle.std.specs.List.{Contains}
 use Rattle.pm_base.specs.declared.limits.Limits.{Limits}
-use Rattle.pm_bid.specs.Bids.{zeros, demand_at}
+use Rattle.pm_bid.specs.Bids.{zeros}
 use Rattle.pm_bid.specs.Taken.{IsWithinLimits}
-use Rattle.pm_market.specs.Lists.{Lists, is_member, IsLeaf, IsLeafOf}
+use Rattle.pm_market.specs.Lists.{Lists, is_member}
 use Rattle.pm_market.specs.Offers.{sum_on}
 use Rattle.pm_net.specs.Pricing.{Pricing}
 use Rattle.pm_net.specs.Messages.{price_message}
