@@ -142,8 +142,8 @@ impl ControlAgent {
     /// nothing changes then.
     pub fn take_old(&mut self, kept: u32) -> Option<u32>
         ensures after { self.new ≡ after_old self.old kept }
-        ensures answer { MatchOption result (self.new ≡ self.old) (λ number. (number ≡ self.new.number)
-            × (number ≡ self.old.number + 4)) }
+        ensures answer { MatchOption result (self.new ≡ self.old)
+            (λ number. (number ≡ self.new.number) × (number ≡ self.old.number + 4)) }
     {
         if kept <= self.number || self.number > u32::MAX - 7 {
             return None;

@@ -45,7 +45,8 @@ one_frame place (Offer demand) (Hello c) x y is is' e = absurd (omega (arith, fi
 one_frame place (Offer demand) (Offer demand') x y is is' e =
     let same = demands_same demand demand' x y (is.1 ∙ sym is'.1) is.2 is'.2 (parts_same _ _ _ _ e).1 in (ap (λ d. Offer d) same.0, same.1)
 one_frame place (Offer demand) Leave x y is is' e = absurd (omega (arith, first_same _ _ e))
-one_frame place (Offer demand) (Parent g) x y is is' e = absurd (no_parent g y offer_kind (λ s. omega (arith, s)) (λ s. omega (arith, s)) (sym (first_same _ _ e)))
+one_frame place (Offer demand) (Parent g) x y is is' e =
+    absurd (no_parent g y offer_kind (λ s. omega (arith, s)) (λ s. omega (arith, s)) (sym (first_same _ _ e)))
 one_frame place (Offer demand) (Resume s) x y is is' e = absurd (omega (arith, newest_kind s.number s.index s.basis s.newest y, first_same _ _ e))
 one_frame place Leave (Hello c) x y is is' e = absurd (omega (arith, first_same _ _ e))
 one_frame place Leave (Offer demand') x y is is' e = absurd (omega (arith, first_same _ _ e))

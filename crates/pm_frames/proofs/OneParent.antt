@@ -12,7 +12,8 @@ use Rattle.pm_frames.specs.declared.parent.ParentFrame.{ParentFrame}
 use Rattle.pm_frames.specs.declared.parent.ParentFrame.TheVariants.{Price, Old}
 
 -- two frames of a parent with the same bytes in front are one
-pub parent_same : (f g : ParentFrame) (x y : List ℕ) → IsParentFormed f → IsParentFormed g → parent_bytes f ++ x ≡ parent_bytes g ++ y → (f ≡ g) × (x ≡ y)
+pub parent_same : (f g : ParentFrame) (x y : List ℕ) → IsParentFormed f → IsParentFormed g → parent_bytes f ++ x ≡ parent_bytes g ++ y →
+    (f ≡ g) × (x ≡ y)
 parent_same (Price child number index step basis) (Price child' number' index' step' basis') x y f g e =
     let plain : (c n k s : ℕ) (b : BasisValue) (z : List ℕ) → price_bytes c n k s b ++ z
     ≡ price_kind ∷ (to_be_bytes w16 c ++ (to_be_bytes w32 n ++ (to_be_bytes w32 k ++ (to_be_bytes w16 s ++ (basis_bytes b ++ z))))) =
@@ -34,11 +35,12 @@ parent_same (Old child kept) (Old child' kept') x y f g e =
     let numbers = four_same kept kept' x y f.1 g.1 children.1 in
     (cc (children.0, numbers.0), numbers.1)
 
--- the kind of a frame of a parent
+-- the kind of a frame of a parent is at least that of Old
 pub parent_least : (frame : ParentFrame) (x : List ℕ) → 7 ≤ get_or (parent_bytes frame ++ x) 0 0
 parent_least (Price child number index step basis) x = omega arith
 parent_least (Old child kept) x = omega arith
 
+-- it is at most that of Price
 pub parent_most : (frame : ParentFrame) (x : List ℕ) → get_or (parent_bytes frame ++ x) 0 0 ≤ 23
 parent_most (Price child number index step basis) x = omega arith
 parent_most (Old child kept) x = omega arith

@@ -54,7 +54,8 @@ one_frame place Send (Limits n k) x y is is' e = absurd (omega (arith, first_sam
 one_frame place Send (Bound n k) x y is is' e = absurd (omega (arith, first_same _ _ e))
 one_frame place Send (Resume b) x y is is' e = absurd (omega (arith, first_same _ _ e))
 one_frame place (Expire a) (Child g) x y is is' e = absurd (omega (arith, bid_kind_of g y, first_same _ _ e))
-one_frame place (Expire a) (Parent g) x y is is' e = absurd (no_parent g y expire_kind (λ s. omega (arith, s)) (λ s. omega (arith, s)) (sym (first_same _ _ e)))
+one_frame place (Expire a) (Parent g) x y is is' e =
+    absurd (no_parent g y expire_kind (λ s. omega (arith, s)) (λ s. omega (arith, s)) (sym (first_same _ _ e)))
 one_frame place (Expire a) Send x y is is' e = absurd (omega (arith, first_same _ _ e))
 one_frame place (Expire a) (Expire b) x y is is' e =
     let same = two_same a b x y is.1 is'.1 (parts_same _ _ _ _ e).1 in (ap (λ h. Expire h) same.0, same.1)
@@ -62,7 +63,8 @@ one_frame place (Expire a) (Limits n k) x y is is' e = absurd (omega (arith, fir
 one_frame place (Expire a) (Bound n k) x y is is' e = absurd (omega (arith, first_same _ _ e))
 one_frame place (Expire a) (Resume b) x y is is' e = absurd (omega (arith, first_same _ _ e))
 one_frame place (Limits m l) (Child g) x y is is' e = absurd (omega (arith, bid_kind_of g y, first_same _ _ e))
-one_frame place (Limits m l) (Parent g) x y is is' e = absurd (no_parent g y limits_kind (λ s. omega (arith, s)) (λ s. omega (arith, s)) (sym (first_same _ _ e)))
+one_frame place (Limits m l) (Parent g) x y is is' e =
+    absurd (no_parent g y limits_kind (λ s. omega (arith, s)) (λ s. omega (arith, s)) (sym (first_same _ _ e)))
 one_frame place (Limits m l) Send x y is is' e = absurd (omega (arith, first_same _ _ e))
 one_frame place (Limits m l) (Expire b) x y is is' e = absurd (omega (arith, first_same _ _ e))
 one_frame place (Limits m l) (Limits n k) x y is is' e =
@@ -70,7 +72,8 @@ one_frame place (Limits m l) (Limits n k) x y is is' e =
 one_frame place (Limits m l) (Bound n k) x y is is' e = absurd (omega (arith, first_same _ _ e))
 one_frame place (Limits m l) (Resume b) x y is is' e = absurd (omega (arith, first_same _ _ e))
 one_frame place (Bound m l) (Child g) x y is is' e = absurd (omega (arith, bid_kind_of g y, first_same _ _ e))
-one_frame place (Bound m l) (Parent g) x y is is' e = absurd (no_parent g y bound_kind (λ s. omega (arith, s)) (λ s. omega (arith, s)) (sym (first_same _ _ e)))
+one_frame place (Bound m l) (Parent g) x y is is' e =
+    absurd (no_parent g y bound_kind (λ s. omega (arith, s)) (λ s. omega (arith, s)) (sym (first_same _ _ e)))
 one_frame place (Bound m l) Send x y is is' e = absurd (omega (arith, first_same _ _ e))
 one_frame place (Bound m l) (Expire b) x y is is' e = absurd (omega (arith, first_same _ _ e))
 one_frame place (Bound m l) (Limits n k) x y is is' e = absurd (omega (arith, first_same _ _ e))
@@ -78,7 +81,8 @@ one_frame place (Bound m l) (Bound n k) x y is is' e =
     let same = bound_same m l n k x y is.1 is'.1 e in (ap (λ z. Bound z l) same.0 ∙ ap (λ z. Bound n z) same.1, same.2)
 one_frame place (Bound m l) (Resume b) x y is is' e = absurd (omega (arith, first_same _ _ e))
 one_frame place (Resume a) (Child g) x y is is' e = absurd (omega (arith, bid_kind_of g y, first_same _ _ e))
-one_frame place (Resume a) (Parent g) x y is is' e = absurd (no_parent g y resume_kind (λ s. omega (arith, s)) (λ s. omega (arith, s)) (sym (first_same _ _ e)))
+one_frame place (Resume a) (Parent g) x y is is' e =
+    absurd (no_parent g y resume_kind (λ s. omega (arith, s)) (λ s. omega (arith, s)) (sym (first_same _ _ e)))
 one_frame place (Resume a) Send x y is is' e = absurd (omega (arith, first_same _ _ e))
 one_frame place (Resume a) (Expire b) x y is is' e = absurd (omega (arith, first_same _ _ e))
 one_frame place (Resume a) (Limits n k) x y is is' e = absurd (omega (arith, first_same _ _ e))
@@ -87,7 +91,8 @@ one_frame place (Resume a) (Resume b) x y is is' e = let same = relay_stored_sam
 
 -- ---- the first byte tells the size
 
-sized : (child : ℕ) (terms : RelayTerms) (stage : Stage) (frame : RelayFrame) (more : List ℕ) → IsRelayFormed (record { child = child; terms = terms; stage = stage }) frame →
+sized : (child : ℕ) (terms : RelayTerms) (stage : Stage) (frame : RelayFrame) (more : List ℕ) →
+    IsRelayFormed (record { child = child; terms = terms; stage = stage }) frame →
     HasSize relay_framing (record { child = child; terms = terms; stage = stage }) (relay_frame_bytes frame ++ more) (length (relay_frame_bytes frame))
 sized child terms Start (Child (bids.TheVariants.Hello basis)) more is = refl
 sized child terms Start (Child (bids.TheVariants.Bid sender number demand)) more is = absurd is.0
@@ -127,7 +132,8 @@ sized child terms (Running known) (Bound sender bound) more is = refl
 sized child terms (Running known) (Resume stored) more is = absurd is.0
 
 -- what holds of each size holds of those after Hello
-size_open : (P : ℕ → Type 0) (steps kind : ℕ) → P 1 → P 3 → P 7 → P 11 → P 13 → P 23 → P (7 + 4 * steps) → IfSome (relay_size_open steps kind) P
+size_open : (P : ℕ → Type 0) (steps kind : ℕ) → P 1 → P 3 → P 7 → P 11 → P 13 → P 23 → P (7 + 4 * steps) →
+    IfSome (relay_size_open steps kind) P
 size_open P steps kind one three seven eleven thirteen more bid =
     let Q : Option ℕ → Type 0 = λ o. IfSome o P in
     either Q (kind == bid_kind) _ _ bid (either Q (kind == gone_kind) _ _ seven
@@ -142,12 +148,15 @@ size_of P Start kind one three seven eleven thirteen more resume bid =
 size_of P (Opened known) kind one three seven eleven thirteen more resume bid =
     let Q : Option ℕ → Type 0 = λ o. IfSome o P in
     either Q (kind == resume_kind) _ _ resume (size_open P known.steps kind one three seven eleven thirteen more (bid known.steps refl))
-size_of P (Running known) kind one three seven eleven thirteen more resume bid = size_open P known.steps kind one three seven eleven thirteen more (bid known.steps refl)
+size_of P (Running known) kind one three seven eleven thirteen more resume bid =
+    size_open P known.steps kind one three seven eleven thirteen more (bid known.steps refl)
 
 some_bytes : (place : RelayPlace) (kind size : ℕ) → relay_size place.stage kind ≡ Some size → 1 ≤ size
 some_bytes place kind size is =
     let P : ℕ → Type 0 = λ n. 1 ≤ n in
-    of_some P _ size (size_of P place.stage kind (omega arith) (omega arith) (omega arith) (omega arith) (omega arith) (omega arith) (omega arith) (λ steps e. omega arith)) is
+    of_some P _ size
+    (size_of P place.stage kind (omega arith) (omega arith) (omega arith) (omega arith) (omega arith) (omega arith) (omega arith)
+    (λ steps e. omega arith)) is
 
 few_bytes : (place : RelayPlace) (kind size : ℕ) → IsRelayPlace place → relay_size place.stage kind ≡ Some size → size ≤ frame_limit
 few_bytes place kind size is_place is =
@@ -155,7 +164,8 @@ few_bytes place kind size is_place is =
     of_some P _ size (size_of P place.stage kind (omega arith) (omega arith) (omega arith) (omega arith) (omega arith) (omega arith) (omega arith)
     (λ steps e. omega (arith, (steps_of place.stage steps is_place e).most))) is
 
-leads_on : (place : RelayPlace) (frame : RelayFrame) → IsRelayPlace place → MayStand relay_framing place frame → IsRelayPlace (relay_place_after place frame)
+leads_on : (place : RelayPlace) (frame : RelayFrame) → IsRelayPlace place → MayStand relay_framing place frame →
+    IsRelayPlace (relay_place_after place frame)
 leads_on place (Child frame) is stands = after_is place.stage frame is (record { formed = stands.formed.0; accepted = stands.accepted.0 })
 leads_on place (Parent frame) is stands = behind_is place.stage is
 leads_on place Send is stands = behind_is place.stage is

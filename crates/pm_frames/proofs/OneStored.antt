@@ -16,7 +16,8 @@ use Rattle.pm_frames.specs.Stored.{IsRelayStored, IsRootStored, IsNewestFormed}
 use Rattle.pm_frames.proofs.OneNumber.{numbers_same}
 
 -- of a basis
-pub basis_same : (a b : BasisValue) (x y : List ℕ) → IsBasisFormed a → IsBasisFormed b → basis_bytes a ++ x ≡ basis_bytes b ++ y → (a ≡ b) × (x ≡ y)
+pub basis_same : (a b : BasisValue) (x y : List ℕ) → IsBasisFormed a → IsBasisFormed b → basis_bytes a ++ x ≡ basis_bytes b ++ y →
+    (a ≡ b) × (x ≡ y)
 basis_same a b x y f g e =
     let plain : (c : BasisValue) (z : List ℕ) → basis_bytes c ++ z ≡ signed_bytes c.min ++ (signed_bytes c.max ++ (to_be_bytes w16 c.steps ++ z)) =
     λ c z. simp append_assoc in
@@ -31,7 +32,8 @@ basis_same a b x y f g e =
     )
 
 -- of limits
-pub limits_same : (a b : Limits) (x y : List ℕ) → AreLimitsFormed a → AreLimitsFormed b → limits_bytes a ++ x ≡ limits_bytes b ++ y → (a ≡ b) × (x ≡ y)
+pub limits_same : (a b : Limits) (x y : List ℕ) → AreLimitsFormed a → AreLimitsFormed b → limits_bytes a ++ x ≡ limits_bytes b ++ y →
+    (a ≡ b) × (x ≡ y)
 limits_same a b x y f g e =
     let plain : (c : Limits) (z : List ℕ) → limits_bytes c ++ z ≡ signed_bytes c.floor ++ (signed_bytes c.ceiling ++ z) = λ c z. simp append_assoc in
     let floors = signed_same a.floor b.floor (signed_bytes a.ceiling ++ x) (signed_bytes b.ceiling ++ y) f.0 g.0 (sym (plain a x) ∙ e ∙ plain b y) in
@@ -63,14 +65,94 @@ relay_stored_same a b x y f g e =
     let givers = two_same a.giver b.giver (behind_giver a x) (behind_giver b y) f.5 g.5 firsts.1 in
     let limits = limits_same a.limits b.limits (behind_limits a x) (behind_limits b y) f.6 g.6 givers.1 in
     let children = numbers_same a.numbers b.numbers x y (f.7.0 ∙ sym g.7.0) f.7.1 g.7.1 limits.1 in (
-      ap (λ v. record { last = v; answered = a.answered; index = a.index; basis = a.basis; first = a.first; giver = a.giver; limits = a.limits; numbers = a.numbers }) lasts.0
-          ∙ ap (λ v. record { last = b.last; answered = v; index = a.index; basis = a.basis; first = a.first; giver = a.giver; limits = a.limits; numbers = a.numbers }) answers.0
-          ∙ ap (λ v. record { last = b.last; answered = b.answered; index = v; basis = a.basis; first = a.first; giver = a.giver; limits = a.limits; numbers = a.numbers }) indices.0
-          ∙ ap (λ v. record { last = b.last; answered = b.answered; index = b.index; basis = v; first = a.first; giver = a.giver; limits = a.limits; numbers = a.numbers }) bases.0
-          ∙ ap (λ v. record { last = b.last; answered = b.answered; index = b.index; basis = b.basis; first = v; giver = a.giver; limits = a.limits; numbers = a.numbers }) firsts.0
-          ∙ ap (λ v. record { last = b.last; answered = b.answered; index = b.index; basis = b.basis; first = b.first; giver = v; limits = a.limits; numbers = a.numbers }) givers.0
-          ∙ ap (λ v. record { last = b.last; answered = b.answered; index = b.index; basis = b.basis; first = b.first; giver = b.giver; limits = v; numbers = a.numbers }) limits.0
-          ∙ ap (λ v. record { last = b.last; answered = b.answered; index = b.index; basis = b.basis; first = b.first; giver = b.giver; limits = b.limits; numbers = v }) children.0,
+      ap (λ v. record {
+        last = v;
+        answered = a.answered;
+        index = a.index;
+        basis = a.basis;
+        first = a.first;
+        giver = a.giver;
+        limits = a.limits;
+        numbers = a.numbers;
+      }) lasts.0
+          ∙ ap (λ v.
+          record {
+            last = b.last;
+            answered = v;
+            index = a.index;
+            basis = a.basis;
+            first = a.first;
+            giver = a.giver;
+            limits = a.limits;
+            numbers =
+                a.numbers;
+          }) answers.0
+          ∙ ap (λ v.
+          record {
+            last = b.last;
+            answered = b.answered;
+            index = v;
+            basis = a.basis;
+            first = a.first;
+            giver = a.giver;
+            limits = a.limits;
+            numbers = a.numbers;
+          }) indices.0
+          ∙ ap (λ v.
+          record {
+            last = b.last;
+            answered = b.answered;
+            index = b.index;
+            basis = v;
+            first = a.first;
+            giver = a.giver;
+            limits = a.limits;
+            numbers = a.numbers;
+          }) bases.0
+          ∙ ap (λ v.
+          record {
+            last = b.last;
+            answered = b.answered;
+            index = b.index;
+            basis = b.basis;
+            first = v;
+            giver = a.giver;
+            limits = a.limits;
+            numbers = a.numbers;
+          }) firsts.0
+          ∙ ap (λ v.
+          record {
+            last = b.last;
+            answered = b.answered;
+            index = b.index;
+            basis = b.basis;
+            first = b.first;
+            giver = v;
+            limits = a.limits;
+            numbers = a.numbers;
+          }) givers.0
+          ∙ ap (λ v.
+          record {
+            last = b.last;
+            answered = b.answered;
+            index = b.index;
+            basis = b.basis;
+            first = b.first;
+            giver = b.giver;
+            limits = v;
+            numbers = a.numbers;
+          }) limits.0
+          ∙ ap (λ v.
+          record {
+            last = b.last;
+            answered = b.answered;
+            index = b.index;
+            basis = b.basis;
+            first = b.first;
+            giver = b.giver;
+            limits = b.limits;
+            numbers = v;
+          }) children.0,
       children.1,
     )
 

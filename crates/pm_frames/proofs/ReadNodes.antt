@@ -197,6 +197,7 @@ relay_resume_refused place bytes stored fresh is spelled refused = record {
   spelled = spelled;
 }
 
+-- a Resume of an auctioneer that is well formed and not of its basis is refused
 pub root_resume_refused : (stage : Stage) (bytes : List ℕ) (stored : StoredRoot) → IsFresh stage → IsRootStored stored →
     bytes ≡ root_resume_bytes stored → ¬ IsRootStoredAccepted stage stored → IsRefusedFrame root_framing stage bytes
 root_resume_refused stage bytes stored fresh is spelled refused = record {
@@ -223,11 +224,17 @@ offer_refused place body is_open at = record {
 
 -- the fields of what a device comes back with that stand before its offer
 pub record AreFields (body x y z : List ℕ) (number index : ℕ) (basis : BasisValue) : Type 0 where
+  -- the number stands first
   pub number_first : body ≡ to_be_bytes w32 number ++ x
+  -- then the index
   pub index_next : x ≡ to_be_bytes w32 index ++ y
+  -- and then the basis
   pub basis_last : y ≡ basis_bytes basis ++ z
+  -- four bytes hold the number
   pub number_small : number < 2 ^ 32
+  -- and the index
   pub index_small : index < 2 ^ 32
+  -- the basis is well formed
   pub formed : IsBasisFormed basis
 
 fields_spelled : (body x y z : List ℕ) (number index : ℕ) (basis : BasisValue) → AreFields body x y z number index basis →

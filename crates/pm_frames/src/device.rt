@@ -139,7 +139,8 @@ fn is_left(stage: Stage, number: u32, basis: &NamedBasis) -> bool
 
 /// Whether what a device comes back with that has an offer is of the basis that Hello had, under a number that a device gives.
 fn is_offered(stage: Stage, number: u32, basis: &NamedBasis) -> bool
-    ensures { IsTrue result ↔ ((basis_at stage ≡ Some basis.now) × (number % 2 ≡ 0) × (1 ≤ number)) }
+    ensures { IsTrue result
+        ↔ ((basis_at stage ≡ Some basis.now) × (number % 2 ≡ 0) × (1 ≤ number)) }
 {
     is_left(stage, number, basis) && number >= 1
 }

@@ -2,7 +2,8 @@
 
 ghost use Rattle.std.specs.Prelude.{◌≡◌, ◌+◌, ◌≤◌, ◌∷◌, ◌++◌, ◌↔◌, IsTrue, length};
 ghost use Rattle.pm_relay.specs.Relays.{AreRelayLimits};
-ghost use Rattle.pm_frames.specs.LimitsFrames.{limits_bytes, AreLimitsFormed, given_bytes, IsGivenFormed, IsGivenAccepted, bound_bytes, IsBoundFormed, IsBoundAccepted};
+ghost use Rattle.pm_frames.specs.LimitsFrames.{limits_bytes, AreLimitsFormed, given_bytes, IsGivenFormed, IsGivenAccepted, bound_bytes};
+ghost use Rattle.pm_frames.specs.LimitsFrames.{IsBoundFormed, IsBoundAccepted};
 ghost use Rattle.pm_frames.specs.Kinds.{limits_kind, bound_kind};
 
 use crate::expiry::is_child;
@@ -10,7 +11,7 @@ use pm_base::{DEMAND_LIMIT, Limits};
 use pm_wire::{read_i32, read_u16, read_u32};
 
 /// The limits that the bytes begin with, four bytes each, and the bytes behind them.
-pub(crate) fn read_limits(bytes: &[u8]) -> (Limits, &[u8])
+pub(crate) fn read_floor_and_ceiling(bytes: &[u8]) -> (Limits, &[u8])
     requires { 8 ≤ length bytes.now }
     ensures bytes { bytes.now ≡ limits_bytes result.0 ++ result.1.now }
     ensures formed { AreLimitsFormed result.0 }
@@ -37,7 +38,7 @@ pub(crate) fn read_given(body: &[u8]) -> (u32, Limits)
     ensures spelled { limits_kind ∷ body.now ≡ given_bytes result.0 result.1 }
 {
     let (number, rest) = read_u32(body);
-    let (limits, _rest) = read_limits(rest);
+    let (limits, _rest) = read_floor_and_ceiling(rest);
     (number, limits)
 }
 
@@ -55,7 +56,7 @@ pub(crate) fn read_bound(body: &[u8]) -> (u16, Limits)
     ensures spelled { bound_kind ∷ body.now ≡ bound_bytes result.0 result.1 }
 {
     let (child, rest) = read_u16(body);
-    let (bound, _rest) = read_limits(rest);
+    let (bound, _rest) = read_floor_and_ceiling(rest);
     (child, bound)
 }
 

@@ -1,6 +1,7 @@
 //! The frames of the stream to a relay.
 
-ghost use Rattle.std.specs.Prelude.{◌≡◌, ◌≢◌, ◌+◌, ◌≤◌, ◌∷◌, ◌↔◌, ◌==◌, if◌then◌else◌, IsTrue, length, Some, None, IfOk};
+ghost use Rattle.std.specs.Prelude.{◌≡◌, ◌≢◌, ◌+◌, ◌≤◌, ◌∷◌, ◌↔◌, ◌==◌, if◌then◌else◌, IsTrue, length};
+ghost use Rattle.std.specs.Prelude.{Some, None, IfOk};
 ghost use Rattle.pm_base.specs.Limits.{most_steps};
 ghost use Rattle.pm_wire.specs.Frames.{clear_kind, size_at as bid_size_at};
 ghost use Rattle.pm_wire.specs.Spelling.{IsOne};

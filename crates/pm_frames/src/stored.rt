@@ -4,10 +4,11 @@ ghost use Rattle.std.specs.Prelude.{◌≡◌, ◌+◌, ◌*◌, ◌<◌, ◌≤
 ghost use Rattle.pm_base.specs.Limits.{most_nodes};
 ghost use Rattle.pm_relay.specs.Numbers.{child_number};
 ghost use Rattle.pm_frames.specs.Kinds.{resume_kind};
-ghost use Rattle.pm_frames.specs.Stored.{number_bytes, AreChildNumbers, relay_resume_bytes, root_resume_bytes, IsRelayStored, IsOfTerms, IsRelayStoredAccepted, IsRootStored, IsRootStoredAccepted};
+ghost use Rattle.pm_frames.specs.Stored.{number_bytes, AreChildNumbers, relay_resume_bytes, root_resume_bytes, IsRelayStored, IsOfTerms};
+ghost use Rattle.pm_frames.specs.Stored.{IsRelayStoredAccepted, IsRootStored, IsRootStoredAccepted};
 
 use crate::basis::{NamedBasis, read_basis};
-use crate::limits::{are_relay_limits, read_limits};
+use crate::limits::{are_relay_limits, read_floor_and_ceiling};
 use crate::place::Stage;
 use crate::terms::RelayTerms;
 use pm_base::{Limits, MOST_NODES};
@@ -172,9 +173,9 @@ pub(crate) fn read_stored_relay(alloc: Global, body: &[u8]) -> Result<StoredRela
     let (answered, rest) = read_u32(rest);
     let (index, rest) = read_u32(rest);
     let (basis, rest) = read_basis(rest);
-    let (first, rest) = read_limits(rest);
+    let (first, rest) = read_floor_and_ceiling(rest);
     let (giver, rest) = read_u16(rest);
-    let (limits, rest) = read_limits(rest);
+    let (limits, rest) = read_floor_and_ceiling(rest);
     let numbers = read_numbers(alloc, rest)?;
     Ok(StoredRelay {
         last,

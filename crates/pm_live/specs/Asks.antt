@@ -14,7 +14,8 @@ use Rattle.pm_live.specs.declared.named.LiveNode.{LiveNode}
 use Rattle.pm_live.specs.declared.named.LiveNode.TheVariants.{Relay, Auctioneer, Device}
 
 -- it asks no more than what is due of the node at the start of its stream
-abbrev pub AsksNode : {W : Type 0} → (left held : W → Option (List ℕ)) → (becomes : W → W → Type 0) → (may_read : W → Type 0) → (may_write : W → List ℕ → Type 0) →
+abbrev pub AsksNode : {W : Type 0} → (left held : W → Option (List ℕ)) → (becomes : W → W → Type 0) → (may_read : W → Type 0) →
+    (may_write : W → List ℕ → Type 0) →
     LiveNode → W → Type 0
 AsksNode left held becomes may_read may_write (Relay child terms) old =
     AsksWhatIsDue left held becomes may_read may_write relay_framing (relay_start child terms) (AnswersFrom AnswersRelay (new_relay_service child terms)) old

@@ -54,7 +54,8 @@ ServesNode (Device child) old new held holds rose_source rose_sink served =
 -- how it ended by what the source had, where the source tells that
 abbrev pub EndsNodeAsDue : LiveNode → (all : List ℕ) (old new held holds : Option (List ℕ)) (rose_source rose_sink : Type 0) → Served → Type 0
 EndsNodeAsDue (Relay child terms) all old new held holds rose_source rose_sink served =
-    EndsAsDue relay_framing (relay_start child terms) (AnswersFrom AnswersRelay (new_relay_service child terms)) all old new held holds rose_source rose_sink served
+    EndsAsDue relay_framing (relay_start child terms)
+    (AnswersFrom AnswersRelay (new_relay_service child terms)) all old new held holds rose_source rose_sink served
 EndsNodeAsDue Auctioneer all old new held holds rose_source rose_sink served =
     EndsAsDue root_framing Start (AnswersFrom AnswersRoot None) all old new held holds rose_source rose_sink served
 EndsNodeAsDue (Device child) all old new held holds rose_source rose_sink served =

@@ -27,7 +27,8 @@ fn tell_usage<W: Peer>(wire: &mut W) -> Ending
     ensures either { (result ≡ Ending.Usage) ⊎ (result ≡ Ending.UsageCutShort) }
     ensures written { result ≡ Ending.Usage
         → Appends (W.held wire.old) (W.held wire.new) node_usage_line }
-    ensures cut_short { result ≡ Ending.UsageCutShort → Rose (W.write_faults wire.old) (W.write_faults wire.new)
+    ensures cut_short { result ≡ Ending.UsageCutShort
+        → Rose (W.write_faults wire.old) (W.write_faults wire.new)
         × WrotePartOfUsage (W.held wire.old) (W.held wire.new) }
     ensures left { W.left wire.new ≡ W.left wire.old }
     ensures read_faults { W.read_faults wire.new ≡ W.read_faults wire.old }
@@ -115,7 +116,8 @@ pub fn live_peer<W: Peer>(alloc: Global, arguments: &[String], wire: &mut W) -> 
         (result ≡ Ending.Usage) ⊎ (result ≡ Ending.UsageCutShort) }
     ensures written { result ≡ Ending.Usage
         → Appends (W.held wire.old) (W.held wire.new) node_usage_line }
-    ensures cut_short { result ≡ Ending.UsageCutShort → Rose (W.write_faults wire.old) (W.write_faults wire.new)
+    ensures cut_short { result ≡ Ending.UsageCutShort
+        → Rose (W.write_faults wire.old) (W.write_faults wire.new)
         × WrotePartOfUsage (W.held wire.old) (W.held wire.new) }
     ensures reads_nothing { ((node : LiveNode) → ¬ IsNamed (map string_bytes arguments.now) node) →
         (W.left wire.new ≡ W.left wire.old) × (W.read_faults wire.new ≡ W.read_faults wire.old) }

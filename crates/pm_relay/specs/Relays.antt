@@ -1,5 +1,6 @@
 -- What a relay keeps, and what each call makes of it.
-use Rattle.std.specs.Prelude.{◌≡◌, ◌⊎◌, ℕ, ◌+◌, ◌-◌, ◌%◌, ◌<◌, ◌≤◌, ◌^◌, ℤ, pos, List, length, Option, Some, None, ⊤}
+use Rattle.std.specs.Prelude.{◌≡◌, ◌⊎◌, ℕ, ◌+◌, ◌-◌, ◌%◌, ◌<◌, ◌≤◌, ◌^◌, ℤ, pos, List, length, Option, Some}
+use Rattle.std.specs.Prelude.{None, ⊤}
 use Rattle.std.specs.Prelude.{if◌then◌else◌, nat_lt, slice_index_or}
 use Rattle.pm_base.specs.Limits.{AreLimits, IsWithin, demand_limit, most_nodes, window_size}
 use Rattle.pm_base.specs.declared.limits.Limits.{Limits}

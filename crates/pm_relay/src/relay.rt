@@ -10,7 +10,8 @@ ghost use Rattle.pm_cache.specs.Cache.{kept_number, answer_to};
 ghost use Rattle.pm_cache.specs.Learning.{demand_of_offer};
 ghost use Rattle.pm_concentrator.specs.Concentrators.{own_demand};
 ghost use Rattle.pm_concentrator.specs.Limited.{settled_step_of_record};
-ghost use Rattle.pm_relay.specs.Relays.{AreRelayLimits, ComesBack, IsCaughtUp, HearsNothingNewer, newest_bid_number, with_child_bid, with_new_limits, limits_of_number, LooksForRecord};
+ghost use Rattle.pm_relay.specs.Relays.{AreRelayLimits, ComesBack, IsCaughtUp, HearsNothingNewer, newest_bid_number, with_child_bid, with_new_limits};
+ghost use Rattle.pm_relay.specs.Relays.{limits_of_number, LooksForRecord};
 ghost use Rattle.pm_relay.specs.Numbers.{known_number, parents_number};
 ghost use Rattle.pm_relay.specs.Relays.{HasOwnStepWithin, BidSent, NotSent, HasRecord, record_at, TakesPrice};
 
@@ -27,7 +28,7 @@ use std::alloc::{AllocError, Global};
 use std::marker::{Brand, Model};
 
 /// How many places there are for the limits of numbers.
-const LIMITS_PLACES: usize = 9;
+const LIMITS_PLACES: usize = WINDOW_SIZE as usize + 1;
 
 /// A node between its children and its parent, which are reached by messages that may be lost, come twice or out of order. It
 /// has places for 256 children, which count from 0.
@@ -62,7 +63,8 @@ impl Relay {
     pub fn new(alloc: Global, steps: usize, limits: Limits) -> Result<Relay, AllocError>
         requires steps { AreSteps steps }
         requires limits { AreRelayLimits limits }
-        ensures new { IfOk result (λ r. ComesBack steps limits 0 0 0 (replicate most_nodes 0) limits r) }
+        ensures new { IfOk result
+            (λ r. ComesBack steps limits 0 0 0 (replicate most_nodes 0) limits r) }
     {
         let numbers = [0; MOST_NODES];
         let resume = Resume {

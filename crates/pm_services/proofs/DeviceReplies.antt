@@ -8,7 +8,8 @@ use Rattle.pm_frames.specs.Stored.{newest_bytes}
 use Rattle.pm_frames.specs.DeviceFrames.{device_frame_limit}
 
 -- its last number, an index, and an offer of at most so many steps
-pub newest_few : (number index : ℕ) (basis : BasisValue) (newest : Option (List ℤ)) (steps : ℕ) → MatchOption newest (steps ≡ 0) (λ demand. steps ≡ length demand) →
+pub newest_few : (number index : ℕ) (basis : BasisValue) (newest : Option (List ℤ)) (steps : ℕ) →
+    MatchOption newest (steps ≡ 0) (λ demand. steps ≡ length demand) →
     steps ≤ most_steps →
     length (newest_bytes number index basis newest) ≤ device_frame_limit
 newest_few number index basis None steps same few = omega arith

@@ -1,5 +1,6 @@
 -- What a relay after Hello answers, by what the relay that it holds answers.
-use Rattle.std.proofs.Common.{◌≡◌, ◌∙◌, sym, ap, subst, refl, ℕ, ◌<◌, ◌≤◌, ℤ, List, [], ◌++◌, length, Option, None, Some, inl, inr, arith}
+use Rattle.std.proofs.Common.{◌≡◌, ◌∙◌, sym, ap, subst, refl, ℕ, ◌<◌, ◌≤◌, ℤ, List, [], ◌++◌, length, Option, None}
+use Rattle.std.proofs.Common.{Some, inl, inr, arith}
 use Rattle.std.proofs.lemmas.List.{append-nil}
 use Rattle.pm_base.specs.declared.limits.Limits.{Limits}
 use Rattle.pm_basis.specs.Prices.{BasisValue}
@@ -13,16 +14,19 @@ use Rattle.pm_services.specs.Bounds.{KeepsBound}
 use Rattle.pm_services.specs.Limits.{relay_reply_limit, price_reply_limit}
 use Rattle.pm_services.specs.Receipts.{Appended, sender_place}
 use Rattle.pm_services.specs.RelayAnswers.{OpenRelay, WaitingRelay, with_held, AnswersBid, AnswersPrice, AnswersLimits, AnswersExpire, AnswersSend, Opens}
-use Rattle.pm_services.specs.RelayAnswers.{AnswersFrame, AnswersBounded, AnswersTold, AnswersGiven, AnswersGivenIn, AnswersKept, AnswersKeptIn, ComesUpAgain}
+use Rattle.pm_services.specs.RelayAnswers.{AnswersRelayFrame, AnswersBounded, AnswersTold, AnswersGiven, AnswersGivenIn, AnswersKept, AnswersKeptIn}
+use Rattle.pm_services.specs.RelayAnswers.{ComesUpAgain}
 
 -- ---- a child's Bid
 
-pub counts : (old : OpenRelay) (sender number : ℕ) (demand : List ℤ) (after : WaitingRelay) (out longer : List ℕ) → KeepsBound old.bounds sender demand →
+pub counts : (old : OpenRelay) (sender number : ℕ) (demand : List ℤ) (after : WaitingRelay) (out longer : List ℕ) →
+    KeepsBound old.bounds sender demand →
     Appended (AnswersBid old.setup old.held sender number (Some demand) after) relay_reply_limit out longer →
     Appended (AnswersBounded old sender number demand (with_held old after)) relay_reply_limit out longer
 counts old sender number demand after out longer keeps a =
     record { reply = a.reply; answers = inl (keeps, (after, refl, a.answers)); appended = a.appended; few = a.few }
 
+-- a bid beyond the bound of its child is answered TooMuch, and changes nothing
 pub is_beyond : (old : OpenRelay) (sender number : ℕ) (demand : List ℤ) (out longer : List ℕ) → ¬ KeepsBound old.bounds sender demand →
     longer ≡ out ++ too_much_bytes sender number →
     Appended (AnswersBounded old sender number demand old) relay_reply_limit out longer
@@ -37,6 +41,7 @@ pub is_told : (old : OpenRelay) (price : PriceUpdate) (basis : BasisValue) (afte
 is_told old price basis after out longer same a =
     record { reply = a.reply; answers = inl (same, (after, refl, a.answers)); appended = a.appended; few = omega (arith, a.few) }
 
+-- a price of another basis is answered OtherBasis, and changes nothing
 pub is_other : (old : OpenRelay) (price : PriceUpdate) (basis : BasisValue) (out longer : List ℕ) → ¬ (basis ≡ old.setup.basis) →
     longer ≡ out ++ other_basis_bytes price.number price.index →
     Appended (AnswersTold old price basis old) relay_reply_limit out longer
@@ -45,7 +50,8 @@ is_other old price basis out longer other written =
 
 -- ---- limits
 
-pub is_given : (old : OpenRelay) (giver number : ℕ) (limits : Limits) (after : WaitingRelay) (out longer : List ℕ) → old.setup.terms.giver ≡ Some giver →
+pub is_given : (old : OpenRelay) (giver number : ℕ) (limits : Limits) (after : WaitingRelay) (out longer : List ℕ) →
+    old.setup.terms.giver ≡ Some giver →
     Appended (AnswersLimits old.setup old.held giver number limits after) relay_reply_limit out longer →
     Appended (AnswersGiven old number limits (with_held old after)) relay_reply_limit out longer
 is_given old giver number limits after out longer is a = record {
@@ -55,6 +61,7 @@ is_given old giver number limits after out longer is a = record {
   few = a.few;
 }
 
+-- a relay that no device gives limits takes none, and answers nothing
 pub is_fixed : (old : OpenRelay) (number : ℕ) (limits : Limits) (out : List ℕ) → old.setup.terms.giver ≡ None →
     Appended (AnswersGiven old number limits old) relay_reply_limit out out
 is_fixed old number limits out is = record {
@@ -75,6 +82,7 @@ keeps_none old stored out is = record {
   few = omega arith;
 }
 
+-- a relay that kept no number of its giver was given no limits, and takes none when it comes back
 pub was_given_none : (old : OpenRelay) (giver : ℕ) (stored : StoredRelay) (out : List ℕ) → old.setup.terms.giver ≡ Some giver →
     child_number stored.numbers (sender_place giver) ≡ 0 →
     Appended (AnswersKept old stored old) relay_reply_limit out out
@@ -85,7 +93,9 @@ was_given_none old giver stored out is none = record {
   few = omega arith;
 }
 
-pub was_given : (old new : OpenRelay) (giver number : ℕ) (stored : StoredRelay) (limits : Limits) (out longer : List ℕ) → old.setup.terms.giver ≡ Some giver →
+-- a relay that kept a number of its giver takes the limits that it kept under this number
+pub was_given : (old new : OpenRelay) (giver number : ℕ) (stored : StoredRelay) (limits : Limits) (out longer : List ℕ) →
+    old.setup.terms.giver ≡ Some giver →
     number ≡ child_number stored.numbers (sender_place giver) → limits ≡ stored.limits → 0 < number →
     Appended (AnswersGiven old number limits new) relay_reply_limit out longer →
     Appended (AnswersKept old stored new) relay_reply_limit out longer
@@ -100,6 +110,7 @@ was_given old new giver number stored limits out longer is same kept some a =
       few = a.few;
     }
 
+-- a relay that comes back with what it kept, and then takes the limits that it kept, answers Resume
 pub comes_back : (old : OpenRelay) (back : WaitingRelay) (stored : StoredRelay) (new : OpenRelay) (out longer : List ℕ) →
     Opens old.setup.terms.limits old.setup.basis.steps stored.last stored.answered stored.index stored.numbers stored.limits back →
     Appended (AnswersKept (with_held old back) stored new) relay_reply_limit out longer →
@@ -111,17 +122,19 @@ comes_back old back stored new out longer opens a =
 
 pub hands_gone : (old : OpenRelay) (sender number : ℕ) (after : WaitingRelay) (out longer : List ℕ) →
     Appended (AnswersBid old.setup old.held sender number None after) relay_reply_limit out longer →
-    Appended (AnswersFrame old (Child (Gone sender number)) (with_held old after)) relay_reply_limit out longer
+    Appended (AnswersRelayFrame old (Child (Gone sender number)) (with_held old after)) relay_reply_limit out longer
 hands_gone old sender number after out longer a =
     record { reply = a.reply; answers = (after, refl, a.answers); appended = a.appended; few = a.few }
 
+-- an open relay answers Send as the relay that it holds does
 pub hands_send : (old : OpenRelay) (after : WaitingRelay) (out longer : List ℕ) →
     Appended (AnswersSend old.setup old.held after) relay_reply_limit out longer →
-    Appended (AnswersFrame old Send (with_held old after)) relay_reply_limit out longer
+    Appended (AnswersRelayFrame old Send (with_held old after)) relay_reply_limit out longer
 hands_send old after out longer a = record { reply = a.reply; answers = (after, refl, a.answers); appended = a.appended; few = a.few }
 
+-- an open relay answers Expire as the relay that it holds does
 pub hands_expire : (old : OpenRelay) (sender : ℕ) (after : WaitingRelay) (out longer : List ℕ) →
     Appended (AnswersExpire old.setup old.held sender after) relay_reply_limit out longer →
-    Appended (AnswersFrame old (Expire sender) (with_held old after)) relay_reply_limit out longer
+    Appended (AnswersRelayFrame old (Expire sender) (with_held old after)) relay_reply_limit out longer
 hands_expire old sender after out longer a =
     record { reply = a.reply; answers = (after, refl, a.answers); appended = a.appended; few = a.few }

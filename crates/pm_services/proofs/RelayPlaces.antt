@@ -22,7 +22,7 @@ use Rattle.pm_frames.specs.declared.relay.RelayFrame.TheVariants.{Child, Parent,
 use Rattle.pm_frames.specs.declared.relay.RelayFrame.TheVariants as given
 use Rattle.pm_frames.proofs.NodePlaces.{same_bid_place}
 use Rattle.pm_services.specs.RelaySetups.{RelaySetup}
-use Rattle.pm_services.specs.RelayAnswers.{OpenRelay, WaitingRelay, RelayServiceValue, Holds, AnswersFrame, AnswersGivenIn, AnswersKeptIn}
+use Rattle.pm_services.specs.RelayAnswers.{OpenRelay, WaitingRelay, RelayServiceValue, Holds, AnswersRelayFrame, AnswersGivenIn, AnswersKeptIn}
 use Rattle.pm_services.specs.RelayAnswers.{AnswersNow, AnswersRelay, IsRelayStart}
 use Rattle.pm_services.specs.RelayStands.{steps_known, MayStandWithSteps}
 
@@ -45,7 +45,7 @@ kept_same None old stored new reply answers = same_of old new old answers.0 refl
 kept_same (Some giver) old stored new reply (inl none) = same_of old new old none.1.0 refl
 kept_same (Some giver) old stored new reply (inr some) = given_same old.setup.terms.giver old _ stored.limits new reply some.1
 
-setup_same : (old : OpenRelay) (frame : RelayFrame) (new : OpenRelay) (reply : List ℕ) → AnswersFrame old frame new reply → SameSetup old new
+setup_same : (old : OpenRelay) (frame : RelayFrame) (new : OpenRelay) (reply : List ℕ) → AnswersRelayFrame old frame new reply → SameSetup old new
 setup_same old (Child (Hello basis)) new reply answers = same_of old new old answers.0 refl
 setup_same old (Child (Bid sender number demand)) new reply (inl counts) = same_of old new _ counts.1.1 refl
 setup_same old (Child (Bid sender number demand)) new reply (inr beyond) = same_of old new old beyond.1.0 refl
@@ -73,7 +73,8 @@ fresh_open Start is = is
 fresh_open (Opened basis) is = tt
 fresh_open (Running basis) is = absurd is
 
-no_hello : (place : RelayPlace) (old : OpenRelay) (frame : RelayFrame) → bid_place place.stage ≡ Some old.setup.basis.steps → MayStand relay_framing place frame →
+no_hello : (place : RelayPlace) (old : OpenRelay) (frame : RelayFrame) → bid_place place.stage ≡ Some old.setup.basis.steps →
+    MayStand relay_framing place frame →
     bid_place (relay_place_after place frame).stage ≡ bid_place (stage_behind place.stage)
 no_hello place old (Child (Hello basis)) is stands = absurd (subst (λ p. IsFormed p (Hello basis)) is stands.formed.0)
 no_hello place old (Child (Bid sender number demand)) is stands = refl
@@ -87,7 +88,8 @@ no_hello place old (Bound sender bound) is stands = refl
 no_hello place old (Resume stored) is stands = refl
 
 -- a frame that may stand leads to the place that the service knows then
-steps_after : (place : RelayPlace) (child : ℕ) (terms : RelayTerms) (old : Option OpenRelay) (frame : RelayFrame) (new : Option OpenRelay) (reply : List ℕ) →
+steps_after : (place : RelayPlace) (child : ℕ) (terms : RelayTerms) (old : Option OpenRelay) (frame : RelayFrame) (new : Option OpenRelay)
+    (reply : List ℕ) →
     bid_place place.stage ≡ steps_known old → MayStand relay_framing place frame → AnswersNow child terms old frame new reply →
     bid_place (relay_place_after place frame).stage ≡ steps_known new
 steps_after place child terms None (Child (Hello basis)) new reply is stands answers = sym (ap steps_known answers.0.opened)

@@ -27,10 +27,12 @@ pub clear_keeps : (basis : BasisValue) (old new : RootValue) (reply : List ℕ) 
 clear_keeps basis old new reply (inl made) = ap (λ (k : Cache). k.steps) made.2.cleared.cache
 clear_keeps basis old new reply (inr stays) = ap (λ (r : RootValue). r.auction.cache.steps) stays.2
 
+-- a bid leaves the number of steps as it was
 pub bid_keeps : (basis : BasisValue) (old : RootValue) (sender number : ℕ) (demand : Option (List ℤ)) (new : RootValue) (reply : List ℕ) →
     AnswersRootBid basis old sender number demand new reply → new.auction.cache.steps ≡ old.auction.cache.steps
 bid_keeps basis old sender number demand new reply answers = bid_steps old new _ number demand answers.looks
 
+-- so does a child that is let go
 pub expire_keeps : (basis : BasisValue) (old : RootValue) (sender : ℕ) (new : RootValue) (reply : List ℕ) →
     AnswersRootExpire basis old sender new reply → new.auction.cache.steps ≡ old.auction.cache.steps
 expire_keeps basis old sender new reply answers = bid_steps old new _ _ None answers.looks

@@ -30,7 +30,8 @@ few_either true bytes most few = few
 few_either false bytes most few = omega arith
 
 -- the prices of the newest clearing, if it has them, are within the limit
-pub kept_prices_few : (basis : BasisValue) (r : RootValue) → length r.auction.cache.heads ≡ most_nodes → length (kept_prices_bytes basis r) ≤ prices_limit
+pub kept_prices_few : (basis : BasisValue) (r : RootValue) → length r.auction.cache.heads ≡ most_nodes →
+    length (kept_prices_bytes basis r) ≤ prices_limit
 kept_prices_few basis r all = few_either (has_prices r) (clearing_bytes basis r) prices_limit (clearing_few basis r all)
 
 -- ---- prices that are sent again
@@ -47,7 +48,8 @@ again_same false false lost_still learns bytes same keeps = refl
 again_same false true lost_still learns bytes same keeps = rw (same, keeps refl) refl
 
 -- the prices that are had after a bid and were not before are those of a clearing that is had again
-pub sent_again : (basis : BasisValue) (old new : RootValue) (child number : ℕ) (demand : Option (List ℤ)) → LooksForClearing (with_root_bid old child number demand) new →
+pub sent_again : (basis : BasisValue) (old new : RootValue) (child number : ℕ) (demand : Option (List ℤ)) →
+    LooksForClearing (with_root_bid old child number demand) new →
     (if has_prices old then [] else kept_prices_bytes basis new) ≡ clearing_again basis old new
 sent_again basis old new child number demand (inl found) =
     again_rebuilt (old.auction.index == 0) old.auction.changed (new.auction.index == 0) new.auction.changed (clearing_bytes basis new)
@@ -67,7 +69,8 @@ has_both : (none learnt : Bool) (bytes : List ℕ) → none ≡ false → learnt
 has_both none learnt bytes clears nothing = rw (clears, nothing) refl
 
 -- an auctioneer that cleared has its prices
-pub cleared_kept : (basis : BasisValue) (old new : RootValue) (index step : ℕ) → RootCleared old new index step → kept_prices_bytes basis new ≡ clearing_bytes basis new
+pub cleared_kept : (basis : BasisValue) (old new : RootValue) (index step : ℕ) → RootCleared old new index step →
+    kept_prices_bytes basis new ≡ clearing_bytes basis new
 cleared_kept basis old new index step made =
     has_both (new.auction.index == 0) new.auction.changed (clearing_bytes basis new) (above_none new.auction.index old.auction.index made.cleared.new_index)
     made.cleared.not_changed
@@ -96,7 +99,8 @@ bid_answered basis old new sender number demand had out mid longer looks before 
 
 -- the answer to a Clear, by whether the market was cleared
 pub clear_answered : (basis : BasisValue) (old new : RootValue) (index step : ℕ) (out longer : List ℕ) → RootCleared old new index step →
-    longer ≡ out ++ (root_resume_bytes (stored_root basis new) ++ kept_prices_bytes basis new) → length longer ≤ length out + (root_resume_size + prices_limit) →
+    longer ≡ out ++ (root_resume_bytes (stored_root basis new) ++ kept_prices_bytes basis new) →
+    length longer ≤ length out + (root_resume_size + prices_limit) →
     Appended (AnswersClear basis old new) root_reply_limit out longer
 clear_answered basis old new index step out longer made written few =
     let reply = root_resume_bytes (stored_root basis new) ++ clearing_bytes basis new in

@@ -21,8 +21,8 @@ pub record OpenDevice : Type 0 where
   pub agent : DeviceAgent
   pub basis : BasisValue
 
-abbrev pub with_agent : OpenDevice → DeviceAgent → OpenDevice
-with_agent device agent' = record device { agent = agent' }
+abbrev pub with_held_agent : OpenDevice → DeviceAgent → OpenDevice
+with_held_agent device agent' = record device { agent = agent' }
 
 -- the device's own number at its parent, and its agent, once there is a basis
 pub record DeviceServiceValue : Type 0 where
@@ -74,7 +74,7 @@ same_basis a b = int_eq a.min b.min && int_eq a.max b.max && (a.steps == b.steps
 
 abbrev pub after_price_of : OpenDevice → PriceMessage → BasisValue → OpenDevice
 after_price_of device price basis =
-    if same_basis basis device.basis then with_agent device (after_price device.agent price) else device
+    if same_basis basis device.basis then with_held_agent device (after_price device.agent price) else device
 
 abbrev pub price_reply_of : OpenDevice → PriceMessage → BasisValue → List ℕ
 price_reply_of device price basis =
@@ -101,11 +101,11 @@ old_reply child basis agent after =
 
 abbrev pub open_device_after : OpenDevice → DeviceFrame → OpenDevice
 open_device_after device (Hello basis) = device
-open_device_after device (Offer demand) = with_agent device (after_asking device.agent demand)
-open_device_after device Leave = with_agent device (after_asking_to_leave device.agent)
+open_device_after device (Offer demand) = with_held_agent device (after_asking device.agent demand)
+open_device_after device Leave = with_held_agent device (after_asking_to_leave device.agent)
 open_device_after device (Parent (Price own number index step basis)) = after_price_of device (price_message number index step) basis
-open_device_after device (Parent (Old own kept)) = with_agent device (after_old device.agent kept)
-open_device_after device (Resume stored) = with_agent device (agent_stored stored.number stored.newest stored.index)
+open_device_after device (Parent (Old own kept)) = with_held_agent device (after_old device.agent kept)
+open_device_after device (Resume stored) = with_held_agent device (agent_stored stored.number stored.newest stored.index)
 
 abbrev pub device_reply : ℕ → OpenDevice → DeviceFrame → List ℕ
 device_reply child device (Hello basis) = []

@@ -1,5 +1,6 @@
 -- What a relay's service knows, and what it answers to each frame.
-use Rattle.std.specs.Prelude.{◌≡◌, ◌⊎◌, ℕ, ◌<◌, ◌≤◌, ◌==◌, ◌&&◌, ◌||◌, not, Bool, true, false, nat_lt, if◌then◌else◌, ℤ, int_le, List, [], ◌∷◌, ◌++◌}
+use Rattle.std.specs.Prelude.{◌≡◌, ◌⊎◌, ℕ, ◌<◌, ◌≤◌, ◌==◌, ◌&&◌, ◌||◌, not, Bool, true, false, nat_lt}
+use Rattle.std.specs.Prelude.{if◌then◌else◌, ℤ, int_le, List, [], ◌∷◌, ◌++◌}
 use Rattle.std.specs.Prelude.{length, replicate, unwrap_or, Option, Some, None}
 use Rattle.pm_base.specs.Limits.{most_nodes}
 use Rattle.pm_base.specs.declared.limits.Limits.{Limits}
@@ -12,7 +13,8 @@ use Rattle.pm_wire.specs.Answers.{answer_bytes}
 use Rattle.pm_wire.specs.Frames.{frame_bytes}
 use Rattle.pm_wire.specs.declared.answer.Reply as reply
 use Rattle.pm_wire.specs.declared.frame.Frame.TheVariants.{Hello, Bid, Gone, Clear}
-use Rattle.pm_relay.specs.Relays.{RelayValue, AreRelayLimits, newest_bid_number, record_at, ComesBack, with_child_bid, with_new_limits, limits_of_number, no_limits, LooksForRecord, BidSent, NotSent, TakesPrice}
+use Rattle.pm_relay.specs.Relays.{RelayValue, AreRelayLimits, newest_bid_number, record_at, ComesBack, with_child_bid, with_new_limits}
+use Rattle.pm_relay.specs.Relays.{limits_of_number, no_limits, LooksForRecord, BidSent, NotSent, TakesPrice}
 use Rattle.pm_relay.specs.Numbers.{child_number, known_number, parents_number}
 use Rattle.pm_relay.specs.declared.fault.SendFault.{SendFault}
 use Rattle.pm_relay.specs.declared.fault.SendFault.TheVariants.{NotCaughtUp, NotChanged, WindowFull, OutOfNumbers}
@@ -148,7 +150,8 @@ abbrev pub bid_again : RelaySetup → RelayValue → RelayValue → List ℕ
 bid_again own old new =
     if old.gathered.window.last == 0 && not (new.gathered.window.last == 0) then own_bid_bytes own new else []
 
-pub record AnswersBid (own : RelaySetup) (old : WaitingRelay) (sender number : ℕ) (demand : Option (List ℤ)) (new : WaitingRelay) (reply : List ℕ) : Type 0 where
+pub record AnswersBid (own : RelaySetup) (old : WaitingRelay) (sender number : ℕ) (demand : Option (List ℤ)) (new : WaitingRelay)
+    (reply : List ℕ) : Type 0 where
   -- the relay that learnt it
   pub learnt : RelayValue
   pub looks : LooksForRecord (with_child_bid old.relay (sender_place sender) number demand) learnt
@@ -278,20 +281,20 @@ pub record HasStored (stored : StoredRelay) : Type 0 where
   pub answered : stored.answered ≤ stored.last
   pub under : AreRelayLimits stored.limits
 
-abbrev pub AnswersFrame : OpenRelay → RelayFrame → OpenRelay → List ℕ → Type 0
-AnswersFrame old (Child (Hello basis)) new reply = IsLeft old new [] reply
-AnswersFrame old (Child (Bid sender number demand)) new reply = AnswersBounded old sender number demand new reply
-AnswersFrame old (Child (Gone sender number)) new reply =
+abbrev pub AnswersRelayFrame : OpenRelay → RelayFrame → OpenRelay → List ℕ → Type 0
+AnswersRelayFrame old (Child (Hello basis)) new reply = IsLeft old new [] reply
+AnswersRelayFrame old (Child (Bid sender number demand)) new reply = AnswersBounded old sender number demand new reply
+AnswersRelayFrame old (Child (Gone sender number)) new reply =
     Holds (λ after reply'. AnswersBid old.setup old.held sender number None after reply') old new reply
-AnswersFrame old (Child Clear) new reply = IsLeft old new [] reply
-AnswersFrame old (Parent (Price own number index step basis)) new reply =
+AnswersRelayFrame old (Child Clear) new reply = IsLeft old new [] reply
+AnswersRelayFrame old (Parent (Price own number index step basis)) new reply =
     AnswersTold old (record { step = step; number = number; index = index }) basis new reply
-AnswersFrame old (Parent (Old own kept)) new reply = IsLeft old new [] reply
-AnswersFrame old Send new reply = Holds (λ after reply'. AnswersSend old.setup old.held after reply') old new reply
-AnswersFrame old (Expire sender) new reply = Holds (λ after reply'. AnswersExpire old.setup old.held sender after reply') old new reply
-AnswersFrame old (given.Limits number limits) new reply = AnswersGiven old number limits new reply
-AnswersFrame old (Bound sender bound) new reply = IsLeft (with_childs_bound old sender bound) new [] reply
-AnswersFrame old (Resume stored) new reply = ComesUpAgain old stored new reply
+AnswersRelayFrame old (Parent (Old own kept)) new reply = IsLeft old new [] reply
+AnswersRelayFrame old Send new reply = Holds (λ after reply'. AnswersSend old.setup old.held after reply') old new reply
+AnswersRelayFrame old (Expire sender) new reply = Holds (λ after reply'. AnswersExpire old.setup old.held sender after reply') old new reply
+AnswersRelayFrame old (given.Limits number limits) new reply = AnswersGiven old number limits new reply
+AnswersRelayFrame old (Bound sender bound) new reply = IsLeft (with_childs_bound old sender bound) new [] reply
+AnswersRelayFrame old (Resume stored) new reply = ComesUpAgain old stored new reply
 
 -- ---- all frames
 
@@ -300,7 +303,7 @@ abbrev pub IsSilent : Option OpenRelay → Option OpenRelay → List ℕ → Typ
 IsSilent old new reply = (new ≡ old) × (reply ≡ [])
 
 abbrev pub AnswersOpen : OpenRelay → RelayFrame → Option OpenRelay → List ℕ → Type 0
-AnswersOpen old frame new reply = (after : OpenRelay) × (new ≡ Some after) × AnswersFrame old frame after reply
+AnswersOpen old frame new reply = (after : OpenRelay) × (new ≡ Some after) × AnswersRelayFrame old frame after reply
 
 -- a relay comes up with the first Hello, and before it nothing is answered
 abbrev pub AnswersClosed : ℕ → RelayTerms → RelayFrame → Option OpenRelay → List ℕ → Type 0

@@ -45,7 +45,8 @@ clearing_again basis old new = if old.auction.index == 0 && not (new.auction.ind
 
 -- ---- what it answers
 
-pub record AnswersRootBid (basis : BasisValue) (old : RootValue) (sender number : ℕ) (demand : Option (List ℤ)) (new : RootValue) (reply : List ℕ) : Type 0 where
+pub record AnswersRootBid (basis : BasisValue) (old : RootValue) (sender number : ℕ) (demand : Option (List ℤ)) (new : RootValue)
+    (reply : List ℕ) : Type 0 where
   pub looks : LooksForClearing (with_root_bid old (sender_place sender) number demand) new
   pub replied : reply ≡ receipt_bytes (kept_number old.auction.cache (sender_place sender)) sender number ++ clearing_again basis old new
 

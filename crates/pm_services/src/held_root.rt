@@ -113,8 +113,8 @@ impl HeldRoot {
         requires first { 1 ≤ sender }
         requires last { sender ≤ most_nodes }
         requires room { vec_len out.old + prices_limit ≤ vec_capacity out.old }
-        ensures answered { Appended (AnswersRootExpire basis.now self.old sender self.new) prices_limit
-            out.old.items out.new.items }
+        ensures answered { Appended (AnswersRootExpire basis.now self.old sender self.new)
+            prices_limit out.old.items out.new.items }
     {
         let had_prices = self.root.prices().is_some();
         self.expire(sender);
@@ -199,7 +199,8 @@ impl HeldRoot {
     fn write_cleared(&self, basis: &Basis, out: &mut Vec<u8>)
         requires room { vec_len out.old + (root_resume_size + prices_limit) ≤ vec_capacity out.old }
         ensures written { out.new.items ≡ out.old.items
-            ++ (root_resume_bytes (stored_root basis.now self.now) ++ kept_prices_bytes basis.now self.now) }
+            ++ (root_resume_bytes (stored_root basis.now self.now)
+            ++ kept_prices_bytes basis.now self.now) }
         ensures few { length out.new.items
             ≤ length out.old.items + (root_resume_size + prices_limit) }
     {

@@ -11,7 +11,8 @@ ghost use Rattle.pm_wire.specs.Memory.{frame_limit};
 ghost use Rattle.pm_frames.specs.DeviceFrames.{device_frame_limit};
 ghost use Rattle.pm_services.specs.Limits.{device_reply_limit};
 ghost use Rattle.pm_services.specs.DeviceAnswers.{own_resume_bytes, after_asking, offer_reply, after_asking_to_leave, leave_reply};
-ghost use Rattle.pm_services.specs.DeviceAnswers.{price_reply, sent_again, old_reply, with_agent, after_price_of, price_reply_of, open_device_after, device_reply};
+ghost use Rattle.pm_services.specs.DeviceAnswers.{price_reply, sent_again, old_reply, with_held_agent, after_price_of, price_reply_of, open_device_after};
+ghost use Rattle.pm_services.specs.DeviceAnswers.{device_reply};
 ghost use Rattle.pm_services.specs.DeviceServiceFields.{HasSmallDemand, IsSmall};
 
 use pm_basis::Basis;
@@ -163,7 +164,8 @@ impl OpenDevice {
     /// Appends what the agent keeps over a restart.
     fn write_resume(&self, out: &mut Vec<u8>)
         requires room { vec_len out.old + device_frame_limit ≤ vec_capacity out.old }
-        ensures written { out.new.items ≡ out.old.items ++ own_resume_bytes self.now.basis self.now.agent }
+        ensures written { out.new.items ≡ out.old.items
+            ++ own_resume_bytes self.now.basis self.now.agent }
         ensures few { length out.new.items ≤ length out.old.items + device_frame_limit }
         ensures capacity { vec_capacity out.old ≤ vec_capacity out.new }
     {
@@ -183,7 +185,8 @@ impl OpenDevice {
     ) -> Result<(), AllocError>
         requires small { AllWithinLimit demand_limit demand.now }
         requires room { vec_len out.old + device_reply_limit ≤ vec_capacity out.old }
-        ensures offered { OnOk result (self.new ≡ with_agent self.old (after_asking self.old.agent demand.now)) }
+        ensures offered { OnOk result
+            (self.new ≡ with_held_agent self.old (after_asking self.old.agent demand.now)) }
         ensures answered { OnOk result (out.new.items ≡ out.old.items
             ++ offer_reply child self.old.basis self.old.agent demand.now) }
         ensures unchanged { OnErr result ((self.new ≡ self.old) × (out.new.items ≡ out.old.items)) }
@@ -200,8 +203,10 @@ impl OpenDevice {
         requires small { AllWithinLimit demand_limit demand.now }
         requires steps { length demand.now ≤ most_steps }
         requires room { vec_len out.old + device_reply_limit ≤ vec_capacity out.old }
-        ensures offered { self.new ≡ with_agent self.old (after_asking self.old.agent demand.now) }
-        ensures answered { out.new.items ≡ out.old.items ++ offer_reply child self.old.basis self.old.agent demand.now }
+        ensures offered { self.new
+            ≡ with_held_agent self.old (after_asking self.old.agent demand.now) }
+        ensures answered { out.new.items ≡ out.old.items
+            ++ offer_reply child self.old.basis self.old.agent demand.now }
         ensures few { length out.new.items ≤ length out.old.items + device_reply_limit }
     {
         match self.agent.offer(kept) {
@@ -217,8 +222,9 @@ impl OpenDevice {
     /// Leaves the market, and appends the Gone with what the agent keeps over a restart before it, or that no number is left.
     fn leave(&mut self, child: u16, out: &mut Vec<u8>)
         requires room { vec_len out.old + device_reply_limit ≤ vec_capacity out.old }
-        ensures left { self.new ≡ with_agent self.old (after_asking_to_leave self.old.agent) }
-        ensures answered { out.new.items ≡ out.old.items ++ leave_reply child self.old.basis self.old.agent }
+        ensures left { self.new ≡ with_held_agent self.old (after_asking_to_leave self.old.agent) }
+        ensures answered { out.new.items ≡ out.old.items
+            ++ leave_reply child self.old.basis self.old.agent }
         ensures few { length out.new.items ≤ length out.old.items + device_reply_limit }
     {
         let Some(number) = self.agent.leave() else {
@@ -250,7 +256,8 @@ impl OpenDevice {
     fn take_price(&mut self, price: PriceUpdate, out: &mut Vec<u8>)
         requires step { price.step < 2 ^ 16 }
         requires room { vec_len out.old + device_reply_limit ≤ vec_capacity out.old }
-        ensures taken { self.new ≡ with_agent self.old (after_price self.old.agent (message_of price)) }
+        ensures taken { self.new
+            ≡ with_held_agent self.old (after_price self.old.agent (message_of price)) }
         ensures answered { out.new.items ≡ out.old.items
             ++ price_reply self.old.basis self.old.agent (message_of price) }
         ensures few { length out.new.items ≤ length out.old.items + device_reply_limit }
@@ -267,7 +274,7 @@ impl OpenDevice {
     /// anew: appends the Bid with what the agent keeps over a restart before it.
     fn take_old(&mut self, child: u16, kept: u32, out: &mut Vec<u8>)
         requires room { vec_len out.old + device_reply_limit ≤ vec_capacity out.old }
-        ensures taken { self.new ≡ with_agent self.old (after_old self.old.agent kept) }
+        ensures taken { self.new ≡ with_held_agent self.old (after_old self.old.agent kept) }
         ensures answered { out.new.items ≡ out.old.items
             ++ old_reply child self.old.basis self.old.agent (after_old self.old.agent kept) }
         ensures few { length out.new.items ≤ length out.old.items + device_reply_limit }
@@ -306,7 +313,7 @@ impl OpenDevice {
     ) -> Result<(), AllocError>
         requires small { IsSmall stored.now.newest }
         requires room { vec_len out.old + device_reply_limit ≤ vec_capacity out.old }
-        ensures back { OnOk result (self.new ≡ with_agent self.old
+        ensures back { OnOk result (self.new ≡ with_held_agent self.old
             (agent_stored stored.now.number stored.now.newest stored.now.index)) }
         ensures answered { OnOk result (out.new.items ≡ out.old.items
             ++ sent_again child stored.now.number stored.now.newest) }

@@ -6,7 +6,8 @@ ghost use Rattle.pm_bid.specs.Bids.{AllWithinLimit};
 ghost use Rattle.pm_relay.specs.Relays.{AreRelayLimits};
 ghost use Rattle.pm_services.specs.Limits.{relay_reply_limit};
 ghost use Rattle.pm_services.specs.Receipts.{Appended};
-ghost use Rattle.pm_services.specs.RelayAnswers.{AnswersOpen, AnswersFrame, AnswersBounded, AnswersGiven, AnswersTold, AnswersKept, ComesUp, ComesUpAgain, HasStored, with_childs_bound};
+ghost use Rattle.pm_services.specs.RelayAnswers.{AnswersOpen, AnswersRelayFrame, AnswersBounded, AnswersGiven, AnswersTold, AnswersKept, ComesUp};
+ghost use Rattle.pm_services.specs.RelayAnswers.{ComesUpAgain, HasStored, with_childs_bound};
 ghost use Rattle.pm_services.specs.RelayStands.{MayStandWithSteps};
 ghost use Rattle.pm_wire.specs.declared.frame.Frame.{Frame};
 ghost use Rattle.pm_frames.specs.declared.relay.RelayFrame.{RelayFrame};
@@ -188,7 +189,7 @@ impl OpenRelay {
         requires first { 1 ≤ sender }
         requires last { sender ≤ most_nodes }
         requires room { vec_len out.old + relay_reply_limit ≤ vec_capacity out.old }
-        ensures answered { Appended (AnswersFrame self.old
+        ensures answered { Appended (AnswersRelayFrame self.old
             (RelayFrame.Child (Frame.Gone sender number)) self.new) relay_reply_limit
             out.old.items out.new.items }
     {
@@ -198,7 +199,7 @@ impl OpenRelay {
     /// Sends the relay's bid, or appends why there is none, and what is due for the price that waits.
     fn send(&mut self, out: &mut Vec<u8>)
         requires room { vec_len out.old + relay_reply_limit ≤ vec_capacity out.old }
-        ensures answered { Appended (AnswersFrame self.old RelayFrame.Send self.new)
+        ensures answered { Appended (AnswersRelayFrame self.old RelayFrame.Send self.new)
             relay_reply_limit out.old.items out.new.items }
     {
         self.held.send(&self.setup, out);
@@ -209,7 +210,7 @@ impl OpenRelay {
         requires first { 1 ≤ sender }
         requires last { sender ≤ most_nodes }
         requires room { vec_len out.old + relay_reply_limit ≤ vec_capacity out.old }
-        ensures answered { Appended (AnswersFrame self.old (RelayFrame.Expire sender) self.new)
+        ensures answered { Appended (AnswersRelayFrame self.old (RelayFrame.Expire sender) self.new)
             relay_reply_limit out.old.items out.new.items }
     {
         self.held.take_expire(&self.setup, sender, out);

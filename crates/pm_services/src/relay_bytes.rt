@@ -51,7 +51,7 @@ fn write_warning(within: bool, number: u32, out: &mut Vec<u8>)
 }
 
 /// Whether some step of the sum of what the relay holds is within its limits.
-fn is_within(relay: &Relay) -> bool
+fn keeps_limits(relay: &Relay) -> bool
     ensures { result ≡ has_step_within relay.now }
 {
     relay.has_step_within()
@@ -67,7 +67,7 @@ pub(crate) fn write_own_bid(relay: &Relay, own: &RelaySetup, out: &mut Vec<u8>)
     ensures capacity { vec_capacity out.old ≤ vec_capacity out.new }
 {
     write_plain_bid(relay, own, out);
-    write_warning(is_within(relay), relay.last(), out);
+    write_warning(keeps_limits(relay), relay.last(), out);
 }
 
 /// Appends the relay's newest bid, and before it what the relay keeps over a restart.

@@ -92,7 +92,8 @@ impl WaitingRelay {
         requires answered { stored.now.answered ≤ stored.now.last }
         requires under { AreRelayLimits stored.now.limits }
         ensures opens { IfOk result (λ r. Opens own.now.terms.limits own.now.basis.steps
-            stored.now.last stored.now.answered stored.now.index stored.now.numbers stored.now.limits r) }
+            stored.now.last stored.now.answered stored.now.index stored.now.numbers
+            stored.now.limits r) }
     {
         let relay = Relay::resumed(alloc, own.basis.steps(), own.terms.limits, &stored.resume())?;
         Ok(WaitingRelay {
@@ -180,8 +181,8 @@ impl WaitingRelay {
         requires first { 1 ≤ sender }
         requires last { sender ≤ most_nodes }
         requires room { vec_len out.old + relay_reply_limit ≤ vec_capacity out.old }
-        ensures answered { Appended (AnswersExpire own.now self.old sender self.new) relay_reply_limit
-            out.old.items out.new.items }
+        ensures answered { Appended (AnswersExpire own.now self.old sender self.new)
+            relay_reply_limit out.old.items out.new.items }
     {
         let had_record = self.relay.resend().is_some();
         self.expire(sender);
@@ -254,7 +255,8 @@ impl WaitingRelay {
 
     /// Sends the relay's bid, and appends it with what the relay keeps over a restart before it, or why there is none.
     fn send_bid(&mut self, own: &RelaySetup, out: &mut Vec<u8>)
-        requires room { vec_len out.old + (relay_resume_size + own_bid_limit) ≤ vec_capacity out.old }
+        requires room { vec_len out.old + (relay_resume_size + own_bid_limit)
+            ≤ vec_capacity out.old }
         ensures answered { Appended (AnswersAsked own.now self.old.relay self.new.relay)
             (relay_resume_size + own_bid_limit) out.old.items out.new.items }
         ensures waits { self.new.waiting ≡ self.old.waiting }

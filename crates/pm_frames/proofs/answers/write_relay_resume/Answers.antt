@@ -9,4 +9,5 @@ pub returns-clause-written : goal.returns-clause-written
 returns-clause-written c =
     nine_written _ (resume_kind ∷ []) _ _ _ _ _ _ _ _ _ _ _ _ _ _ _ _ _ c.append.ensures.written c.write_u32.ensures.written
     c.write_u32-2.ensures.written c.write_u32-3.ensures.written c.write_basis.ensures.written c.write_limits.ensures.written
-    (c.write_u16.ensures.written ∙ ap (λ g. c.write_limits.new.out.items ++ to_be_bytes w16 g) c.giver_number.ensures) c.write_limits-2.ensures.written c.write_numbers.ensures.written
+    (c.write_u16.ensures.written ∙ ap (λ g. c.write_limits.new.out.items ++ to_be_bytes w16 g) c.giver_number.ensures)
+    c.write_limits-2.ensures.written c.write_numbers.ensures.written

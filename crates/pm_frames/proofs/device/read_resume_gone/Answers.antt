@@ -5,7 +5,8 @@ use Rattle.pm_frames.proofs.device.read_resume_gone.Goals as goal
 
 pub returns-then-not-is_left : goal.returns-then-not-is_left
 returns-then-not-is_left c =
-    let fields : AreFields c.args.body.now c.read_u32-number.result.1.now c.read_u32-index.result.1.now c.read_basis-basis.result.1.now c.read_u32-number.result.0
+    let fields : AreFields c.args.body.now c.read_u32-number.result.1.now c.read_u32-index.result.1.now c.read_basis-basis.result.1.now
+    c.read_u32-number.result.0
     c.read_u32-index.result.0 c.read_basis-basis.result.0 = record {
       number_first = c.read_u32-number.ensures;
       index_next = c.read_u32-index.ensures;
@@ -19,7 +20,8 @@ returns-then-not-is_left c =
 
 pub returns : goal.returns
 returns c =
-    let fields : AreFields c.args.body.now c.read_u32-number.result.1.now c.read_u32-index.result.1.now c.read_basis-basis.result.1.now c.read_u32-number.result.0
+    let fields : AreFields c.args.body.now c.read_u32-number.result.1.now c.read_u32-index.result.1.now c.read_basis-basis.result.1.now
+    c.read_u32-number.result.0
     c.read_u32-index.result.0 c.read_basis-basis.result.0 = record {
       number_first = c.read_u32-number.ensures;
       index_next = c.read_u32-index.ensures;

@@ -13,6 +13,6 @@ returns-clause-written c =
     let bid : List ℕ = frame_bytes (Bid c.args.own.now.child (newest_bid_number relay) (own_demand relay.gathered)) in
     let warning : List ℕ = warning_bytes (has_step_within relay) (newest_bid_number relay) in
     c.write_warning.ensures.written
-    ∙ ap (λ (b : Bool). c.write_plain_bid.new.out.items ++ warning_bytes b c.last.result) c.is_within.ensures
+    ∙ ap (λ (b : Bool). c.write_plain_bid.new.out.items ++ warning_bytes b c.last.result) c.keeps_limits.ensures
     ∙ ap (λ (n : ℕ). c.write_plain_bid.new.out.items ++ warning_bytes (has_step_within relay) n) c.last.ensures
     ∙ ap (λ (l : List ℕ). l ++ warning) c.write_plain_bid.ensures.written ∙ append_assoc c.args.out.now.items bid warning

@@ -1,5 +1,6 @@
 -- Of `ControlAgent::take_old`: its clause `after`.
-use Rattle.std.proofs.Common.{◌≡◌, ◌∙◌, sym, ap, subst, ℕ, ◌+◌, ◌^◌, List, [], ◌∷◌, ◌++◌, length, Option, Some, ltb, cond, eqb, arith}
+use Rattle.std.proofs.Common.{◌≡◌, ◌∙◌, sym, ap, subst, ℕ, ◌+◌, ◌^◌, List, [], ◌∷◌, ◌++◌, length, Option, Some, ltb}
+use Rattle.std.proofs.Common.{cond, eqb, arith}
 use Rattle.std.proofs.lemmas.Bool.{cond-true, lt-ltb}
 use Rattle.std.specs.List.{find}
 use Rattle.pm_net.specs.Agents.{Offer, DeviceAgent, kept_offer}

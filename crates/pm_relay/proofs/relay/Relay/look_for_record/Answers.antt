@@ -8,7 +8,9 @@ use Rattle.pm_relay.proofs.relay.Relay.look_for_record.Goals as goal
 
 pub invariant_of-self-then-self : goal.invariant_of-self-then-self
 invariant_of-self-then-self c =
-    let made = when_ok (BidSettled c.self.inside.concentrator c.next_settled_bid.new.self) c.next_settled_bid.result c.if-is_err.ensures.negation c.next_settled_bid.ensures.made in
+    let made =
+    when_ok (BidSettled c.self.inside.concentrator c.next_settled_bid.new.self) c.next_settled_bid.result c.if-is_err.ensures.negation
+    c.next_settled_bid.ensures.made in
     let right = over_answer _ _ 1 (over_bid _ _ made.0 (parts_of _ c.self.invariant) made.1 c.cache-cache.ensures.sound) c.answer.ensures.passed in
     record {
       children = right.children;
@@ -26,7 +28,9 @@ invariant_of-self-then-self c =
 
 pub invariant_of-self-else-self : goal.invariant_of-self-else-self
 invariant_of-self-else-self c =
-    let made = when_ok (BidSettled c.self.inside.concentrator c.next_settled_bid.new.self) c.next_settled_bid.result c.if-is_err.ensures.negation c.next_settled_bid.ensures.made in
+    let made =
+    when_ok (BidSettled c.self.inside.concentrator c.next_settled_bid.new.self) c.next_settled_bid.result c.if-is_err.ensures.negation
+    c.next_settled_bid.ensures.made in
     let right = over_bid _ _ made.0 (parts_of _ c.self.invariant) made.1 c.cache-cache.ensures.sound in
     record {
       children = right.children;

@@ -11,7 +11,9 @@ pub returns-in_default : goal.returns-in_default
 returns-in_default c =
     let old : OpenRelay = record { setup = c.self.inside.setup; bounds = c.self.inside.bounds; held = c.self.inside.held } in
     record {
-      answered = subst (λ (it : OpenRelay). Appended (AnswersKept it c.args.stored.now c.args.self.now) relay_reply_limit c.args.out.now.items c.args.out.now.items) c.self.view_is
+      answered =
+          subst (λ (it : OpenRelay). Appended
+              (AnswersKept it c.args.stored.now c.args.self.now) relay_reply_limit c.args.out.now.items c.args.out.now.items) c.self.view_is
           (subst (λ (now : OpenRelay). Appended (AnswersKept old c.args.stored.now now) relay_reply_limit c.args.out.now.items c.args.out.now.items)
           c.self.view_is (keeps_none old _ _ (sym c.giver-place.ensures.giver ∙ c.in_default.is)));
     }
@@ -22,9 +24,13 @@ returns-then-number-eq0 c =
     c.number_of-number.ensures ∙ ap (λ (k : ℕ). child_number c.args.stored.now.numbers k) (omega (arith, c.from-at.ensures)) in
     let old : OpenRelay = record { setup = c.self.inside.setup; bounds = c.self.inside.bounds; held = c.self.inside.held } in
     record {
-      answered = subst (λ (it : OpenRelay). Appended (AnswersKept it c.args.stored.now c.args.self.now) relay_reply_limit c.args.out.now.items c.args.out.now.items) c.self.view_is
+      answered =
+          subst (λ (it : OpenRelay). Appended
+              (AnswersKept it c.args.stored.now c.args.self.now) relay_reply_limit c.args.out.now.items c.args.out.now.items) c.self.view_is
           (subst (λ (now : OpenRelay). Appended (AnswersKept old c.args.stored.now now) relay_reply_limit c.args.out.now.items c.args.out.now.items)
-          c.self.view_is (was_given_none old c.in-Some.giver _ _ (sym c.giver-place.ensures.giver ∙ c.in-Some.is) (sym numbered ∙ omega (arith, c.if-number-eq0.true))));
+          c.self.view_is
+              (was_given_none old c.in-Some.giver _ _ (sym c.giver-place.ensures.giver ∙ c.in-Some.is)
+                  (sym numbered ∙ omega (arith, c.if-number-eq0.true))));
     }
 
 pub returns : goal.returns

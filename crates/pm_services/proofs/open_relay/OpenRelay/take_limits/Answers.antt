@@ -11,7 +11,9 @@ pub returns-in_default : goal.returns-in_default
 returns-in_default c =
     let old : OpenRelay = record { setup = c.self.inside.setup; bounds = c.self.inside.bounds; held = c.self.inside.held } in
     record {
-      answered = subst (λ (it : OpenRelay). Appended (AnswersGiven it c.args.number c.args.limits c.args.self.now) relay_reply_limit c.args.out.now.items c.args.out.now.items) c.self.view_is
+      answered =
+          subst (λ (it : OpenRelay). Appended
+              (AnswersGiven it c.args.number c.args.limits c.args.self.now) relay_reply_limit c.args.out.now.items c.args.out.now.items) c.self.view_is
           (subst (λ (now : OpenRelay). Appended (AnswersGiven old c.args.number c.args.limits now) relay_reply_limit c.args.out.now.items c.args.out.now.items)
           c.self.view_is (is_fixed old _ _ _ (sym c.giver-place.ensures.giver ∙ c.in_default.is)));
     }
@@ -20,7 +22,11 @@ pub returns : goal.returns
 returns c =
     let old : OpenRelay = record { setup = c.self.inside.setup; bounds = c.self.inside.bounds; held = c.self.inside.held } in
     record {
-      answered = subst (λ (it : OpenRelay). Appended (AnswersGiven it c.args.number c.args.limits (record { setup = c.self.inside.setup; bounds = c.self.inside.bounds; held = c.take_limits.new.self })) relay_reply_limit c.args.out.now.items c.take_limits.new.out.items) c.self.view_is
+      answered =
+          subst (λ (it : OpenRelay). Appended
+              (AnswersGiven it c.args.number c.args.limits
+                  (record { setup = c.self.inside.setup; bounds = c.self.inside.bounds; held = c.take_limits.new.self })) relay_reply_limit
+                      c.args.out.now.items c.take_limits.new.out.items) c.self.view_is
           (is_given old _ _ _ _ _ _ (sym c.giver-place.ensures.giver ∙ c.in-Some.is) c.take_limits.ensures.answered);
     }
 

@@ -12,6 +12,9 @@ pub returns : goal.returns
 returns c =
     let old : OpenRoot = record { basis = c.self.inside.basis; bounds = c.self.inside.bounds; root = c.self.inside.held } in
     record {
-      answered = subst (λ (it : OpenRoot). Appended (AnswersRootFrame it (Market Clear) (record { basis = c.self.inside.basis; bounds = c.self.inside.bounds; root = c.clear.new.self })) root_reply_limit c.args.out.now.items c.clear.new.out.items) c.self.view_is
+      answered =
+          subst (λ (it : OpenRoot). Appended
+              (AnswersRootFrame it (Market Clear) (record { basis = c.self.inside.basis; bounds = c.self.inside.bounds; root = c.clear.new.self }))
+                  root_reply_limit c.args.out.now.items c.clear.new.out.items) c.self.view_is
           (hands_clear old _ _ _ c.clear.ensures.answered);
     }

@@ -12,5 +12,8 @@ pub returns-clause-answered : goal.returns-clause-answered
 returns-clause-answered c =
     let old : OpenRoot = record { basis = c.self.inside.basis; bounds = c.self.inside.bounds; root = c.self.inside.held } in
     let stored = c.args.stored.now in
-    subst (λ (it : OpenRoot). Appended (AnswersRootFrame it (Resume stored) (record { basis = c.self.inside.basis; bounds = c.self.inside.bounds; root = c.in_ok-back.back })) root_reply_limit c.args.out.now.items c.args.out.now.items) c.self.view_is
-    (comes_back old stored c.in_ok-back.back c.args.out.now.items (subst (λ (n : ℕ). RootComesBack n stored.last stored.numbers c.in_ok-back.back) c.self.invariant c.in_ok-back.ensures))
+    subst (λ (it : OpenRoot). Appended
+    (AnswersRootFrame it (Resume stored) (record { basis = c.self.inside.basis; bounds = c.self.inside.bounds; root = c.in_ok-back.back }))
+    root_reply_limit c.args.out.now.items c.args.out.now.items) c.self.view_is
+    (comes_back old stored c.in_ok-back.back c.args.out.now.items
+    (subst (λ (n : ℕ). RootComesBack n stored.last stored.numbers c.in_ok-back.back) c.self.invariant c.in_ok-back.ensures))

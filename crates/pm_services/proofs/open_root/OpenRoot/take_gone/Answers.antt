@@ -12,6 +12,10 @@ pub returns : goal.returns
 returns c =
     let old : OpenRoot = record { basis = c.self.inside.basis; bounds = c.self.inside.bounds; root = c.self.inside.held } in
     record {
-      answered = subst (λ (it : OpenRoot). Appended (AnswersRootFrame it (Market (Gone c.args.sender c.args.number)) (record { basis = c.self.inside.basis; bounds = c.self.inside.bounds; root = c.take_bid.new.self })) root_reply_limit c.args.out.now.items c.take_bid.new.out.items) c.self.view_is
+      answered =
+          subst (λ (it : OpenRoot). Appended
+              (AnswersRootFrame it (Market (Gone c.args.sender c.args.number))
+                  (record { basis = c.self.inside.basis; bounds = c.self.inside.bounds; root = c.take_bid.new.self })) root_reply_limit
+                      c.args.out.now.items c.take_bid.new.out.items) c.self.view_is
           (hands_gone old _ _ _ _ _ c.take_bid.ensures.answered);
     }

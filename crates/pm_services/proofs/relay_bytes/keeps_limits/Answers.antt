@@ -1,6 +1,6 @@
--- Of `is_within`: what it ensures.
+-- Of `keeps_limits`: what it ensures.
 use Rattle.pm_services.proofs.Within.{decided}
-use Rattle.pm_services.proofs.relay_bytes.is_within.Goals as goal
+use Rattle.pm_services.proofs.relay_bytes.keeps_limits.Goals as goal
 
 pub returns : goal.returns
 returns c = decided _ _ c.has_step_within.result c.has_step_within.ensures
