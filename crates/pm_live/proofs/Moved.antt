@@ -5,6 +5,7 @@ use Rattle.pm_wire.specs.declared.stream.Served.{Served}
 use Rattle.pm_live.specs.Serving.{EndsNodeAsDue}
 use Rattle.pm_live.specs.declared.named.LiveNode.{LiveNode}
 
+-- what is due at an end is due at one with the same bytes and counts
 pub due_at : (node : LiveNode) (all : List ℕ) (old held new new' holds holds' : Option (List ℕ)) (a b r r' k k' : ℕ) (served : Served) →
     new ≡ new' → holds ≡ holds' → r ≡ r' → k ≡ k' → EndsNodeAsDue node all old new held holds (Rose a r) (Rose b k) served →
     EndsNodeAsDue node all old new' held holds' (Rose a r') (Rose b k') served

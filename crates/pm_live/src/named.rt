@@ -84,7 +84,7 @@ fn named_relay(word: &str, child: &str, floor: &str, ceiling: &str) -> Option<Li
         return None;
     }
     let child = child_of(child.as_bytes())?;
-    let limits = limits_of(floor.as_bytes(), ceiling.as_bytes())?;
+    let limits = named_limits(floor.as_bytes(), ceiling.as_bytes())?;
     let terms = RelayTerms {
         limits,
         giver: None,
@@ -109,7 +109,7 @@ fn named_given_relay(
         return None;
     }
     let child = child_of(child.as_bytes())?;
-    let limits = limits_of(floor.as_bytes(), ceiling.as_bytes())?;
+    let limits = named_limits(floor.as_bytes(), ceiling.as_bytes())?;
     let giver = child_of(giver.as_bytes())?;
     let terms = RelayTerms {
         limits,
@@ -119,7 +119,7 @@ fn named_given_relay(
 }
 
 /// The limits that a relay may have, of which two texts write the floor and the ceiling.
-fn limits_of(floor: &[u8], ceiling: &[u8]) -> Option<Limits>
+fn named_limits(floor: &[u8], ceiling: &[u8]) -> Option<Limits>
     ensures limits { IfSome result AreRelayLimits }
     ensures floor { IfSome result (λ limits. floor.now ≡ signed_decimal limits.floor) }
     ensures ceiling { IfSome result (λ limits. ceiling.now ≡ signed_decimal limits.ceiling) }

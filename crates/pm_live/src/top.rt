@@ -13,7 +13,7 @@ use crate::ending::Ending;
 use crate::named::{LiveNode, named_node};
 use crate::serving::serve_from_start;
 use pm_frames::{NodePlace, RelayPlace, Stage};
-use pm_io::{Peer, Sink, Source, Wire, tell_all};
+use pm_io::{Peer, Sink, Source, Wire, tell_all, write_all};
 use pm_services::{DeviceService, RelayService, RootService};
 use pm_wire::Served;
 use std::alloc::Global;
@@ -36,6 +36,21 @@ fn tell_usage<W: Peer>(wire: &mut W) -> Ending
     ensures count { W.write_faults wire.old ≤ W.write_faults wire.new }
 {
     match tell_all(wire, USAGE_LINE.as_bytes()) {
+        Ok(()) => Ending::Usage,
+        Err(_) => Ending::UsageCutShort,
+    }
+}
+
+/// Writes the usage line to a sink alone.
+fn append_usage<K: Sink>(sink: &mut K) -> Ending
+    ensures either { (result ≡ Ending.Usage) ⊎ (result ≡ Ending.UsageCutShort) }
+    ensures written { result ≡ Ending.Usage
+        → Appends (K.held sink.old) (K.held sink.new) node_usage_line }
+    ensures cut_short { result ≡ Ending.UsageCutShort → Rose (K.faults sink.old) (K.faults sink.new)
+        × WrotePartOfUsage (K.held sink.old) (K.held sink.new) }
+    ensures count { K.faults sink.old ≤ K.faults sink.new }
+{
+    match write_all(sink, USAGE_LINE.as_bytes()) {
         Ok(()) => Ending::Usage,
         Err(_) => Ending::UsageCutShort,
     }
@@ -167,10 +182,15 @@ pub fn live<S: Source, K: Sink>(
     ensures cut_short { result ≡ Ending.UsageCutShort → Rose (K.faults sink.old) (K.faults sink.new)
         × WrotePartOfUsage (K.held sink.old) (K.held sink.new) }
     ensures reads_nothing { ((node : LiveNode) → ¬ IsNamed (map string_bytes arguments.now) node) →
-        (S.left source.new ≡ S.left source.old) × (S.faults source.new ≡ S.faults source.old) }
+        source.new ≡ source.old }
     ensures source_count { S.faults source.old ≤ S.faults source.new }
     ensures sink_count { K.faults sink.old ≤ K.faults sink.new }
 {
-    let mut wire = Wire { source, sink };
-    live_peer(alloc, arguments, &mut wire)
+    match named_node(arguments) {
+        Some(_node) => {
+            let mut wire = Wire { source, sink };
+            live_peer(alloc, arguments, &mut wire)
+        }
+        None => append_usage(sink),
+    }
 }

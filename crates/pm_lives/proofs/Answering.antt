@@ -37,7 +37,7 @@ use Rattle.pm_services.specs.Receipts.{sender_place, receipt_bytes}
 use Rattle.pm_services.specs.RelayAnswers.{WaitingRelay, OpenRelay, stored_relay, has_step_within, own_resume_bytes, own_bid_bytes, down_bytes}
 use Rattle.pm_services.specs.RelayAnswers.{dropped_with, price_reply, bid_again}
 use Rattle.pm_services.specs.RelayAnswers.{not_sent_reply, with_held, TriesWaiting, AnswersBid, AnswersLimits, AnswersPrice, AnswersSend}
-use Rattle.pm_services.specs.RelayAnswers.{AnswersExpire, AnswersGivenIn, AnswersFrame}
+use Rattle.pm_services.specs.RelayAnswers.{AnswersExpire, AnswersGivenIn, AnswersRelayFrame}
 use Rattle.pm_services.specs.RelaySetups.{RelaySetup}
 use Rattle.pm_services.specs.RootAnswers.{OpenRoot, stored_root, clearing_bytes, not_cleared_reply, AnswersRootBid, AnswersRootFrame}
 use Rattle.pm_services.specs.DeviceAnswers as device
@@ -222,7 +222,7 @@ given_frames (Some giver) old number limits new reply is did =
 
 -- what the service of a relay answers to a frame is frames that a relay writes
 pub relay_answers_frames : (old : OpenRelay) (frame : RelayFrame) (new : OpenRelay) (reply : List ℕ) → IsNoResume frame →
-    AnswersFrame old frame new reply → AnswersInFrames old frame new reply
+    AnswersRelayFrame old frame new reply → AnswersInFrames old frame new reply
 relay_answers_frames old (Child (Hello basis)) new reply other did = left_frames old new (Child (Hello basis)) reply did.0 [] (refl, refl) did.1
 relay_answers_frames old (Child (Bid sender number demand)) new reply other (inl kept) =
     let did = kept.1 in

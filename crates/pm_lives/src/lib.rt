@@ -11,7 +11,7 @@ ghost use Rattle.pm_frames.specs.declared.relay.RelayFrame.{RelayFrame};
 ghost use Rattle.pm_frames.specs.declared.root.RootFrame.{RootFrame};
 ghost use Rattle.pm_frames.specs.declared.device.DeviceFrame.{DeviceFrame};
 ghost use Rattle.pm_relay.specs.Roots.{RootValue};
-ghost use Rattle.pm_services.specs.RelayAnswers.{WaitingRelay, OpenRelay, AnswersFrame};
+ghost use Rattle.pm_services.specs.RelayAnswers.{WaitingRelay, OpenRelay, AnswersRelayFrame};
 ghost use Rattle.pm_services.specs.RelaySetups.{RelaySetup};
 ghost use Rattle.pm_services.specs.RootAnswers.{OpenRoot, AnswersRootFrame};
 ghost use Rattle.pm_basis.specs.Prices.{BasisValue};
@@ -189,7 +189,8 @@ pub fn lists_are_there()
 /// A law: the bytes with which the services answer are the frames of which the laws over lives speak.
 pub fn answers_are_frames()
     ensures relay { (old : OpenRelay) (frame : RelayFrame) (new : OpenRelay) (reply : List ℕ) →
-        IsNoResume frame → AnswersFrame old frame new reply → AnswersInFrames old frame new reply }
+        IsNoResume frame → AnswersRelayFrame old frame new reply →
+        AnswersInFrames old frame new reply }
     ensures root { (old : OpenRoot) (frame : RootFrame) (new : OpenRoot) (reply : List ℕ) →
         IsNoRootResume frame → AnswersRootFrame old frame new reply →
         RootAnswersInFrames old frame new reply }

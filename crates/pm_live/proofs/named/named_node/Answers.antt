@@ -1,12 +1,14 @@
 -- Of `named_node`: its clause `none` of five arguments.
-use Rattle.std.proofs.Common.{◌≡◌, ◌∙◌, sym, ap, ◌∷◌, [], ℕ, ◌≤◌, ◌<◌, List, length, map, get_or, string_bytes, subst, IfNone, arith}
+use Rattle.std.proofs.Common.{◌≡◌, ◌∙◌, sym, ap, ◌∷◌, [], ℕ, ◌≤◌, ◌<◌, List, length, map, get_or, string_bytes, subst}
+use Rattle.std.proofs.Common.{IfNone, arith}
 use Rattle.pm_live.specs.LiveNodes.{IsNamed}
 use Rattle.pm_live.specs.declared.named.LiveNode.{LiveNode}
 use Rattle.pm_live.proofs.named.named_node.Goals as goal
 
 -- a list of five has these five
 five_of : {A B : Type 0} (f : A → B) (xs : List A) (a b c d e : A) (p q r s t : B) → 5 ≤ length xs → length xs < 6 → a ≡ get_or xs 0 a →
-    b ≡ get_or xs 1 b → c ≡ get_or xs 2 c → d ≡ get_or xs 3 d → e ≡ get_or xs 4 e → p ≡ f a → q ≡ f b → r ≡ f c → s ≡ f d → t ≡ f e →
+    b ≡ get_or xs 1 b → c ≡ get_or xs 2 c → d ≡ get_or xs 3 d → e ≡ get_or xs 4 e → p ≡ f a → q ≡ f b → r ≡ f c →
+    s ≡ f d → t ≡ f e →
     p ∷ q ∷ r ∷ s ∷ t ∷ [] ≡ map f xs
 five_of f [] a b c d e p q r s t least below ha hb hc hd he hp hq hr hs ht = absurd (omega (arith, least))
 five_of f (v ∷ []) a b c d e p q r s t least below ha hb hc hd he hp hq hr hs ht = absurd (omega (arith, least))

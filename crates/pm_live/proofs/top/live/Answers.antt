@@ -3,8 +3,8 @@ use Rattle.std.proofs.Common.{rules}
 use Rattle.pm_live.proofs.Moved.{due_at}
 use Rattle.pm_live.proofs.top.live.Goals as goal
 
-pub returns-clause-due : goal.returns-clause-due
-returns-clause-due g c = λ node all named told.
+pub returns-in-Some-clause-due : goal.returns-in-Some-clause-due
+returns-in-Some-clause-due g c = λ node all named told.
     let ends = c.live_peer.ensures.due node all named told in (
       ends.0,
       ends.1,

@@ -13,7 +13,7 @@ returns-in_default c =
     record {
       answered =
           subst (λ (it : OpenRelay). Appended
-              (AnswersKept it c.args.stored.now c.args.self.now) relay_reply_limit c.args.out.now.items c.args.out.now.items) c.self.view_is
+          (AnswersKept it c.args.stored.now c.args.self.now) relay_reply_limit c.args.out.now.items c.args.out.now.items) c.self.view_is
           (subst (λ (now : OpenRelay). Appended (AnswersKept old c.args.stored.now now) relay_reply_limit c.args.out.now.items c.args.out.now.items)
           c.self.view_is (keeps_none old _ _ (sym c.giver-place.ensures.giver ∙ c.in_default.is)));
     }
@@ -26,11 +26,11 @@ returns-then-number-eq0 c =
     record {
       answered =
           subst (λ (it : OpenRelay). Appended
-              (AnswersKept it c.args.stored.now c.args.self.now) relay_reply_limit c.args.out.now.items c.args.out.now.items) c.self.view_is
+          (AnswersKept it c.args.stored.now c.args.self.now) relay_reply_limit c.args.out.now.items c.args.out.now.items) c.self.view_is
           (subst (λ (now : OpenRelay). Appended (AnswersKept old c.args.stored.now now) relay_reply_limit c.args.out.now.items c.args.out.now.items)
           c.self.view_is
-              (was_given_none old c.in-Some.giver _ _ (sym c.giver-place.ensures.giver ∙ c.in-Some.is)
-                  (sym numbered ∙ omega (arith, c.if-number-eq0.true))));
+          (was_given_none old c.in-Some.giver _ _ (sym c.giver-place.ensures.giver ∙ c.in-Some.is)
+          (sym numbered ∙ omega (arith, c.if-number-eq0.true))));
     }
 
 pub returns : goal.returns

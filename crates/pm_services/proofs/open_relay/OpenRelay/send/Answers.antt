@@ -13,7 +13,7 @@ returns c =
     record {
       answered =
           subst (λ (it : OpenRelay). Appended
-              (AnswersRelayFrame it Send (record { setup = c.self.inside.setup; bounds = c.self.inside.bounds; held = c.send.new.self }))
-                  relay_reply_limit c.args.out.now.items c.send.new.out.items) c.self.view_is
+          (AnswersRelayFrame it Send (record { setup = c.self.inside.setup; bounds = c.self.inside.bounds; held = c.send.new.self }))
+          relay_reply_limit c.args.out.now.items c.send.new.out.items) c.self.view_is
           (hands_send old _ _ _ c.send.ensures.answered);
     }

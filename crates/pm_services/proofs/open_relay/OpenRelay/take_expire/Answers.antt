@@ -13,8 +13,8 @@ returns c =
     record {
       answered =
           subst (λ (it : OpenRelay). Appended
-              (AnswersRelayFrame it (Expire c.args.sender)
-                  (record { setup = c.self.inside.setup; bounds = c.self.inside.bounds; held = c.take_expire.new.self })) relay_reply_limit
-                      c.args.out.now.items c.take_expire.new.out.items) c.self.view_is
+          (AnswersRelayFrame it (Expire c.args.sender)
+          (record { setup = c.self.inside.setup; bounds = c.self.inside.bounds; held = c.take_expire.new.self })) relay_reply_limit
+          c.args.out.now.items c.take_expire.new.out.items) c.self.view_is
           (hands_expire old _ _ _ _ c.take_expire.ensures.answered);
     }

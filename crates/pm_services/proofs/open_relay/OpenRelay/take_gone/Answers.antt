@@ -14,8 +14,8 @@ returns c =
     record {
       answered =
           subst (λ (it : OpenRelay). Appended
-              (AnswersRelayFrame it (Child (Gone c.args.sender c.args.number))
-                  (record { setup = c.self.inside.setup; bounds = c.self.inside.bounds; held = c.take_bid.new.self })) relay_reply_limit
-                      c.args.out.now.items c.take_bid.new.out.items) c.self.view_is
+          (AnswersRelayFrame it (Child (Gone c.args.sender c.args.number))
+          (record { setup = c.self.inside.setup; bounds = c.self.inside.bounds; held = c.take_bid.new.self })) relay_reply_limit
+          c.args.out.now.items c.take_bid.new.out.items) c.self.view_is
           (hands_gone old _ _ _ _ _ c.take_bid.ensures.answered);
     }

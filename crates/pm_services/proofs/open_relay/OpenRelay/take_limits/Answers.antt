@@ -13,7 +13,7 @@ returns-in_default c =
     record {
       answered =
           subst (λ (it : OpenRelay). Appended
-              (AnswersGiven it c.args.number c.args.limits c.args.self.now) relay_reply_limit c.args.out.now.items c.args.out.now.items) c.self.view_is
+          (AnswersGiven it c.args.number c.args.limits c.args.self.now) relay_reply_limit c.args.out.now.items c.args.out.now.items) c.self.view_is
           (subst (λ (now : OpenRelay). Appended (AnswersGiven old c.args.number c.args.limits now) relay_reply_limit c.args.out.now.items c.args.out.now.items)
           c.self.view_is (is_fixed old _ _ _ (sym c.giver-place.ensures.giver ∙ c.in_default.is)));
     }
@@ -24,9 +24,9 @@ returns c =
     record {
       answered =
           subst (λ (it : OpenRelay). Appended
-              (AnswersGiven it c.args.number c.args.limits
-                  (record { setup = c.self.inside.setup; bounds = c.self.inside.bounds; held = c.take_limits.new.self })) relay_reply_limit
-                      c.args.out.now.items c.take_limits.new.out.items) c.self.view_is
+          (AnswersGiven it c.args.number c.args.limits
+          (record { setup = c.self.inside.setup; bounds = c.self.inside.bounds; held = c.take_limits.new.self })) relay_reply_limit
+          c.args.out.now.items c.take_limits.new.out.items) c.self.view_is
           (is_given old _ _ _ _ _ _ (sym c.giver-place.ensures.giver ∙ c.in-Some.is) c.take_limits.ensures.answered);
     }
 

@@ -19,11 +19,11 @@ returns-then-not-has_basis c =
     record {
       answered =
           subst (λ (it : OpenRelay). Appended
-              (AnswersTold it c.args.price c.args.basis.now c.args.self.now) relay_reply_limit c.args.out.now.items
-                  c.write_other_basis.new.out.items) c.self.view_is
+          (AnswersTold it c.args.price c.args.basis.now c.args.self.now) relay_reply_limit c.args.out.now.items
+          c.write_other_basis.new.out.items) c.self.view_is
           (subst (λ (now : OpenRelay). Appended (AnswersTold old c.args.price c.args.basis.now now) relay_reply_limit c.args.out.now.items
           c.write_other_basis.new.out.items) c.self.view_is
-              (is_other old _ _ _ _ (fails c.has_basis.result c.if-not-has_basis.true c.has_basis.ensures.1) c.write_other_basis.ensures.written));
+          (is_other old _ _ _ _ (fails c.has_basis.result c.if-not-has_basis.true c.has_basis.ensures.1) c.write_other_basis.ensures.written));
     }
 
 pub returns : goal.returns
@@ -32,8 +32,8 @@ returns c =
     record {
       answered =
           subst (λ (it : OpenRelay). Appended
-              (AnswersTold it c.args.price c.args.basis.now
-                  (record { setup = c.self.inside.setup; bounds = c.self.inside.bounds; held = c.take_price.new.self })) relay_reply_limit
-                      c.args.out.now.items c.take_price.new.out.items) c.self.view_is
+          (AnswersTold it c.args.price c.args.basis.now
+          (record { setup = c.self.inside.setup; bounds = c.self.inside.bounds; held = c.take_price.new.self })) relay_reply_limit
+          c.args.out.now.items c.take_price.new.out.items) c.self.view_is
           (is_told old _ _ _ _ _ (passes c.has_basis.result c.if-not-has_basis.false c.has_basis.ensures.0) c.take_price.ensures.answered);
     }

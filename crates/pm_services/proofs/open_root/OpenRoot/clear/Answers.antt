@@ -14,7 +14,7 @@ returns c =
     record {
       answered =
           subst (λ (it : OpenRoot). Appended
-              (AnswersRootFrame it (Market Clear) (record { basis = c.self.inside.basis; bounds = c.self.inside.bounds; root = c.clear.new.self }))
-                  root_reply_limit c.args.out.now.items c.clear.new.out.items) c.self.view_is
+          (AnswersRootFrame it (Market Clear) (record { basis = c.self.inside.basis; bounds = c.self.inside.bounds; root = c.clear.new.self }))
+          root_reply_limit c.args.out.now.items c.clear.new.out.items) c.self.view_is
           (hands_clear old _ _ _ c.clear.ensures.answered);
     }

@@ -13,11 +13,11 @@ returns-then-not-admit c =
     record {
       answered =
           subst (λ (it : OpenRoot). Appended
-              (AnswersRootBounded it c.args.sender c.args.number c.args.demand.now c.args.self.now) root_reply_limit c.args.out.now.items
-                  c.write_too_much.new.out.items) c.self.view_is
+          (AnswersRootBounded it c.args.sender c.args.number c.args.demand.now c.args.self.now) root_reply_limit c.args.out.now.items
+          c.write_too_much.new.out.items) c.self.view_is
           (subst (λ (now : OpenRoot). Appended (AnswersRootBounded old c.args.sender c.args.number c.args.demand.now now) root_reply_limit c.args.out.now.items
           c.write_too_much.new.out.items) c.self.view_is
-              (is_beyond old _ _ _ _ _ (fails c.admit.result c.if-not-admit.true c.admit.ensures.1) c.write_too_much.ensures.written));
+          (is_beyond old _ _ _ _ _ (fails c.admit.result c.if-not-admit.true c.admit.ensures.1) c.write_too_much.ensures.written));
     }
 
 pub returns : goal.returns
@@ -26,8 +26,8 @@ returns c =
     record {
       answered =
           subst (λ (it : OpenRoot). Appended
-              (AnswersRootBounded it c.args.sender c.args.number c.args.demand.now
-                  (record { basis = c.self.inside.basis; bounds = c.self.inside.bounds; root = c.take_bid.new.self })) root_reply_limit
-                      c.args.out.now.items c.take_bid.new.out.items) c.self.view_is
+          (AnswersRootBounded it c.args.sender c.args.number c.args.demand.now
+          (record { basis = c.self.inside.basis; bounds = c.self.inside.bounds; root = c.take_bid.new.self })) root_reply_limit
+          c.args.out.now.items c.take_bid.new.out.items) c.self.view_is
           (counts old _ _ _ _ _ _ (passes c.admit.result c.if-not-admit.false c.admit.ensures.0) c.take_bid.ensures.answered);
     }

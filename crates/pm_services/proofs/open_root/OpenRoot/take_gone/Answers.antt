@@ -14,8 +14,8 @@ returns c =
     record {
       answered =
           subst (λ (it : OpenRoot). Appended
-              (AnswersRootFrame it (Market (Gone c.args.sender c.args.number))
-                  (record { basis = c.self.inside.basis; bounds = c.self.inside.bounds; root = c.take_bid.new.self })) root_reply_limit
-                      c.args.out.now.items c.take_bid.new.out.items) c.self.view_is
+          (AnswersRootFrame it (Market (Gone c.args.sender c.args.number))
+          (record { basis = c.self.inside.basis; bounds = c.self.inside.bounds; root = c.take_bid.new.self })) root_reply_limit
+          c.args.out.now.items c.take_bid.new.out.items) c.self.view_is
           (hands_gone old _ _ _ _ _ c.take_bid.ensures.answered);
     }

@@ -1,4 +1,4 @@
--- Of `limits_of`: its clause `none`.
+-- Of `named_limits`: its clause `none`.
 use Rattle.std.proofs.Common.{◌≡◌, arith, List, ℕ, ℤ, pos, subst}
 use Rattle.std.specs.Prelude.{◌≤ℤ◌}
 use Rattle.std.specs.Fmt.{signed_decimal}
@@ -7,8 +7,8 @@ use Rattle.pm_base.specs.Limits.{IsWithin, demand_limit}
 use Rattle.pm_base.specs.declared.limits.Limits.{Limits}
 use Rattle.pm_relay.specs.Relays.{AreRelayLimits}
 use Rattle.pm_live.proofs.Texts.{one_number}
-use Rattle.pm_live.proofs.named.limits_of.Goals as goal
-use Rattle.pm_live.proofs.named.limits_of.Goals.{then-floor-gt0-via-then-floor-gt0, then-floor-gt0-via-else-floor-gt0+then-ceiling-lt0}
+use Rattle.pm_live.proofs.named.named_limits.Goals as goal
+use Rattle.pm_live.proofs.named.named_limits.Goals.{then-floor-gt0-via-then-floor-gt0, then-floor-gt0-via-else-floor-gt0+then-ceiling-lt0}
 
 -- what two texts write has the signs of the limits that they write
 signs_of : (low high : List ℕ) (floor ceiling : ℤ) (limits : Limits) → IsWithin demand_limit floor → IsWithin demand_limit ceiling →
