@@ -33,7 +33,7 @@ usage: $called COMMAND < INPUT > OUTPUT
   serve    is the auctioneer alone: reads frames, writes answers as they come
   demo SIZE NUMBER
            reads nothing; runs a made cluster of SIZE devices, 1 to 200
-  relay CHILD FLOOR CEILING
+  relay CHILD FLOOR CEILING [GIVER]
   auctioneer
   device CHILD
            is one node of a market across machines, by the program live: reads
