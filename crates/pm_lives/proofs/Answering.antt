@@ -426,7 +426,7 @@ device_says_other child node (device_frame.Hello basis) other = absurd other
 device_says_other child node (device_frame.Offer demand) other = absurd other
 device_says_other child node device_frame.Leave other = absurd other
 device_says_other child node (device_frame.Parent (Price number_at number index step basis)) other = (
-  cond-false (device.same_basis basis node.basis) (device.with_agent node (after_price node.agent (price_message number index step))) node other,
+  cond-false (device.same_basis basis node.basis) (device.with_held_agent node (after_price node.agent (price_message number index step))) node other,
   cond-false (device.same_basis basis node.basis) (device.price_reply node.basis node.agent (price_message number index step))
       (other_basis_bytes number index) other,
 )
