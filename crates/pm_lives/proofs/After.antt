@@ -81,7 +81,7 @@ module _ {K : Type 0} (lists : Lists) (p : Pricing) (numbering : Numbering) (Let
     first = inl (λ stored kept. kept);
   }
 
-  -- to say something, or nothing, is no call
+  -- a node that says something, or nothing, makes no call
   pub says_if : (Stands : System → Type 0) (sys : System) (test : Bool) (said : List ℕ) → Stands sys →
       FollowsSo Stands sys (cond test (Says said ∷ []) [])
   says_if Stands sys test said stands =

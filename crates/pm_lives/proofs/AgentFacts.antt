@@ -57,7 +57,7 @@ found_kept from n le (x ∷ offers) = elim (cases_Bool (eqb x.number n)) [
 
 -- what a price leaves
 pub record PriceLeaves (old : DeviceAgent) (price : PriceMessage) (new : DeviceAgent) : Type 0 where
-  -- the agent gives no number
+  -- its number stays
   pub number : new.number ≡ old.number
   pub newest : newest_demand new ≡ newest_demand old
   -- its newest index never falls

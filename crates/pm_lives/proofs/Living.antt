@@ -99,10 +99,10 @@ AgentOkIn sys world d = AgentOk sys d (world.up d) (world.seen.agents d) (world.
 
 -- each process that runs is a node of the system, what is stored of each node may be, and what was handed out was sent
 pub record WorldStands (lists : Lists) (p : Pricing) (numbering : Numbering) (world : World) (sys : System) : Type 0 where
-  -- each relay is as it should be
+  -- so it is of each relay
   pub relays : (c : ℕ) → IsConcentrator lists c → RelayOkIn p numbering sys world c
   pub root : RootOkIn sys world
-  -- so is each device
+  -- and of each device
   pub agents : (d : ℕ) → IsLeaf lists d → AgentOkIn sys world d
   pub sent : AllIn lists p world.seen sys
   -- each control was told what it was told in the system, and each bid of a device is known

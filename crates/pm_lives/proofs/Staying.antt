@@ -22,7 +22,7 @@ use Rattle.pm_lives.specs.Moves.{OnlyMoves}
 none_more : {A : Type 0} (l : List A) → (more : List A) × (l ≡ l ++ more)
 none_more l = ([], sym (append-nil l))
 
--- no call leaves all nodes as they are
+-- where nothing is called, all is left as it is
 pub still : (y : ℕ) (sys : System) → OnlyMoves y sys sys
 still y sys = record {
   root = λ ne. refl;

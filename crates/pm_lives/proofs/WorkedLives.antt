@@ -34,9 +34,8 @@ use Rattle.pm_system.specs.Settled.{number_made, number_held, index_of_held, Has
 use Rattle.pm_system.specs.Worked.{small_tree, small_places, small_limits, small_device_demand, small_pricing}
 use Rattle.pm_system.proofs.Worked.{reaches, reached, suffices, enough, noted, one_kept, relay_back, new_root, sent_relay, rebuilt_relay}
 use Rattle.pm_system.proofs.Worked.{cleared_root, passed_relay}
-use Rattle.pm_system.proofs.WorkedGiven.{each_node}
+use Rattle.pm_system.proofs.WorkedGiven.{each_node, only_one}
 use Rattle.pm_system.proofs.Given.{some_same}
-use Rattle.pm_system.proofs.WorkedEnd.{only_one}
 use Rattle.pm_lives.specs.Outputs.{Output, Keeps}
 use Rattle.pm_lives.specs.RelayWrites.{bid_outs, price_outs}
 use Rattle.pm_lives.specs.RootWrites.{clearing_outs}

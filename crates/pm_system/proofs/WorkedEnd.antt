@@ -26,7 +26,7 @@ use Rattle.pm_system.proofs.Runs.{system_runs}
 use Rattle.pm_system.proofs.Settling.{current}
 use Rattle.pm_system.proofs.Worked as worked
 use Rattle.pm_system.proofs.Worked.{s0, s1, s2, s3, s4, s5, s6, s7, s8, s9, s10, s11, s12, s13, s14, s15, s16, s17, s18, s19, s20, reaches, reached}
-use Rattle.pm_system.proofs.WorkedGiven.{market, each_node, each_leaf}
+use Rattle.pm_system.proofs.WorkedGiven.{market, each_node, each_leaf, only_one}
 
 runs : SystemRuns small_tree small_pricing small_places s0 small_calls s20
 runs = (
@@ -116,11 +116,6 @@ one_or_two : (P : ℕ → Type 0) → P 0 → P 1 → (k : ℕ) → k < 2 → P 
 one_or_two P one two zero inside = one
 one_or_two P one two (suc zero) inside = two
 one_or_two P one two (suc (suc k)) inside = absurd (omega (arith, inside))
-
--- what holds of 0 holds of each number below 1
-pub only_one : (P : ℕ → Type 0) → P 0 → (k : ℕ) → k < 1 → P k
-only_one P one zero inside = one
-only_one P one (suc k) inside = absurd (omega (arith, inside))
 
 expired_are_held : (d : ℕ) → IsLeaf small_tree d →
     All (λ (bid : BidMessage). bid.number ≤ number_held small_tree small_places s20 d) (s20.bids_sent d)

@@ -13,6 +13,11 @@ use Rattle.pm_system.specs.Given.{IsDemand, IsGiven, IsTreeMarket}
 use Rattle.pm_system.specs.Worked.{small_tree, small_places, small_limits, no_giver, small_device_demand, small_offer, small_pricing}
 use Rattle.pm_system.proofs.Given.{is_market}
 
+-- what holds of 0 holds of each number below 1
+pub only_one : (P : ℕ → Type 0) → P 0 → (k : ℕ) → k < 1 → P k
+only_one P one zero inside = one
+only_one P one (suc k) inside = absurd (omega (arith, inside))
+
 three_within : (a b c : ℤ) → IsWithin demand_limit a → IsWithin demand_limit b → IsWithin demand_limit c → (step : ℕ) → step < 3 →
     IsWithin demand_limit (demand_at (a ∷ b ∷ c ∷ []) step)
 three_within a b c in_a in_b in_c zero inside = in_a
