@@ -220,7 +220,7 @@ def test_every_refusal_of_the_cases(program):
         for file in (CASES / folder).glob("*.json"):
             with pytest.raises(Refused) as refused:
                 program.answer("run", file.read_bytes())
-            assert str(refused.value) == file.with_suffix(".stdout").read_text().strip()
+            assert refused.value.answer == file.with_suffix(".stdout").read_text().strip()
 
 
 PATHS = {
