@@ -226,9 +226,9 @@ def found_program() -> Program:
 
 
 def chosen(program: Program | None) -> Program:
-    """The program that a caller gave, or the one that is found. Raises TypeError if it is none, such as a path, and NoProgram."""
+    """The program that a caller gave, or what answers as one, or the one that is found. Raises TypeError for a path, and NoProgram."""
     if program is None:
         return found_program()
-    if not isinstance(program, Program):
+    if not hasattr(program, "answer"):
         raise TypeError(f"program is {program!r}: write Program.find({program!r})")
     return program

@@ -61,9 +61,11 @@ def test_what_the_nodes_of_a_hub_record_is_a_run(live, tmp_path):
     assert verdict.setpoints >= 3
     path = next(folder.glob("hub.*.frames"))
     lines = path.read_text().splitlines(keepends=True)
-    at = next(it for it, line in enumerate(lines) if '"out"' in line and '"frame": "05' in line)
-    step = '0004"}' if lines[at].endswith('0009"}\n') else '0009"}'
-    lines[at] = f"{lines[at][: -len(step) - 1]}{step}\n"
+    # A Price is its kind 23, the child, the number, the index and then the step, of two bytes.
+    at = next(it for it, line in enumerate(lines) if '"out"' in line and '"frame": "17' in line)
+    begin = lines[at].index('"frame": "17') + len('"frame": "17') + 2 * (2 + 4 + 4)
+    step = "0004" if lines[at][begin : begin + 4] == "0009" else "0009"
+    lines[at] = lines[at][:begin] + step + lines[at][begin + 4 :]
     path.write_text("".join(lines))
     fault = judge(folder, live).fault
     assert fault is not None
