@@ -169,11 +169,10 @@ runs_village() {
 # Whether the command that FILE is runs a device that makes an offer of 500 W at the lower and -300 W at the higher of two prices,
 # takes a price and leaves. It is told a clearing 7 at the higher price.
 runs_device() {
-    "$1" device 2 < <(printf '%b' '\1\0\0\0\0\0\0\0\x9\0\2' '\xD\0\0\x1\xF4\xFF\xFF\xFE\xD4' \
-        '\5\0\2\0\0\0\1\0\0\0\7\0\1' '\xE') | cmp - <(printf '%b' \
-        '\xC\0\0\0\1\0\0\0\0\0\0\x1\xF4\xFF\xFF\xFE\xD4' '\2\0\2\0\0\0\1\0\0\x1\xF4\xFF\xFF\xFE\xD4' \
-        '\xF\0\0\0\1\0\0\0\7\0\1\xFF\xFF\xFE\xD4' '\xC\0\0\0\1\0\0\0\7\0\0\x1\xF4\xFF\xFF\xFE\xD4' \
-        '\x10\0\0\0\2\0\0\0\7' '\3\0\2\0\0\0\2')
+    local basis='\0\0\0\0\0\0\0\x9\0\2' offer='\0\0\x1\xF4\xFF\xFF\xFE\xD4'
+    "$1" device 2 < <(printf '%b' "\1$basis" "\xD$offer" "\x17\0\2\0\0\0\2\0\0\0\7\0\1$basis" '\xE') | cmp - <(printf '%b' \
+        "\x19\0\0\0\2\0\0\0\0$basis$offer" "\2\0\2\0\0\0\2$offer" '\xF\0\0\0\2\0\0\0\7\0\1\xFF\xFF\xFE\xD4' \
+        "\x19\0\0\0\2\0\0\0\7$basis$offer" "\x1A\0\0\0\4\0\0\0\7$basis" '\3\0\2\0\0\0\4')
 }
 
 # Whether the installed command of the Python package runs the village by the market that is installed with it, and leaves nothing.
@@ -299,7 +298,7 @@ ExecStart=$1/libexec/market/market serve" ]
 
 papers_agree() {
     grep -qx "version: $version" CITATION.cff || { echo "CITATION.cff has another version"; return 1; }
-    grep -qx "version = \"$version\"" python/pyproject.toml || { echo "python/pyproject.toml has another version"; return 1; }
+    grep -qx "__version__ = \"$version\"" python/cogmaula/version.py || { echo "python/cogmaula/version.py has another version"; return 1; }
     local day
     day="$(awk '/^date-released: / { gsub("\"", ""); print $2 }' CITATION.cff)"
     grep -qxF "## [$version] - $day" CHANGELOG.md || { echo "CHANGELOG.md has no release $version of $day"; return 1; }
@@ -358,9 +357,12 @@ is "a device of no number" 2 "usage: live *" "" device
 is "a node's fault of reading" 3 "" "market: standard input could not be read*" auctioneer </
 is "demo" 0 "$("${programs[market]}" demo 7 1)" "" demo 7 1
 is "help" 0 "*market*run*help refusals*" "" help
-is "--help" 0 "$("$market" help)" "" --help
-is "-h" 0 "$("$market" help)" "" -h
-is "alone" 2 "$("$market" help)" ""
+# It is a pattern, and a bracket in it means itself.
+help="$("$market" help)"
+help="${help//\[/\\[}"
+is "--help" 0 "$help" "" --help
+is "-h" 0 "$help" "" -h
+is "alone" 2 "$help" ""
 is "help of a code" 0 "*17*demand*" "" help 17
 fails "help names nothing of the sources" "" grep -nE '\./market|README|docs/|prove' <("$market" help; "$market" help refusals; "$market" help 17)
 is "help of all refusals" 0 "*1 *25 *" "" help refusals
