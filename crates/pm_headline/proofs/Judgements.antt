@@ -65,6 +65,7 @@ module _ (plan : PlanData) (is_plan : IsPlan plan) where
 
   -- a trace with a bad line tells no run
   pub refuted : (trace : List ℕ) (line : ℕ) → IsBadLine plan (report_of plan) trace line → RefutesTrace plan trace (invalid_line line)
+  unfolding report_of
   refuted trace line bad = (
     line,
     refl,
@@ -76,4 +77,5 @@ module _ (plan : PlanData) (is_plan : IsPlan plan) where
         told.1 ∙ ap (trace_text plan (all_ends plan)) same ∙ sym (valid_text moves) in
         not_judged_twice plan is_plan (report_of plan) trace (length moves) line
         (record { journal = moves; legal = told.0.legal.legal; complete = told.0.complete; text = text; count = refl }) bad,
+    bad,
   )

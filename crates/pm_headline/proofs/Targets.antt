@@ -1,5 +1,5 @@
 -- The answers to targets, over the total of the last phase's end.
-use Rattle.std.proofs.Common.{◌≡◌, refl, ℕ, ℤ, pos, ◌-ℤ◌, List, length, arith}
+use Rattle.std.proofs.Common.{◌≡◌, ◌∙◌, ap, refl, ℕ, ℤ, pos, ◌-ℤ◌, List, length, arith}
 use Rattle.std.proofs.lemmas.List.{length-map}
 use Rattle.pm_bid.proofs.FoundStep.{first_at_most_is_first}
 use Rattle.pm_plan.specs.Plans.{PlanData, phases, end_cut}
@@ -30,3 +30,8 @@ answers_are plan targets text is written =
           (omega (arith, length-map sum (λ (demand : ℤ). demand -ℤ target), long, is.basis.steps));
       curve = breaks_of_are sum (total_falls plan is (end_cut plan (phases plan))) (omega (arith, long, is.basis.steps));
     }
+
+-- and there is no other such text
+pub answers_only : (plan : PlanData) (targets : List ℤ) (text : List ℕ) → AnswersTargets plan targets text →
+    text ≡ ask_text plan.basis (total plan (state plan) (end_cut plan (phases plan))) targets
+answers_only plan targets text answers = answers.written ∙ ap (λ (sum : List ℤ). ask_text plan.basis sum targets) answers.over

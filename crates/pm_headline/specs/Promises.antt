@@ -4,6 +4,7 @@ use Rattle.std.specs.Io.KnownBytes.{Consumes, IsAtEnd}
 use Rattle.pm_market.specs.declared.journal.Line.{Line}
 use Rattle.pm_plan.specs.Plans.{PlanData}
 use Rattle.pm_plan.specs.Kept.{IsPlan}
+use Rattle.pm_plan.specs.States.{all_ends}
 use Rattle.pm_scene.specs.Scene.{scene}
 use Rattle.pm_ask.specs.TargetLists.{IsListText}
 use Rattle.pm_answer.specs.declared.arguments.Command.{Command}
@@ -12,6 +13,8 @@ use Rattle.pm_answer.specs.declared.arguments.FileCommand.{FileCommand}
 use Rattle.pm_answer.specs.declared.arguments.FileCommand.TheVariants.{Run, Trace, Check, Bill, Ask, Free}
 use Rattle.pm_plan.specs.declared.refusal.Refusal.{Refusal}
 use Rattle.pm_report.specs.Refusal.{refusal_line}
+use Rattle.pm_report.specs.Report.{report_text}
+use Rattle.pm_check.specs.Traces.{IsBadLine}
 use Rattle.pm_answer.specs.Inputs.{input_limit, HasFile, HasPlan, AreAsked, IsRefusalOf}
 use Rattle.pm_answer.specs.Answers.{valid_line, invalid_line}
 use Rattle.pm_headline.specs.Reports.{IsReport}
@@ -39,9 +42,11 @@ TellsSomeRun plan text = (journal : List Line) × TellsRun plan journal text
 abbrev pub ConfirmsTrace : PlanData → List ℕ → List ℕ → Type 0
 ConfirmsTrace plan trace text = (journal : List Line) × TellsRun plan journal trace × (text ≡ valid_line (length journal))
 
--- the text says `invalid` with a line, and the trace behind the file tells no run of the plan
+-- the text says `invalid` with a line, the trace behind the file tells no run of the plan, and that line is its first bad one: each
+-- line before it is due after those before it, and it is not
 abbrev pub RefutesTrace : PlanData → List ℕ → List ℕ → Type 0
 RefutesTrace plan trace text = (line : ℕ) × (text ≡ invalid_line line) × ((journal : List Line) → TellsRun plan journal trace → ⊥)
+    × IsBadLine plan (report_text plan (all_ends plan)) trace line
 
 -- the text answers the targets behind the file
 abbrev pub AnswersList : PlanData → List ℕ → List ℕ → Type 0

@@ -11,12 +11,13 @@
 //! The laws are contracts of functions with empty bodies. `pm_top` makes them a clause of `market` itself.
 #![tactic(auto)]
 
-ghost use Rattle.std.specs.Prelude.{◌≡◌, ℕ, ◌≤◌, List, Option, length, true};
+ghost use Rattle.std.specs.Prelude.{◌≡◌, ℕ, ◌≤◌, ℤ, List, Option, length, true};
 ghost use Rattle.std.specs.Io.KnownBytes.{Consumes, IsAtEnd};
 ghost use Rattle.pm_market.specs.declared.journal.Line.{Line};
-ghost use Rattle.pm_plan.specs.Plans.{PlanData};
+ghost use Rattle.pm_plan.specs.Plans.{PlanData, phases, end_cut};
 ghost use Rattle.pm_plan.specs.Kept.{IsPlan};
-ghost use Rattle.pm_plan.specs.States.{all_ends};
+ghost use Rattle.pm_plan.specs.Auction.{total};
+ghost use Rattle.pm_plan.specs.States.{all_ends, state};
 ghost use Rattle.pm_gen.specs.Demo.{is_size};
 ghost use Rattle.pm_report.specs.Report.{report_text};
 ghost use Rattle.pm_report.specs.Trace.{trace_text};
@@ -26,6 +27,11 @@ ghost use Rattle.pm_cluster.specs.Acts.{NeverGoesBack};
 ghost use Rattle.pm_board.specs.Boards.{BoardValue, kept_ends};
 ghost use Rattle.pm_turns.specs.Settled.{IsSettled};
 ghost use Rattle.pm_headline.specs.Reports.{AreAuctionEnds, IsReport};
+ghost use Rattle.pm_bill.specs.Runs.{plan_bill};
+ghost use Rattle.pm_bill.specs.Text.{bill_text};
+ghost use Rattle.pm_ask.specs.Texts.{ask_text};
+ghost use Rattle.pm_headline.specs.Bills.{TellsBill};
+ghost use Rattle.pm_headline.specs.Targets.{AnswersTargets};
 ghost use Rattle.pm_headline.specs.Traces.{NobodyGoesBack, IsMarketRun, TellsRun};
 ghost use Rattle.pm_headline.specs.Demos.{TellsDemo};
 ghost use Rattle.pm_headline.specs.Promises.{ReadFile, TellsFile, RefutesTrace, RefusesInput};
@@ -54,14 +60,19 @@ pub fn texts_tell_the_market()
         IsSummary size number text → TellsDemo size number text }
 {}
 
-/// A law: the words leave nothing open. A plan has one report, and the trace that tells a run is the text of its journal,
-/// which is legal and complete.
+/// A law: the words leave nothing open. A plan has one report and one bill, and targets have one answer over it. The trace that
+/// tells a run is the text of its journal, which is legal and complete.
 pub fn nothing_is_left_out()
     ensures report { (plan : PlanData) (text : List ℕ) → IsPlan plan → IsReport plan text →
         text ≡ report_text plan (all_ends plan) }
     ensures trace { (plan : PlanData) (journal : List Line) (text : List ℕ) → IsPlan plan →
         TellsRun plan journal text →
         IsCompleteJournal plan journal × (text ≡ trace_text plan (all_ends plan) journal) }
+    ensures bill { (plan : PlanData) (text : List ℕ) → IsPlan plan → TellsBill plan text →
+        text ≡ bill_text plan (plan_bill plan) }
+    ensures ask { (plan : PlanData) (targets : List ℤ) (text : List ℕ) →
+        AnswersTargets plan targets text →
+        text ≡ ask_text plan.basis (total plan (state plan) (end_cut plan (phases plan))) targets }
 {}
 
 /// A law: what the calls promise of a board and of a journal is what the texts tell. The journal of a settled board is a run of
