@@ -44,6 +44,14 @@ def seen_by_kit(crate: Any) -> Any:
     return it
 
 
+def remove_links(crates: Path) -> None:
+    """Removes the links by which the kit's store saw the sources of these crates: other commands of the kit refuse links in a crate."""
+    for part in PARTS:
+        for it in crates.glob(f"*/out/prove/{part}"):
+            if it.is_symlink():
+                it.unlink(missing_ok=True)
+
+
 class Stores:
     """The kit's store and that of `market prove`, for the crates of one run."""
 

@@ -29,7 +29,7 @@ from collections.abc import Callable
 from importlib.machinery import SourceFileLoader
 from pathlib import Path
 from types import ModuleType
-from typing import Any
+from typing import Any, NoReturn
 
 sys.dont_write_bytecode = True
 import kept  # noqa: E402
@@ -390,6 +390,12 @@ def run_by_turns(name: str) -> bool:
     return False
 
 
+def end_at_once(status: int) -> NoReturn:
+    """Ends the process and what it started, and leaves no link behind."""
+    kept.remove_links(TOP / "crates")
+    os._exit(status)
+
+
 def main() -> int:
     """Proves and builds the program that the arguments name, and returns the status."""
     # It has no help, since the script takes status 0 for a proof.
@@ -411,8 +417,11 @@ def main() -> int:
     # The first call sets a signal's handler, which only the main thread may. What it starts ends with this process.
     kit.rtlib.guarded()
     for it in (signal.SIGTERM, signal.SIGHUP, signal.SIGINT):
-        signal.signal(it, lambda number, _: os._exit(128 + number))
-    return 0 if Proofs(kit, given.program, given.anew).run(given.jobs) else 1
+        signal.signal(it, lambda number, _: end_at_once(128 + number))
+    try:
+        return 0 if Proofs(kit, given.program, given.anew).run(given.jobs) else 1
+    finally:
+        kept.remove_links(TOP / "crates")
 
 
 if __name__ == "__main__":

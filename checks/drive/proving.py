@@ -10,7 +10,10 @@ schedule can beat.
 
 import importlib.util
 import sys
+import tempfile
 from dataclasses import dataclass, field
+from pathlib import Path
+from types import SimpleNamespace
 
 from checks import TOP
 
@@ -121,10 +124,22 @@ def load_prove():
     return module
 
 
+def leaves_no_link(kept):
+    """Whether the links by which the kit's store saw the sources go, and nothing else: `rt fmt` and the gate refuse a crate with links."""
+    with tempfile.TemporaryDirectory() as folder:
+        crate = Path(folder) / "crates" / "some"
+        (crate / "src").mkdir(parents=True)
+        it = SimpleNamespace(folder=str(crate), name="some")
+        seen = Path(kept.seen_by_kit(it).folder)
+        had = (seen / "src").is_symlink()
+        kept.remove_links(Path(folder) / "crates")
+        return had and not (seen / "src").exists() and (crate / "src").is_dir()
+
+
 def main(words):
     prove = load_prove()
     prove.free_memory = lambda: 1e12
-    passed = failed = 0
+    passed, failed = (1, 0) if leaves_no_link(prove.kept) else (0, 1)
     for processors in [int(it) for it in words] or [1, 2, 4, 8]:
         for program in prove.PROGRAMS:
             crates = crates_of(program)

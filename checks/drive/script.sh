@@ -618,7 +618,7 @@ sed -i s/kit-2/kit-1/ kit.txt
 rm -r prebuilt "$folder/prebuilt"
 
 # The order of proofs, and the range of minutes that pages name.
-is "the order of the proofs" 0 "8 passed, 0 failed" "" 'cd "$repository"; PYTHONDONTWRITEBYTECODE=1 python3 -m checks.drive.proving | tail -n 1'
+is "the order of the proofs" 0 "9 passed, 0 failed" "" 'cd "$repository"; PYTHONDONTWRITEBYTECODE=1 python3 -m checks.drive.proving | tail -n 1'
 is "the minutes of a proof on each page" 0 "" "" 'range="$(. script/program.sh; minutes_to_prove)"; cd "$repository"
     grep -L "$range" README.md docs/COMMANDS.md market.1 Makefile'
 
