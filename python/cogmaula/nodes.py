@@ -8,6 +8,7 @@ looks at no limit: the program does (`Cluster.check`).
 from __future__ import annotations
 
 from dataclasses import dataclass, fields, replace
+from itertools import accumulate, pairwise
 from typing import Any, ClassVar
 
 from .members import Demand, Points, look
@@ -131,17 +132,20 @@ class Battery(Child):
 
         A battery charges with its whole power or not at all. Slices do so one after another: each has its share of the capacity, the
         powers and the start, and a spread that is `apart` steps greater than that of the slice before. The shares are whole and add up
-        to the battery. The names are the battery's with a number from 0 behind, all of one length.
+        to the battery. The start is shared as the capacity is, so that no slice starts above its own. The names are the battery's with
+        a number from 0 behind, all of one length.
 
         Raises ValueError if there is no slice, or one would have no capacity.
         """
         if not 1 <= count <= self.capacity:
             raise ValueError(f"{self.name} has {self.capacity} Wh, which {count} slices cannot share")
 
-        def shares(whole: int) -> list[int]:
-            return [whole * (at + 1) // count - whole * at // count for at in range(count)]
+        def shares(whole: int, weights: list[int]) -> list[int]:
+            total, up_to = sum(weights), [0, *accumulate(weights)]
+            return [whole * after // total - whole * before // total for before, after in pairwise(up_to)]
 
-        capacities, charges, discharges, starts = map(shares, (self.capacity, self.charge, self.discharge, self.start))
+        capacities, charges, discharges = (shares(it, [1] * count) for it in (self.capacity, self.charge, self.discharge))
+        starts = shares(self.start, capacities)
         digits = len(str(count - 1))
         return [
             replace(

@@ -69,6 +69,13 @@ def test_a_battery_in_slices_by_hand() -> None:
             battery.sliced(count)
 
 
+def test_no_slice_starts_above_its_capacity() -> None:
+    """129 Wh over 6 slices are 21, 22, 21, 22, 21 and 22, and 128 Wh in them leave one slice short, not one above its brim."""
+    slices = Battery("b", capacity=129, charge=0, discharge=0, spread=0, start=128).sliced(6)
+    assert [it.capacity for it in slices] == [21, 22, 21, 22, 21, 22]
+    assert [it.start for it in slices] == [20, 22, 21, 22, 21, 22]
+
+
 @given(st.integers(1, 10**6), st.integers(0, 10**6), st.integers(0, 10**6), st.integers(1, 200), st.data())
 def test_slices_add_up_to_the_battery(capacity: int, charge: int, discharge: int, count: int, data: st.DataObject) -> None:
     """No watt and no watt-hour is lost, no slice starts above its capacity, and the names are different and in order."""
