@@ -234,7 +234,8 @@ class Path:
             assert not is_silent(self.mill)
         mend()
         wait_until(lambda: "clearing" in self.house.setpoints[-1], f"the market is back behind the {where}", 40)
-        assert self.house.setpoints[-2]["market"] == "live" or "clearing" in self.house.setpoints[-2]
+        last_silent = max(at for at, it in enumerate(self.house.setpoints) if it.get("market") == "silent")
+        assert self.house.setpoints[last_silent + 1].get("market") == "live", "that it lives is told before a setpoint is"
         assert self.times_of_silence()[0] == before[0] + 1, "it is told once"
 
 
