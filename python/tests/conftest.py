@@ -21,9 +21,11 @@ NAMED = os.environ.get("COGMAULA_MARKET") or str(TOP)
 FOLDERS = ("python", "", "python/tests")
 sys.path[:0] = [str(TOP / it) for it in FOLDERS]
 
-# Nothing is aimed at, which would take half of the time, and nothing is kept beside the tests.
+# Nothing is aimed at, which would take half of the time, and nothing is kept beside the tests. The same cases are drawn each time, so
+# that a gate says the same of one tree twice. With COGMAULA_SEARCH set, new ones are drawn.
 DRAWN = [Phase.explicit, Phase.generate, Phase.shrink]
-settings.register_profile("market", phases=DRAWN, database=None, deadline=None, print_blob=True)
+IS_SEARCH = bool(os.environ.get("COGMAULA_SEARCH"))
+settings.register_profile("market", phases=DRAWN, database=None, derandomize=not IS_SEARCH, deadline=None, print_blob=True)
 settings.load_profile("market")
 
 

@@ -298,7 +298,9 @@ def test_a_drawn_market_whose_limits_bind_has_no_trace(places, seed, steps):
 
 
 def test_drawn_markets_made_all_moves():
-    for seed, places in enumerate(TREES * 2):
+    """The markets of these seeds, by themselves, so that the count is the same each time."""
+    SEEN.clear()
+    for seed, places in enumerate(TREES * 6):
         drawn_into(places, seed, 300, Plain())
     assert all(SEEN[it] > 20 for it in ("change", "learn", "publish", "clear", "pass", "none", "lapse", "limits")), SEEN
     assert SEEN["window"] > 1, SEEN
