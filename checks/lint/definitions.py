@@ -1,36 +1,29 @@
-"""Which definitions the headline stands on: all that a reader has to believe, beside the toolchain.
+"""Makes the two pages of what is proved from the sources: docs/STATEMENT.md and docs/CRATES.md.
 
-Begins at the definitions that the clauses `headline` and `refutation` of `market` name, and follows what each of them names,
-as its file imports it, through `specs/` of all crates. Words of the library (`Rattle.std`, `Rattle.serde_json`) are left out.
+STATEMENT has all that a reader of the theorem has to believe, beside the toolchain: it begins at the definitions that the clauses
+`headline` and `refutation` of `market` name, and follows what each of them names, as its file imports it, through `specs/` of all
+crates. Words of the library (`Rattle.std`, `Rattle.serde_json`) are left out. CRATES has of each crate what its first lines say, its
+laws in the words of their comments, and its calls that have a contract.
 
-    checks/run definitions table    prints the table of docs/PROOF.md
-    checks/run definitions words    prints the words of the theorem, as the page quotes them
-    checks/run definitions check    compares both with the page, and ends with 'N passed, M failed'
+    checks/run definitions          compares both pages with what the sources give, and ends with 'N passed, M failed'
+    checks/run definitions write    writes both pages
 """
 
 import re
 import sys
 
+from dataclasses import dataclass
+from pathlib import Path
+
 from checks import TOP
 
 CRATES = TOP / "crates"
-PAGE = TOP / "docs" / "PROOF.md"
+STATEMENT = TOP / "docs" / "STATEMENT.md"
+CONTRACTS = TOP / "docs" / "CRATES.md"
 
 # The clauses of the call of the program, and where they stand.
 CLAUSES = ("headline", "refutation")
 CALL = "pm_top/src/top.rt"
-
-# The files whose definitions the page quotes whole, as a reader goes through them.
-QUOTED = [
-    "pm_headline/specs/Promises.antt",
-    "pm_headline/specs/Reports.antt",
-    "pm_offer/specs/EndLines.antt",
-    "pm_offer/specs/LocalSteps.antt",
-    "pm_headline/specs/Traces.antt",
-    "pm_headline/specs/Bills.antt",
-    "pm_headline/specs/Targets.antt",
-    "pm_headline/specs/Demos.antt",
-]
 
 # What is read for each command, in this order: a definition is told where it is first needed.
 PROMISES = ("pm_headline", "Promises")
@@ -50,10 +43,10 @@ WORD = re.compile(r"[A-Za-z_][\w\-']*(?:\.[A-Za-z_][\w\-']*)?|◌[^\s◌]+◌")
 
 
 class Definition:
-    """A definition of `specs/`: its home (crate and module), its name, and its lines without comments."""
+    """A definition of `specs/`: its home (crate and module), its name, the comment above it, and its lines without comments."""
 
-    def __init__(self, crate: str, module: str, name: str) -> None:
-        self.crate, self.module, self.name = crate, module, name
+    def __init__(self, crate: str, module: str, name: str, comment: str) -> None:
+        self.crate, self.module, self.name, self.comment = crate, module, name, comment
         self.lines: list[str] = []
 
 
@@ -72,10 +65,19 @@ def imports_of(text: str) -> tuple[dict[str, tuple[str, str]], dict[str, tuple[s
 def definitions_in(crate: str, module: str, text: str) -> list[Definition]:
     """The definitions of a file of `specs/`, in order."""
     found: list[Definition] = []
+    comment: list[str] = []
+    told = ""
     for line in text.split("\n"):
+        if line.startswith("--"):
+            comment.append(line.lstrip("- ").strip())
+        elif line.startswith(("use ", "pub use ")):
+            comment = []
         head = HEAD.match(line)
         if head:
-            found.append(Definition(crate, module, head[1]))
+            # What stands without a comment belongs to the definition above it.
+            told = " ".join(comment) or told
+            comment = []
+            found.append(Definition(crate, module, head[1], told))
         elif not line.strip() or line.startswith(("--", "use ", "pub use ", "pub mod ", "infix")):
             continue
         if found and line.strip() and not line.strip().startswith("--"):
@@ -149,55 +151,149 @@ def needed() -> list[tuple[str, list[Definition]]]:
     return stages
 
 
-def table() -> str:
-    """A row for each stage and file: its definitions that count, and their lines."""
-    order = [line.split(":")[0].split()[0] for line in (TOP / "crates.txt").read_text().split("\n") if line and line[0] != "#"]
-    rows = ["| For | File | Lines | Definitions |", "|---|---|---|---|"]
-    total = count = 0
-    for stage, found in needed():
+# The pages.
+
+MADE = "<!-- made by checks/run definitions write: change the sources, not this page -->"
+
+
+def ranks() -> dict[str, int]:
+    """The place of each crate in the order of crates.txt."""
+    lines = (TOP / "crates.txt").read_text().split("\n")
+    return {line.split(":")[0]: place for place, line in enumerate(lines) if line and line[0] != "#"}
+
+
+def cell(text: str) -> str:
+    """A text as the cell of a table."""
+    return re.sub(r"\s+", " ", text).replace("|", "\\|").replace("<", "&lt;").strip()
+
+
+def statement() -> str:
+    """The page of the definitions: a table for each command and file, whose rows are definitions that share a comment."""
+    rank = ranks()
+    stages = needed()
+    total = sum(len(it.lines) for _, found in stages for it in found)
+    count = sum(len(found) for _, found in stages)
+    parts = [
+        f"# The statement, definition by definition\n\n{MADE}\n\n"
+        f"The theorem of [PROOF.md](PROOF.md) rests on these {count} definitions, {total} lines without comments. Each is listed under the "
+        "first command that needs it, with the comment above it in its file. Names of one row share a comment.\n"
+    ]
+    for stage, found in stages:
         files: dict[tuple[str, str], list[Definition]] = {}
         for it in found:
             files.setdefault((it.crate, it.module), []).append(it)
-        lines = sum(len(it.lines) for it in found)
-        total, count = total + lines, count + len(found)
-        rows.append(f"| {stage} | | {lines} | {len(found)} definitions |")
-        for crate, module in sorted(files, key=lambda it: (order.index(it[0]), it[1])):
-            its = files[crate, module]
+        title = "The clauses themselves" if stage == "all" else stage
+        parts.append(f"## {title}\n\n{len(found)} definitions, {sum(len(it.lines) for it in found)} lines.\n")
+        for crate, module in sorted(files, key=lambda it: (rank[it[0]], it[1])):
             path = f"crates/{crate}/specs/{module.replace('.', '/')}.antt"
-            names = ", ".join(sorted(f"`{it.name}`" for it in its))
-            rows.append(f"| | [{crate} {module}](../{path}) | {sum(len(it.lines) for it in its)} | {names} |")
-    rows.append(f"| together | | {total} | {count} definitions |")
-    return "\n".join(rows) + "\n"
+            rows: dict[str, list[str]] = {}
+            for it in by_place(files[crate, module]):
+                rows.setdefault(it.comment, []).append(f"`{it.name}`")
+            lines = [f"| {', '.join(names)} | {cell(comment)} |" for comment, names in rows.items()]
+            parts.append("\n".join([f"| [{crate} {module}](../{path}) | |", "|---|---|", *lines]) + "\n")
+    return "\n".join(parts)
 
 
-def words() -> str:
-    """The definitions of the quoted files, without what they import, each file under its path."""
-    parts = []
-    for path in QUOTED:
-        lines = (CRATES / path).read_text().split("\n")
-        # The first lines say what the file is for.
-        while lines[0].startswith("--"):
-            del lines[0]
-        body = "\n".join(line for line in lines if not line.startswith("use ")).strip()
-        indented = "\n".join(f"    {line}".rstrip() for line in body.split("\n"))
-        parts.append(f"[`crates/{path}`](../crates/{path})\n\n{indented}\n")
+def by_place(found: list[Definition]) -> list[Definition]:
+    """Definitions of one file in its order."""
+    text = (CRATES / found[0].crate / "specs" / (found[0].module.replace(".", "/") + ".antt")).read_text()
+    order = [head[1] for line in text.split("\n") if (head := HEAD.match(line))]
+    return sorted(found, key=lambda it: order.index(it.name))
+
+
+@dataclass(frozen=True)
+class Call:
+    """A public call with a contract: its name with its type, whether it is a law, and the first sentence of its comment."""
+
+    name: str
+    is_law: bool
+    comment: str
+
+
+OWNER = re.compile(r"^(?:pub )?(?:unsafe )?(?:trait (\w+)|impl(?:<[^{]*?>)? (?:\w+(?:<[^{]*?>)? for )?(\w+))")
+
+
+def calls_in(path: Path) -> list[Call]:
+    """The public calls of a source file that have clauses of what they ensure, in order. What a trait asks for is told by the trait."""
+    found: list[Call] = []
+    owner, is_trait, comment = "", False, []
+    lines = path.read_text().split("\n")
+    for place, line in enumerate(lines):
+        if re.match(r"^(pub )?(impl|trait|unsafe impl)\b", line):
+            named = OWNER.match(line)
+            owner, is_trait = (named[1] or named[2], bool(named[1])) if named else ("", False)
+        elif line.startswith("}"):
+            owner, is_trait = "", False
+        head = re.match(r"^( {4})?(pub )?(?:unsafe )?fn (\w+)", line)
+        if line.strip().startswith("///"):
+            comment.append(line.strip()[3:].strip())
+        elif head and (head[2] or (is_trait and head[1])):
+            contract = contract_from(lines[place:])
+            if re.search(r"\bensures\b", contract):
+                name = f"{owner}::{head[3]}" if head[1] and owner else head[3]
+                told = re.split(r"(?<=[.])\s", " ".join(comment))[0]
+                found.append(Call(name, "::" not in name and contract.endswith("{}"), told))
+            comment = []
+        elif line.strip() and not line.strip().startswith(("#[", "//")):
+            comment = []
+    return found
+
+
+def contract_from(lines: list[str]) -> str:
+    """The signature and the clauses of the function that begins here, up to its body."""
+    kept: list[str] = []
+    for line in lines:
+        kept.append(line)
+        if re.fullmatch(r"\s*\{\}?", line) or line.rstrip().endswith(";"):
+            break
+    return "\n".join(kept).rstrip()
+
+
+def contracts() -> str:
+    """The page of the crates."""
+    parts = [
+        f"# Crate by crate\n\n{MADE}\n\n"
+        "What each crate is for, by the first lines of its `lib.rt`; its laws, by their comments; and its calls that have a contract. The clauses "
+        "stand at the calls. [PROOF.md](PROOF.md#crate-by-crate) says what proved means.\n"
+    ]
+    for crate in ranks():
+        lib = CRATES / crate / "src" / "lib.rt"
+        if not lib.exists():
+            continue
+        head = [line[3:].strip() for line in lib.read_text().split("\n") if line.startswith("//!")]
+        first = " ".join(head[: head.index("")] if "" in head else head)
+        parts.append(f"## {crate}\n\n[`{crate}`](../crates/{crate}/src/lib.rt): {first}\n")
+        lines: list[str] = []
+        for path in sorted((CRATES / crate / "src").rglob("*.rt")):
+            found = calls_in(path)
+            link = f"[{path.relative_to(CRATES / crate / 'src')}](../{path.relative_to(TOP)})"
+            names = ", ".join(f"`{it.name}`" for it in found if not it.is_law)
+            if names:
+                lines.append(f"- {link}: {names}")
+            for it in found:
+                if it.is_law:
+                    told = re.sub(r"^A law: (.)", lambda word: word[1].upper(), it.comment)
+                    lines.append(f"- `{it.name}` in {link}: {told.replace('<', '&lt;')}")
+        if lines:
+            parts.append("\n".join(lines) + "\n")
     return "\n".join(parts)
 
 
 def main() -> int:
-    """Prints the table or the words, or compares both with the page."""
-    asked = sys.argv[1] if len(sys.argv) == 2 else ""
-    if asked in ("table", "words"):
-        print(table() if asked == "table" else words(), end="")
+    """Writes the pages, or compares them."""
+    asked = sys.argv[1:]
+    made = {STATEMENT: statement(), CONTRACTS: contracts()}
+    if asked == ["write"]:
+        for page, text in made.items():
+            page.write_text(text)
         return 0
-    if asked != "check":
+    if asked not in ([], ["check"]):
         print(__doc__, file=sys.stderr)
         return 2
-    page = PAGE.read_text()
-    wrong = [what for what, text in (("table", table()), ("words", words())) if text not in page]
-    for what in wrong:
-        print(f"docs/PROOF.md does not have what `checks/run definitions {what}` prints: paste that in place of the old text")
-    print(f"{2 - len(wrong)} passed, {len(wrong)} failed")
+    wrong = [page for page, text in made.items() if not page.exists() or page.read_text() != text]
+    for page in wrong:
+        print(f"{page.relative_to(TOP)} is not what the sources give: `checks/run definitions write` makes it anew")
+    print(f"{len(made) - len(wrong)} passed, {len(wrong)} failed")
     return int(bool(wrong))
 
 

@@ -204,7 +204,6 @@ LIMITS: dict[str, list[Place]] = {
         Constant(PACKAGE, "WINDOW"),
         Said("docs/PROTOCOL.md", "numbers"), Said(TERMS, "unanswered"), Said(RELAY, "numbers or more are unanswered"),
         Said(RELAY, "offers are unanswered"), Said(RELAY, r"up to \w+ unanswered"), Said("docs/LIVE.md", "offers are unanswered"),
-        Said("docs/PROOF.md", r"refused exactly if \w+ are unanswered"),
     ],
     "PRICE_LIMIT": [
         *both(f"{BASIS}/min"), *both(f"{BASIS}/max"), *both(f"{POINT}/0"), Constant(SCENE, "MOST"), Constant(FRAMES, "MOST"),
