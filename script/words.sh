@@ -5,6 +5,7 @@
 #   pages      where to read more: docs/CLUSTER_FILE.md, or `man market` when installed
 #   example    a cluster file: examples/village.json, or its place when installed
 #   installed  `yes` when installed: the lines on proving are then left out. If not, `tell_program` prints where the program is from
+# Tables are made of script/refusals.toml and script/statuses.toml by `checks/run places write`.
 # shellcheck shell=bash
 : "${called:=./market}" "${pages:=docs/CLUSTER_FILE.md}" "${example:=examples/village.json}" "${installed:=}"
 
@@ -12,6 +13,23 @@
 say() {
     printf 'market: %s\n' "$*" >&2
 }
+
+# Prints a line for each exit status.
+# table help
+help_statuses() {
+    cat <<END_OF_TABLE
+  0  the text was written
+  1  of check: the trace is wrong$([ "$installed" = yes ] || echo "; else nothing ran, and a line says why")
+  2  the arguments are no command
+  3  standard input could not be read
+  4  the input is too long
+  5  the input is refused: help refusals says why
+  6  standard output did not take the whole text
+  7  memory did not suffice
+  8  the arguments are not UTF-8
+END_OF_TABLE
+}
+# table end
 
 # Prints the help.
 help_text() {
@@ -53,15 +71,7 @@ END_OF_HELP
     cat <<END_OF_HELP
 
 Exit status:
-  0  the text was written
-  1  of check: the trace is wrong$([ "$installed" = yes ] || echo "; else nothing ran, and a line says why")
-  2  the arguments are no command
-  3  standard input could not be read
-  4  the input is too long
-  5  the input is refused: help refusals says why
-  6  standard output did not take the whole text
-  7  memory did not suffice
-  8  the arguments are not UTF-8
+$(help_statuses)
 
 END_OF_HELP
     if [ "$installed" = yes ]; then
@@ -73,6 +83,7 @@ END_OF_HELP
 }
 
 # Prints a line for each code of a refusal: the code, what it means and what to do, with bars between.
+# table refusals
 refusals() {
     cat <<'END_OF_TABLE'
 1|the input is not UTF-8 or not JSON|mend the JSON, for instance where the file was cut
@@ -102,6 +113,7 @@ refusals() {
 25|ask: a line behind the file is no target|give whole numbers of watts, one a line, at most 100,000
 END_OF_TABLE
 }
+# table end
 
 # Sets `meaning` and `remedy` for the code of a refusal. Its status is 1 if there is no such code.
 find_refusal() {
@@ -130,6 +142,7 @@ help_refusal() {
 }
 
 # Says what happened if the program ended with this status, for those with which it writes no line.
+# table statuses
 tell_status() {
     case "$1" in
         3) say "standard input could not be read: give it a file, as in $called run < $example" ;;
@@ -138,6 +151,7 @@ tell_status() {
         8) say "the arguments are not text: write them in UTF-8" ;;
     esac
 }
+# table end
 
 # Says what a refusal means, by its code; if the code is not known here, where to look it up.
 tell_refusal() {

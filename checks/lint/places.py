@@ -1,8 +1,8 @@
-"""Whether every place that repeats a limit of the market, or a kind of node, has it as the code has it.
+"""Whether every place that repeats a limit of the market, a kind of node, a refusal or an exit status has it as its home has it.
 
 The limits are the constants of the sources, and the kinds are those that the reader of cluster files names, with the members
 that it asks for. The places are those of the checklists of CONTRIBUTING.md: the schema, the manual page, the oracle, what makes
-inputs, the pictures, the pages. Prints a line for each place that lacks a limit or a kind, or has another number or another
+inputs, the pictures, the pages. checks/lint/facts.py writes those that can be made. Prints a line for each place that lacks a limit or a kind, or has another number or another
 member, and ends with 'N passed, M failed'.
 """
 
@@ -17,33 +17,17 @@ from types import ModuleType
 from typing import Any
 
 from checks import TOP
-
-CRATES = TOP / "crates"
-# Crates in which a constant is no limit of the market: tests, and the gates that try runs.
-OTHERS = {"pm_gates", "pm_parts", "pm_played", "pm_threaded", "pm_whole", "pm_worked"}
-CONSTANT = re.compile(r"^(?:pub(?:\(crate\))? )?const (\w+): [iu]\w+ = ([\d_]+);", re.M)
-IS_LIMIT = re.compile(r"(?:LEAST|MOST|MAX)_|.*_LIMIT$|WINDOW_SIZE$")
-# The most bytes of the input of a command, in the function that tells it.
-INPUT_LIMIT = re.compile(r"FileCommand::(Run|Ask|Check)\b[^=\n]*=> ([\d_]+),")
+from checks.lint import facts
+from checks.lint.facts import CRATES, Unreadable, limits, text_of
 
 SCHEMA = "cluster.schema.json"
 MANUAL = "market.1"
 PAGE = "docs/CLUSTER_FILE.md"
-TERMS = "docs/DEFINITIONS.md"
 RELAY = "docs/RELAY.md"
 CLASSES = "docs/PYTHON.md"
 SCENE = "checks/oracle/scene.py"
-ORACLE = "checks/oracle/oracle.py"
-JUDGE = "checks/oracle/judge.py"
-FRAMES = "checks/oracle/frames.py"
-LIVE = "checks/oracle/nodes.py"
-CUTS = "checks/oracle/cuts.py"
 MEMBERS = "checks/make/members.py"
-CASES = "checks/make/cases.py"
-LARGE = "checks/make/limits.py"
-JOURNALS = "checks/make/journals.py"
 AUCTION = "checks/oracle/auction.py"
-PACKAGE = "python/cogmaula/limits.py"
 NAMES = "python/cogmaula/__init__.py"
 NODES = "python/cogmaula/nodes.py"
 STATES = "python/cogmaula/states.py"
@@ -54,11 +38,6 @@ GUIDE = "CONTRIBUTING.md"
 WORDS = {6: "six", 7: "seven", 8: "eight", 9: "nine", 10: "ten", 12: "twelve", 16: "sixteen"}
 
 HEATED = ("freezer", "heat_pump", "cogeneration")
-
-
-@cache
-def text_of(path: str) -> str:
-    return (TOP / path).read_text()
 
 
 @cache
@@ -73,27 +52,6 @@ def module(path: str) -> ModuleType:
 
 
 # Places of a limit.
-
-
-@dataclass(frozen=True)
-class Constant:
-    """A number of a module: a constant, or what stands in it under these keys and places."""
-
-    path: str
-    name: str
-    keys: tuple[str | int, ...] = ()
-
-    def findings(self, limit: str, number: int) -> Iterator[str]:
-        where = self.name + "".join(f"[{it!r}]" for it in self.keys)
-        try:
-            found = getattr(module(self.path), self.name)
-            for it in self.keys:
-                found = found[it]
-        except (AttributeError, IndexError, KeyError):
-            yield f"{self.path} has no {where}, which repeats {limit}"
-            return
-        if found != number:
-            yield f"{self.path} has {found} as {where}, and {limit} is {number}"
 
 
 @dataclass(frozen=True)
@@ -164,7 +122,7 @@ def sentences(path: str) -> list[str]:
     return [re.sub(r"\s+", " ", it) for block in blocks for it in re.split(r"(?<=[.;:])\s", block)]
 
 
-Place = Constant | Bound | Said
+Place = Bound | Said
 BASIS = "$defs/basis/properties"
 DEMAND = "$defs/demand/items"
 POINT = "$defs/points/items/prefixItems"
@@ -179,125 +137,45 @@ def both(path: str) -> list[Place]:
     return [Bound(f"{path}/minimum", negative), Bound(f"{path}/maximum")]
 
 
-# The places of each limit, besides the specs/ of its crate, which contracts compare.
+# The places of each limit that no script writes, besides the specs/ of its crate, which contracts compare.
 LIMITS: dict[str, list[Place]] = {
-    "LEAST_STEPS": [
-        Bound(f"{BASIS}/steps/minimum"), Bound("$defs/demand/minItems"), Constant(SCENE, "STEPS", (0,)),
-        Constant(FRAMES, "STEPS", (0,)), Constant(MEMBERS, "STEPS", (0,)), Said(PAGE, "steps"),
-        Said(TERMS, "steps of a market basis"),
-    ],
-    "MOST_STEPS": [
-        Bound(f"{BASIS}/steps/maximum"), Bound("$defs/demand/maxItems"), Constant(SCENE, "STEPS", (1,)),
-        Constant(FRAMES, "STEPS", (1,)), Constant(MEMBERS, "STEPS", (1,)), Constant(LARGE, "STEPS"), Said(PAGE, "steps"),
-        Said(TERMS, "steps of a market basis"),
-    ],
-    "MOST_NODES": [
-        Bound("properties/nodes/maxItems"), Constant(SCENE, "NODES"), Constant(FRAMES, "CHILDREN"), Constant(LARGE, "NODES"),
-        Constant(PACKAGE, "MOST_NODES"),
-        Said(PAGE, "nodes"), Said("docs/SERVE.md", "child"), Said(TERMS, "nodes of a cluster"),
-    ],
-    "MOST_DEPTH": [
-        Constant(SCENE, "DEPTH"), Constant(LARGE, "DEPTH"), Constant(PACKAGE, "MOST_DEPTH"), Said(PAGE, "concentrators"), Said(TERMS, "on a path to"),
-    ],
+    "LEAST_STEPS": [Bound(f"{BASIS}/steps/minimum"), Bound("$defs/demand/minItems"), Said(PAGE, "steps")],
+    "MOST_STEPS": [Bound(f"{BASIS}/steps/maximum"), Bound("$defs/demand/maxItems"), Said(PAGE, "steps")],
+    "MOST_NODES": [Bound("properties/nodes/maxItems"), Said(PAGE, "nodes"), Said("docs/SERVE.md", "child")],
+    "MOST_DEPTH": [Said(PAGE, "concentrators")],
     "WINDOW_SIZE": [
-        Constant(JUDGE, "WINDOW"), Constant(JOURNALS, "WINDOW"), Constant(LIVE, "WINDOW"), Constant(CUTS, "WINDOW"),
-        Constant(PACKAGE, "WINDOW"),
-        Said("docs/PROTOCOL.md", "numbers"), Said(TERMS, "unanswered"), Said(RELAY, "numbers or more are unanswered"),
-        Said(RELAY, "offers are unanswered"), Said(RELAY, r"up to \w+ unanswered"), Said("docs/LIVE.md", "offers are unanswered"),
+        Said("docs/PROTOCOL.md", "numbers"), Said(RELAY, "numbers or more are unanswered"), Said(RELAY, "offers are unanswered"),
+        Said(RELAY, r"up to \w+ unanswered"), Said("docs/LIVE.md", "offers are unanswered"),
     ],
-    "PRICE_LIMIT": [
-        *both(f"{BASIS}/min"), *both(f"{BASIS}/max"), *both(f"{POINT}/0"), Constant(SCENE, "MOST"), Constant(FRAMES, "MOST"),
-        Constant(MEMBERS, "BASIS", ("max", 1, 0)), Constant(LARGE, "MOST"), Said(PAGE, "min below max"),
-        Said(TERMS, "a price, and a single demand"),
-    ],
-    "DEMAND_LIMIT": [
-        *both(DEMAND), *both(f"{POINT}/1"), Constant(SCENE, "MOST"), Constant(FRAMES, "MOST"), Constant(ORACLE, "MOST_WATTS"),
-        Constant(PACKAGE, "MOST_TARGET"),
-        Constant(MEMBERS, "LARGE"), Constant(LARGE, "MOST"), Said(PAGE, "demand"), Said("docs/SERVE.md", "demand"),
-        Said(TERMS, "a price, and a single demand"),
-    ],
-    "SUM_LIMIT": [
-        Bound("node limited/floor/minimum", negative), Bound("node limited/ceiling/maximum"), Constant(SCENE, "SUM"),
-        Constant(MEMBERS, "SUM"), Constant(LARGE, "SUM"), Said(PAGE, "floor.*ceiling"), Said(TERMS, "a sum"),
-    ],
-    "MOST_PHASES": [
-        Bound("properties/phases/maxItems"), Constant(SCENE, "PHASES"), Constant(LARGE, "PHASES"), Said(PAGE, "phases"),
-        Said(TERMS, "phases of a run"),
-    ],
-    "MOST_EVENTS": [
-        Bound("$defs/events/properties/events/maxItems"), Constant(SCENE, "EVENTS"), Constant(LARGE, "EVENTS"),
-        Constant(PACKAGE, "MOST_EVENTS"),
-        Said(PAGE, "events"), Said(TERMS, "events of a phase"),
-    ],
-    "MOST_CHANGES": [
-        Constant(SCENE, "CHANGES"), Constant(LARGE, "CHANGES"), Constant(PACKAGE, "MOST_CHANGES"), Said(PAGE, "changes"), Said(TERMS, "changes of a run"),
-    ],
+    "PRICE_LIMIT": [*both(f"{BASIS}/min"), *both(f"{BASIS}/max"), *both(f"{POINT}/0"), Said(PAGE, "min below max")],
+    "DEMAND_LIMIT": [*both(DEMAND), *both(f"{POINT}/1"), Said(PAGE, "demand"), Said("docs/SERVE.md", "demand")],
+    "SUM_LIMIT": [Bound("node limited/floor/minimum", negative), Bound("node limited/ceiling/maximum"), Said(PAGE, "floor.*ceiling")],
+    "MOST_PHASES": [Bound("properties/phases/maxItems"), Said(PAGE, "phases")],
+    "MOST_EVENTS": [Bound("$defs/events/properties/events/maxItems"), Said(PAGE, "events")],
+    "MOST_CHANGES": [Said(PAGE, "changes")],
     "TEMPERATURE_LIMIT": [
-        *(it for member in ("low", "high") for it in both(f"node/{member}")),
-        *(it for kind in HEATED for it in both(f"node {kind}/start")), Constant(SCENE, "TEMPERATURE", (1,)),
-        Constant(MEMBERS, "WARMTH", (1, 1)), Constant(AUCTION, "TEMPERATURE"), Constant(PACKAGE, "MOST_TEMPERATURE"), Said(PAGE, "low, high"),
+        *(it for member in ("low", "high") for it in both(f"node/{member}")), *(it for kind in HEATED for it in both(f"node {kind}/start")),
+        Said(PAGE, "low, high"),
     ],
-    "CHANGE_LIMIT": [
-        *(Bound(f"node/{member}/maximum") for member in ("warm", "cool", "loss", "gain")), Constant(SCENE, "RATE", (1,)),
-        Constant(MEMBERS, "CHANGE", (1, 1)), Said(PAGE, "warm, cool, loss"),
-    ],
+    "CHANGE_LIMIT": [*(Bound(f"node/{member}/maximum") for member in ("warm", "cool", "loss", "gain")), Said(PAGE, "warm, cool, loss")],
     "POWER_LIMIT": [
         *(Bound(f"node/{member}/maximum") for member in ("power", "charge", "discharge")),
         *(Bound(f"node {kind}/start/maximum") for kind in ("solar", "load")), *both("node objective/start"),
-        Constant(SCENE, "POWER", (1,)), Constant(MEMBERS, "POWER", (1, 1)), Constant(MEMBERS, "TARGET", (1, 1)),
         Said(PAGE, "power, charge, discharge"), Said(PAGE, "start of an objective"),
     ],
-    "CAPACITY_LIMIT": [
-        Bound("node battery/capacity/maximum"), Bound("node battery/start/maximum"), Constant(SCENE, "LIMITS", ("capacity", 1)),
-        Constant(MEMBERS, "KINDS", ("battery", "capacity", 1, 1)), Said(PAGE, "capacity"),
-    ],
-    "SPREAD_LIMIT": [
-        Bound("node battery/spread/maximum"), Constant(SCENE, "LIMITS", ("spread", 1)), Constant(MEMBERS, "SPREAD"),
-        Said(PAGE, r"spread \| 0 to"),
-    ],
-    "MINUTES_LIMIT": [
-        Bound("$defs/tick/properties/tick/maximum"), Constant(SCENE, "MINUTES", (1,)), Constant(LARGE, "MINUTES"),
-        Said(PAGE, "minutes"),
-    ],
-    "MAX_POINTS": [Bound("$defs/points/maxItems"), Constant(SCENE, "POINTS"), Said(PAGE, "points")],
-    "MAX_NAME_BYTES": [
-        Constant(SCENE, "NAME_BYTES"), Constant(PACKAGE, "MOST_NAME_BYTES"), Said(PAGE, "[Nn]ame.*bytes"),
-    ],
-    "FILE_LIMIT": [
-        Constant(ORACLE, "FILE_LIMIT"), Constant(JUDGE, "FILE_LIMIT"), Constant(CASES, "LIMIT"), Said(MANUAL, "bytes"),
-        Constant(PACKAGE, "MOST_BYTES"), Said(PAGE, "bytes"),
-    ],
-    "the input limit of Run": [Constant(CASES, "LIMIT"), Said(MANUAL, "bytes"), Said(PAGE, "too long")],
-    "the input limit of Ask": [
-        Constant(ORACLE, "ASK_LIMIT"), Constant(CASES, "ASK_LIMIT"), Said(MANUAL, r"ask|8,388|bytes"), Said(PAGE, "ask.*bytes"),
-        Said(PAGE, "too long"),
-    ],
-    "the input limit of Check": [
-        Constant(JUDGE, "INPUT_LIMIT"), Constant(CASES, "CHECK_LIMIT"), Said(MANUAL, "check|bytes"), Said(PAGE, "check.*bytes"),
-        Said(PAGE, "too long"),
-    ],
-    "MOST_TARGETS": [
-        Constant(ORACLE, "TARGETS"), Constant(CASES, "MOST_TARGETS"), Constant(PACKAGE, "MOST_TARGETS"), Said(MANUAL, "target"), Said(PAGE, "target"),
-    ],
-    "STREAM_LIMIT": [Constant(FRAMES, "LIMIT"), Said(MANUAL, "serve|bytes"), Said("docs/SERVE.md", "bytes")],
+    "CAPACITY_LIMIT": [Bound("node battery/capacity/maximum"), Bound("node battery/start/maximum"), Said(PAGE, "capacity")],
+    "SPREAD_LIMIT": [Bound("node battery/spread/maximum"), Said(PAGE, r"spread \| 0 to")],
+    "MINUTES_LIMIT": [Bound("$defs/tick/properties/tick/maximum"), Said(PAGE, "minutes")],
+    "MAX_POINTS": [Bound("$defs/points/maxItems"), Said(PAGE, "points")],
+    "MAX_NAME_BYTES": [Said(PAGE, "[Nn]ame.*bytes")],
+    "FILE_LIMIT": [Said(MANUAL, "bytes"), Said(PAGE, "bytes")],
+    "INPUT_RUN": [],
+    "INPUT_ASK": [Said(PAGE, "ask.*bytes")],
+    "INPUT_CHECK": [Said(PAGE, "check.*bytes")],
+    "MOST_TARGETS": [Said(MANUAL, "target"), Said(PAGE, "target")],
+    "STREAM_LIMIT": [],
     "MAX_SIZE": [Said(MANUAL, "devices"), Said(PAGE, "devices|SIZE")],
 }
-
-
-def limits() -> dict[str, tuple[int, str]]:
-    """Each limit of the sources, with its number and its file."""
-    found: dict[str, tuple[int, str]] = {}
-    for file in sorted(CRATES.glob("*/src/**/*.rt")):
-        path = str(file.relative_to(TOP))
-        if file.relative_to(CRATES).parts[0] not in OTHERS:
-            text = text_of(path)
-            for name, number in CONSTANT.findall(text):
-                if IS_LIMIT.match(name):
-                    found[name] = int(number), path
-            if "fn input_limit" in text:
-                for name, number in INPUT_LIMIT.findall(text):
-                    found[f"the input limit of {name}"] = int(number), path
-    return found
 
 
 def wrong_limits() -> Iterator[tuple[str, list[str]]]:
@@ -324,10 +202,6 @@ class Kind:
     variant: str
     forms: tuple[frozenset[str], ...]
     is_device: bool
-
-
-class Unreadable(Exception):
-    """What the sources no longer have in the form that is read here."""
 
 
 @cache
@@ -405,8 +279,6 @@ def kind_places(kind: Kind, ticks: bool) -> Iterator[str]:
         yield f"{AUCTION} has {kind.word} {'among' if kind.is_device else 'not among'} its CONCENTRATORS"
     if ticks != (kind.word in module(AUCTION).TICKING):
         yield f"{AUCTION} has {kind.word} {'not among' if ticks else 'among'} the kinds that are TICKING"
-    if kind.is_device and not re.search(rf"(?m)^\|.*\b{kind.word.replace('_', ' ')}\b", text_of(TERMS)):
-        yield f"{TERMS} has no row of the kind {kind.word.replace('_', ' ')}"
     if kind.is_device and f'"{kind.word}"' not in text_of(VILLAGE):
         yield f"{VILLAGE} has no device of the kind {kind.word}"
     yield from page_places(kind, ticks)
@@ -473,7 +345,7 @@ def wrong_kinds() -> Iterator[tuple[str, list[str]]]:
 # The checklists.
 
 CHECKLISTS = {
-    "To add a kind of device": [SCHEMA, MANUAL, PAGE, TERMS, SCENE, MEMBERS, AUCTION, NODES, NAMES, CLASSES, STATES, VILLAGE],
+    "To add a kind of device": [SCHEMA, MANUAL, PAGE, SCENE, MEMBERS, AUCTION, NODES, NAMES, CLASSES, STATES, VILLAGE],
     "To change a limit": sorted(
         {SCHEMA if isinstance(it, Bound) else it.path for places in LIMITS.values() for it in places}
     ),
@@ -488,9 +360,16 @@ def wrong_checklists() -> Iterator[tuple[str, list[str]]]:
 
 
 def main() -> int:
+    """Writes what can be made, or compares all."""
+    if sys.argv[1:] == ["write"]:
+        facts.write()
+        return 0
+    if sys.argv[1:]:
+        print("usage: checks/run places [write]", file=sys.stderr)
+        return 2
     passed, failed = 0, 0
     try:
-        for _, findings in [*wrong_limits(), *wrong_kinds(), *wrong_checklists()]:
+        for _, findings in [*facts.wrong(), *wrong_limits(), *wrong_kinds(), *wrong_checklists()]:
             for it in findings:
                 print(it)
             failed += len(findings)

@@ -8,6 +8,10 @@ import tempfile
 from dataclasses import dataclass
 
 from checks import CASES, TOP
+from checks.facts import DONE, MOST_TARGETS, READ_FAULT, REFUSED, TOO_LONG, USAGE, WRITE_FAULT
+from checks.facts import FILE_LIMIT as LIMIT
+from checks.facts import INPUT_ASK as ASK_LIMIT
+from checks.facts import INPUT_CHECK as CHECK_LIMIT
 from checks.make import members, streams
 from checks.make.limits import CHANGES, EVENTS, NODES, PHASES
 from checks.oracle.accounts import bill_of
@@ -16,14 +20,8 @@ from checks.oracle.targets import answers_of, envelope
 EXAMPLES = TOP / "examples"
 # The text of each command on the example NAME.json stands beside it, under NAME with this ending.
 TEXTS = {"run": ".txt", "free": ".txt"}
-LIMIT = 4_194_304
-ASK_LIMIT = 8_388_608
-CHECK_LIMIT = 536_870_912
-MOST_TARGETS = 100_000
 # Targets that each file is asked for, in watts.
 TARGETS = [0, 1, -1, 100, -60, 2500, -2500, 1_000_000_000, -1_000_000_000]
-
-DONE, USAGE, READ_FAULT, TOO_LONG, REFUSED, WRITE_FAULT = 0, 2, 3, 4, 5, 6
 
 
 @dataclass

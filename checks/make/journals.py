@@ -4,8 +4,10 @@ are legal, the line behind them that is missing."""
 import json
 from dataclasses import dataclass
 
+from checks.facts import WINDOW_SIZE
+
 # How many numbers of a concentrator may be unanswered.
-WINDOW = 8
+WINDOW = WINDOW_SIZE
 
 
 @dataclass

@@ -2,8 +2,15 @@
 
 import json
 
-NODES, DEPTH, STEPS, PHASES, EVENTS, CHANGES, MINUTES, MOST = 256, 6, 1_000, 1_000, 4_096, 20_000, 1_440, 1_000_000_000
-SUM = NODES * MOST
+from checks.facts import DEMAND_LIMIT as MOST
+from checks.facts import MINUTES_LIMIT as MINUTES
+from checks.facts import MOST_CHANGES as CHANGES
+from checks.facts import MOST_DEPTH as DEPTH
+from checks.facts import MOST_EVENTS as EVENTS
+from checks.facts import MOST_NODES as NODES
+from checks.facts import MOST_PHASES as PHASES
+from checks.facts import MOST_STEPS as STEPS
+from checks.facts import SUM_LIMIT as SUM
 
 
 def chain():

@@ -3,8 +3,10 @@ a member is there that is not known. The table of limits is written from docs/CL
 
 import json
 
-SMALL, LARGE = 1_000_000, 1_000_000_000
-SUM, SPREAD, STEPS = 256 * LARGE, 1_000, (2, 1_000)
+from checks import facts
+
+SMALL, LARGE, SUM, SPREAD = facts.CHANGE_LIMIT, facts.POWER_LIMIT, facts.SUM_LIMIT, facts.SPREAD_LIMIT
+STEPS = (facts.LEAST_STEPS, facts.MOST_STEPS)
 
 # For each member of a kind a value that is right, values at its limits, and values past them.
 CHANGE = (10, [0, SMALL], [-1, SMALL + 1])

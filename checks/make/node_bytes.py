@@ -3,9 +3,10 @@
 import struct
 
 from checks.make.streams import CLEAR, NOT_CHANGED, bid, gone, hello, old
-from checks.oracle.frames import REFUSED
+from checks.facts import DEMAND_LIMIT as MOST
+from checks.facts import REFUSED
 
-MOST, LAST_NUMBER = 1_000_000_000, 4_294_967_295
+LAST_NUMBER = 4_294_967_295
 SEND, WINDOW_FULL, LEAVE, NOT_CAUGHT_UP, OUT_OF_NUMBERS = (bytes([it]) for it in (9, 10, 14, 17, 18))
 USAGE_LINE = b"usage: live relay CHILD FLOOR CEILING [GIVER] | live auctioneer | live device CHILD\n"
 # The basis of a plain `hello()`: the least and the greatest price, and the number of steps.

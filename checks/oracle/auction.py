@@ -3,10 +3,10 @@
 from dataclasses import dataclass
 from itertools import zip_longest
 
+from checks.facts import TEMPERATURE_LIMIT as TEMPERATURE
+
 CONCENTRATORS = ("concentrator", "limited")
 TICKING = ("freezer", "heat_pump", "cogeneration", "battery")
-# The largest absolute value of a temperature.
-TEMPERATURE = 1_000_000
 
 
 class Misfit(Exception):

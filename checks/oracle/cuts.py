@@ -8,11 +8,12 @@ and for the limits of each relay.
 
 from dataclasses import dataclass, field
 
+from checks.facts import WINDOW_SIZE
 from checks.oracle.auction import clearing_step
 from checks.oracle.frames import MOST
 
 # How many numbers of a relay may be unanswered.
-WINDOW = 8
+WINDOW = WINDOW_SIZE
 AUCTIONEER, RELAY, DEVICE, GIVER = "auctioneer", "relay", "device", "giver"
 
 

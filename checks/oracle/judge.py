@@ -13,15 +13,15 @@ those of scene.py. Nothing here knows the program.
 import re
 import sys
 
+from checks.facts import DONE as VALID
+from checks.facts import FILE_LIMIT, INPUT_CHECK, INVALID, REFUSED, TOO_LONG, WINDOW_SIZE
 from checks.oracle.auction import CONCENTRATORS, TICKING, after_tick, bid_of, ends_of, lines_of, parts_at, part_of, prices_of, state_of
 from checks.oracle.scene import Refused, scene_of
 
 ROOT = "auctioneer"
 # The numbers of a concentrator that may lie above the one that the last price passed to it names.
-WINDOW = 8
-FILE_LIMIT = 4_194_304
-INPUT_LIMIT = 536_870_912
-VALID, INVALID, TOO_LONG, REFUSED = 0, 1, 4, 5
+WINDOW = WINDOW_SIZE
+INPUT_LIMIT = INPUT_CHECK
 NUMBER = rb"(0|[1-9][0-9]{0,18})"
 NAME = rb"([A-Za-z][A-Za-z0-9_-]*)"
 # The lines of moves, each with what it names; what a device holds after a price stands behind a `pass`.

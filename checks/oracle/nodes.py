@@ -9,6 +9,7 @@ import re
 import sys
 from dataclasses import dataclass
 
+from checks.facts import WINDOW_SIZE
 from checks.oracle import frames, node_frames
 from checks.oracle.frames import (
     BID, CHILDREN, CLEAR, GONE, HELLO_FORM, MOST, NOT_CHANGED, OLD, Bid, Clear, Gone, Hello, bid, bid_forms, clearing_step, gone, old, sum_of,
@@ -20,7 +21,7 @@ from checks.oracle.node_frames import (
     relay_resume_form, resume_gone, setpoint, too_much,
 )
 
-WINDOW, LAST_NUMBER = 8, 4_294_967_295
+WINDOW, LAST_NUMBER = WINDOW_SIZE, 4_294_967_295
 USAGE_LINE = b"usage: live relay CHILD FLOOR CEILING [GIVER] | live auctioneer | live device CHILD\n"
 
 

@@ -2,17 +2,17 @@
 
 import re
 
+from checks.facts import DEMAND_LIMIT as MOST_WATTS
+from checks.facts import DONE, FILE_LIMIT, REFUSED, TOO_LONG
+from checks.facts import INPUT_ASK as ASK_LIMIT
+from checks.facts import MOST_TARGETS as TARGETS
 from checks.oracle.auction import ends_of, lines_of
 from checks.oracle import judge, stream
 from checks.oracle.accounts import bill_of
 from checks.oracle.scene import Refused, scene_of
 from checks.oracle.targets import answers_of
 
-FILE_LIMIT, ASK_LIMIT = 4_194_304, 8_388_608
-TARGETS = 100_000
 TARGET = re.compile(rb"0|-?[1-9][0-9]{0,9}")
-MOST_WATTS = 1_000_000_000
-DONE, TOO_LONG, REFUSED = 0, 4, 5
 
 
 def report_of(scene):

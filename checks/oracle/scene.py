@@ -4,13 +4,14 @@ import json
 import math
 import re
 
+from checks import facts
 from checks.oracle.auction import CONCENTRATORS, TICKING
 
 NESTING = 127
-MOST = 1_000_000_000
-SUM = 256 * MOST
-NODES, DEPTH, PHASES, EVENTS, CHANGES, POINTS = 256, 6, 1_000, 4_096, 20_000, 64
-STEPS, MINUTES, NAME_BYTES = (2, 1_000), (1, 1_440), 32
+MOST, SUM = facts.DEMAND_LIMIT, facts.SUM_LIMIT
+NODES, DEPTH, PHASES, EVENTS = facts.MOST_NODES, facts.MOST_DEPTH, facts.MOST_PHASES, facts.MOST_EVENTS
+CHANGES, POINTS, NAME_BYTES = facts.MOST_CHANGES, facts.MAX_POINTS, facts.MAX_NAME_BYTES
+STEPS, MINUTES = (facts.LEAST_STEPS, facts.MOST_STEPS), (1, facts.MINUTES_LIMIT)
 NAME = re.compile(r"[A-Za-z][A-Za-z0-9_-]{0,%d}" % (NAME_BYTES - 1))
 STRING = re.compile(r'"(?:[^"\\]|\\.)*"', re.DOTALL)
 
@@ -30,11 +31,11 @@ KINDS = {
     "objective": ("start",),
     "manual": (),
 }
-TEMPERATURE = (-1_000_000, 1_000_000)
-POWER, RATE = (0, MOST), (0, 1_000_000)
+TEMPERATURE = (-facts.TEMPERATURE_LIMIT, facts.TEMPERATURE_LIMIT)
+POWER, RATE = (0, facts.POWER_LIMIT), (0, facts.CHANGE_LIMIT)
 LIMITS = {
     "floor": (-SUM, 0), "ceiling": (0, SUM), "low": TEMPERATURE, "high": TEMPERATURE, "power": POWER, "warm": RATE, "cool": RATE,
-    "loss": RATE, "gain": RATE, "capacity": (1, MOST), "charge": POWER, "discharge": POWER, "spread": (0, 1_000),
+    "loss": RATE, "gain": RATE, "capacity": (1, facts.CAPACITY_LIMIT), "charge": POWER, "discharge": POWER, "spread": (0, facts.SPREAD_LIMIT),
 }
 
 

@@ -1,4 +1,7 @@
-"""What each code of a refusal means and what to do about it, in the words of `market help CODE`."""
+"""What each code of a refusal means and what to do about it, in the words of `market help CODE`, and the rule that it breaks.
+
+Made of script/refusals.toml by `checks/run places write`.
+"""
 
 # By code: the meaning and the remedy. The program's script prints the same words.
 WORDS = {
@@ -26,4 +29,32 @@ WORDS = {
     23: ("the input of check or ask does not begin with the file's length", "write the length in bytes and a line feed before the file"),
     24: ("a frame is bad; a Fault tells its offset", "mend the stream from that byte on"),
     25: ("ask: a line behind the file is no target", "give whole numbers of watts, one a line, at most 100,000"),
+}
+
+# What each code refuses, as a rule.
+RULES = {
+    1: "a cluster file is one JSON value in UTF-8",
+    2: "each member has the type of its row",
+    3: "each object has exactly the members of its row",
+    4: "each object has exactly the members of its row",
+    5: "the version is 1 or 2",
+    6: "the prices lie at equal whole distances from min to max",
+    7: "a name is an ASCII letter, then letters, digits, _ and -",
+    8: "no two nodes have the same name",
+    9: "a parent is the auctioneer or an earlier concentrator",
+    10: "at most 6 concentrators are on a path",
+    11: "a file has at most 256 nodes",
+    12: "a kind is one of the table; limited needs version 2",
+    13: "each number lies within its limits",
+    14: "an event names a device",
+    15: "only a device that is no member joins",
+    16: "only a member leaves or gets a state",
+    17: "demand has one number for each step, none above the one before, each within its limits",
+    18: "points are pairs, with prices that never fall and lie within the basis, and powers that never rise",
+    19: "a state fits the kind of its device",
+    20: "phases, their events and the changes of a run have limits",
+    22: "no limited node is below a limited one",
+    23: "an envelope is the number of a file's bytes, a line feed, the file, and the rest",
+    24: "a stream is a Hello, and then frames with the numbers that the market takes",
+    25: "a target is a whole number of watts in a line of its own",
 }

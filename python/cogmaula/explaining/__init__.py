@@ -9,42 +9,13 @@ from __future__ import annotations
 from collections.abc import Callable
 from dataclasses import dataclass
 
-from .. import schema
 from ..cluster import Source, bytes_of
 from ..errors import Invalid, Refused, TooLong
-from ..limits import MOST_DEPTH
 from ..program import Program, found_program
+from ..refusals import RULES
 from . import inputs, script, shape, tree
 from .finding import File, Finding, number, shortened
 from .located import NoJson, read
-
-# What each code refuses, as a rule.
-RULES = {
-    1: "a cluster file is one JSON value in UTF-8",
-    2: "each member has the type of its row",
-    3: "each object has exactly the members of its row",
-    4: "each object has exactly the members of its row",
-    5: "the version is 1 or 2",
-    6: "the prices lie at equal whole distances from min to max",
-    7: "a name is an ASCII letter, then letters, digits, _ and -",
-    8: "no two nodes have the same name",
-    9: "a parent is the auctioneer or an earlier concentrator",
-    10: f"at most {MOST_DEPTH} concentrators are on a path",
-    11: f"a file has at most {schema.counts_of('document', 'nodes')} nodes",
-    12: "a kind is one of the table; limited needs version 2",
-    13: "each number lies within its limits",
-    14: "an event names a device",
-    15: "only a device that is no member joins",
-    16: "only a member leaves or gets a state",
-    17: "demand has one number for each step, none above the one before, each within its limits",
-    18: "points are pairs, with prices that never fall and lie within the basis, and powers that never rise",
-    19: "a state fits the kind of its device",
-    20: "phases, their events and the changes of a run have limits",
-    22: "no limited node is below a limited one",
-    23: "an envelope is the number of a file's bytes, a line feed, the file, and the rest",
-    24: "a stream is a Hello, and then frames with the numbers that the market takes",
-    25: "a target is a whole number of watts in a line of its own",
-}
 
 EXPLAINERS: dict[int, Callable[[File], Finding]] = {
     2: shape.wrong_type,
