@@ -25,14 +25,11 @@ MANUAL = "market.1"
 PAGE = "docs/CLUSTER_FILE.md"
 RELAY = "docs/RELAY.md"
 CLASSES = "docs/PYTHON.md"
-SCENE = "checks/oracle/scene.py"
-MEMBERS = "checks/make/members.py"
 AUCTION = "checks/oracle/auction.py"
 NAMES = "python/cogmaula/__init__.py"
 NODES = "python/cogmaula/nodes.py"
 STATES = "python/cogmaula/states.py"
 VILLAGE = "examples/village.json"
-GUIDE = "CONTRIBUTING.md"
 
 # Limits that pages write as a word.
 WORDS = {6: "six", 7: "seven", 8: "eight", 9: "nine", 10: "ten", 12: "twelve", 16: "sixteen"}
@@ -263,13 +260,6 @@ def kind_places(kind: Kind, ticks: bool) -> Iterator[str]:
     common = {"name", "kind", "parent"}
     yield from differ(SCHEMA, kind, [frozenset(form["properties"]) - common for word, form in forms() if word == kind.word])
 
-    scene, made = module(SCENE).KINDS, module(MEMBERS)
-    # A manual device is the only kind with several forms: of its members one is chosen.
-    chosen = kind.forms if len(kind.forms) > 1 else (frozenset(),)
-    yield from differ(SCENE, kind, [it | frozenset(scene[kind.word]) for it in chosen if kind.word in scene])
-    known = made.BIDS if len(kind.forms) > 1 else [made.KINDS[kind.word]] if kind.word in made.KINDS else []
-    yield from differ(MEMBERS, kind, [frozenset(it) for it in known])
-
     yield from package_places(kind, ticks)
     if not re.search(rf"\b{kind.word}\b", text_of(MANUAL)):
         yield f"{MANUAL} has no kind {kind.word}"
@@ -335,28 +325,9 @@ def wrong_kinds() -> Iterator[tuple[str, list[str]]]:
     words = {it.word for it in known}
     for path, others in (
         (SCHEMA, {word for word, _ in forms()}),
-        (SCENE, set(module(SCENE).KINDS)),
-        (MEMBERS, set(module(MEMBERS).KINDS)),
         (NODES, set(module(NODES).KINDS)),
     ):
         yield path, [f"{path} has the kind {it}, which the code has not" for it in sorted(others - words)]
-
-
-# The checklists.
-
-CHECKLISTS = {
-    "To add a kind of device": [SCHEMA, MANUAL, PAGE, SCENE, MEMBERS, AUCTION, NODES, NAMES, CLASSES, STATES, VILLAGE],
-    "To change a limit": sorted(
-        {SCHEMA if isinstance(it, Bound) else it.path for places in LIMITS.values() for it in places}
-    ),
-}
-
-
-def wrong_checklists() -> Iterator[tuple[str, list[str]]]:
-    """Places that are read here and that a checklist does not name."""
-    for title, paths in CHECKLISTS.items():
-        text = section(GUIDE, title)
-        yield title, [f"{GUIDE} does not name {it} under {title}" for it in paths if it not in text]
 
 
 def main() -> int:
@@ -369,7 +340,7 @@ def main() -> int:
         return 2
     passed, failed = 0, 0
     try:
-        for _, findings in [*facts.wrong(), *wrong_limits(), *wrong_kinds(), *wrong_checklists()]:
+        for _, findings in [*facts.wrong(), *wrong_limits(), *wrong_kinds()]:
             for it in findings:
                 print(it)
             failed += len(findings)

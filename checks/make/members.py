@@ -1,38 +1,35 @@
 """Cluster files that differ from a right one in one member: it is left out, has a wrong type, stands at a limit or past it; or
-a member is there that is not known. The table of limits is written from docs/CLUSTER_FILE.md."""
+a member is there that is not known. The limits are those of cluster.schema.json."""
 
 import json
 
 from checks import facts
+from checks.kinds import kinds
 
-SMALL, LARGE, SUM, SPREAD = facts.CHANGE_LIMIT, facts.POWER_LIMIT, facts.SUM_LIMIT, facts.SPREAD_LIMIT
-STEPS = (facts.LEAST_STEPS, facts.MOST_STEPS)
+LARGE, STEPS = facts.DEMAND_LIMIT, (facts.LEAST_STEPS, facts.MOST_STEPS)
 
-# For each member of a kind a value that is right, values at its limits, and values past them.
-CHANGE = (10, [0, SMALL], [-1, SMALL + 1])
-POWER = (10, [0, LARGE], [-1, LARGE + 1])
-# The one has to be below the other, so each reaches one of its limits.
-LOW, HIGH = (-5, [-SMALL], [-SMALL - 1, SMALL + 1]), (5, [SMALL], [-SMALL - 1, SMALL + 1])
-WARMTH = (1, [-SMALL, SMALL], [-SMALL - 1, SMALL + 1])
-TARGET = (1, [-LARGE, LARGE], [-LARGE - 1, LARGE + 1])
-HEATED = {"low": LOW, "high": HIGH, "power": POWER, "loss": CHANGE, "gain": CHANGE, "start": WARMTH}
-KINDS = {
-    "concentrator": {},
-    "limited": {"floor": (-1, [-SUM, 0], [-SUM - 1, 1]), "ceiling": (1, [0, SUM], [-1, SUM + 1])},
-    "freezer": {"low": LOW, "high": HIGH, "power": POWER, "warm": CHANGE, "cool": CHANGE, "start": WARMTH},
-    "heat_pump": HEATED,
-    "cogeneration": HEATED,
-    "battery": {
-        "capacity": (10, [5, LARGE], [0, LARGE + 1]),
-        "charge": POWER,
-        "discharge": POWER,
-        "spread": (1, [0, SPREAD], [-1, SPREAD + 1]),
-        "start": (5, [0, 10], [-1, LARGE + 1]),
-    },
-    "solar": {"start": POWER},
-    "load": {"start": POWER},
-    "objective": {"start": TARGET},
-}
+# A right value of a member, by its name or with its kind before it; else it is 1.
+RIGHT = {"low": -5, "high": 5, "floor": -1, "capacity": 10, "power": 10, "battery start": 5}
+# The values at its limits, of a member that another one limits.
+WITHIN = {"low": slice(0, 1), "high": slice(1, 2)}
+
+
+def table_of(kind, limits):
+    """For each member of a kind a value that is right, values at its limits, and values past them."""
+    table = {}
+    for name, (least, most) in limits.items():
+        right = RIGHT.get(f"{kind} {name}", RIGHT.get(name, 1))
+        within = [least, most][WITHIN.get(name, slice(None))]
+        table[name] = right, within, [least - 1, most + 1]
+    if kind == "battery":
+        # Its charge is within its capacity.
+        charge, capacity = table["start"], table["capacity"]
+        table["start"] = charge[0], [charge[1][0], capacity[0]], charge[2]
+        table["capacity"] = capacity[0], [charge[0], capacity[1][1]], capacity[2]
+    return table
+
+
+KINDS = {kind: table_of(kind, limits) for kind, limits in kinds().items() if kind != "manual"}
 BIDS = [{"demand": [1, 0]}, {"points": [[0, 1], [9, 0]]}]
 BASIS = {
     "min": (0, [-LARGE], [-LARGE - 1, LARGE + 1]),

@@ -5,10 +5,11 @@ import math
 import re
 
 from checks import facts
+from checks.kinds import kinds
 from checks.oracle.auction import CONCENTRATORS, TICKING
 
 NESTING = 127
-MOST, SUM = facts.DEMAND_LIMIT, facts.SUM_LIMIT
+MOST = facts.DEMAND_LIMIT
 NODES, DEPTH, PHASES, EVENTS = facts.MOST_NODES, facts.MOST_DEPTH, facts.MOST_PHASES, facts.MOST_EVENTS
 CHANGES, POINTS, NAME_BYTES = facts.MOST_CHANGES, facts.MAX_POINTS, facts.MAX_NAME_BYTES
 STEPS, MINUTES = (facts.LEAST_STEPS, facts.MOST_STEPS), (1, facts.MINUTES_LIMIT)
@@ -17,26 +18,8 @@ STRING = re.compile(r'"(?:[^"\\]|\\.)*"', re.DOTALL)
 
 DOCUMENT = {"version": int, "basis": dict, "nodes": list, "phases": list}
 BASIS = {"min": int, "max": int, "steps": int}
-# The members of a node behind its name, kind and parent; a heat pump and cogeneration have the same.
-HEATED = ("low", "high", "power", "loss", "gain", "start")
-KINDS = {
-    "concentrator": (),
-    "limited": ("floor", "ceiling"),
-    "freezer": ("low", "high", "power", "warm", "cool", "start"),
-    "heat_pump": HEATED,
-    "cogeneration": HEATED,
-    "battery": ("capacity", "charge", "discharge", "spread", "start"),
-    "solar": ("start",),
-    "load": ("start",),
-    "objective": ("start",),
-    "manual": (),
-}
-TEMPERATURE = (-facts.TEMPERATURE_LIMIT, facts.TEMPERATURE_LIMIT)
-POWER, RATE = (0, facts.POWER_LIMIT), (0, facts.CHANGE_LIMIT)
-LIMITS = {
-    "floor": (-SUM, 0), "ceiling": (0, SUM), "low": TEMPERATURE, "high": TEMPERATURE, "power": POWER, "warm": RATE, "cool": RATE,
-    "loss": RATE, "gain": RATE, "capacity": (1, facts.CAPACITY_LIMIT), "charge": POWER, "discharge": POWER, "spread": (0, facts.SPREAD_LIMIT),
-}
+# The numbers of a node by its kind, each with its limits. Those of a state are apart: they have a code of their own.
+KINDS = kinds()
 
 
 class Refused(Exception):
@@ -220,16 +203,17 @@ def require_state(node, given, basis, place):
             require_points(given["points"], basis, place)
         return
     value = given.get("value", given.get("start"))
-    limits = {"battery": (0, node.get("capacity")), "solar": POWER, "load": POWER, "objective": (-MOST, MOST)}
-    least, most = limits.get(node["kind"], TEMPERATURE)
-    require(value is not None and least <= value <= most, 19, place)
+    least, most = KINDS[node["kind"]]["start"]
+    # A battery holds no more than its own capacity.
+    require(value is not None and least <= value <= node.get("capacity", most), 19, place)
 
 
 def require_numbers(nodes, basis):
     limited = {}
     for at, node in enumerate(nodes, 1):
         place = f"node {at}"
-        require(all(LIMITS[it][0] <= node[it] <= LIMITS[it][1] for it in KINDS[node["kind"]] if it in LIMITS), 13, place)
+        numbers = {name: limits for name, limits in KINDS[node["kind"]].items() if name != "start"}
+        require(all(least <= node[name] <= most for name, (least, most) in numbers.items()), 13, place)
         require("low" not in node or node["low"] < node["high"], 13, place)
         above = limited.get(node.get("parent"), False)
         require(not above or node["kind"] != "limited", 22, place)

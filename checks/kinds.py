@@ -1,0 +1,26 @@
+"""The kinds of node that a cluster file may have, from cluster.schema.json: of each its members, and the limits of each number.
+
+The schema is the one place outside the crates that has them; `checks/run places` compares it with the code.
+"""
+
+import json
+
+from checks import TOP
+
+COMMON = {"name", "kind", "parent"}
+
+
+def forms():
+    """The forms of a node in the schema, each with its kind and its further members."""
+    for form in json.loads((TOP / "cluster.schema.json").read_text())["$defs"].values():
+        kind = form.get("properties", {}).get("kind", {})
+        if "const" in kind:
+            yield kind["const"], {name: it for name, it in form["properties"].items() if name not in COMMON}
+
+
+def kinds():
+    """The numbers of each kind with their limits. Of a manual device one of several lists is chosen, so it has none."""
+    return {
+        kind: {name: (it["minimum"], it["maximum"]) for name, it in members.items() if "minimum" in it}
+        for kind, members in forms()
+    }
