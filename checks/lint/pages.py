@@ -14,6 +14,7 @@ finding and ends with 'N passed, M failed'. It refuses
 - a path of the repository that a page names and does not link the first time. Headings, code blocks and what a command is
   given are left out;
 - a report that a page quotes and that is no part of the text of an example;
+- a name in ARCHITECTURE.md, the map, that no source defines;
 - what codespell calls a misspelling, if codespell is there.
 """
 
@@ -161,6 +162,17 @@ def reports_of_no_example(page: Path) -> Iterator[str]:
             quoted = []
 
 
+def names_of_no_source() -> Iterator[str]:
+    """The names of functions, types and definitions on the map that nothing defines, such as one that was renamed."""
+    map_page = TOP / "ARCHITECTURE.md"
+    sources = [*(TOP / "crates").glob("*/src/**/*.rt"), *(TOP / "python" / "cogmaula").rglob("*.py")]
+    defined = set(re.findall(r"\b(?:fn|def|class|struct|enum|trait|type|const) (\w+)", "\n".join(it.read_text() for it in sources)))
+    worded = set(re.findall(r"\w+", "\n".join(it.read_text() for it in (TOP / "crates").glob("*/specs/**/*.antt"))))
+    for name in sorted(set(re.findall(r"`([A-Za-z_]+(?:(?:::|\.)[A-Za-z_]+)*)`", map_page.read_text()))):
+        if re.split(r"::|\.", name)[-1] not in defined | worded and not (TOP / "crates" / name).exists():
+            yield f"{name_of(map_page)}: nothing in the sources has the name {name}: write what it is called now"
+
+
 def relative(page: Path, path: Path) -> str:
     """The path as a link of the page has it."""
     up = len(page.parent.relative_to(TOP).parts)
@@ -261,7 +273,7 @@ def print_long(limit: int) -> int:
 
 def check() -> int:
     """Runs all checks, prints the findings and answers the status."""
-    checks: list[Callable[[], Iterator[str]]] = [long_readme, long_sentences]
+    checks: list[Callable[[], Iterator[str]]] = [long_readme, long_sentences, names_of_no_source]
     checks += [lambda page=page: dead_links(page) for page in pages()]
     checks += [lambda page=page: paths_without_a_link(page) for page in pages()]
     checks += [lambda page=page: reports_of_no_example(page) for page in pages()]
