@@ -28,7 +28,7 @@ from ..live.frames import (
     frame_of,
 )
 from ..live.recording import IN, OUT, STORED
-from ..live.service import STATUSES
+from ..live.statuses import STATUSES
 from .reading import Event, Recorded, Start
 from .restarts import Giving, Keeping
 from .running import Late, Running
