@@ -1,4 +1,4 @@
-"""The limits of the market and the exit statuses, for what makes inputs and for the judges.
+"""The limits of the market, the exit statuses and the kinds of node, for what makes inputs and for the judges.
 
 Made of the constants of crates/*/src by `checks/run places write`.
 """
@@ -40,3 +40,7 @@ TOO_LONG = 4
 REFUSED = 5
 WRITE_FAULT = 6
 NO_MEMORY = 7
+
+# Kinds of node: those that are no device, and those that change at a tick.
+CONCENTRATORS = ("concentrator", "limited")
+TICKING = ("freezer", "heat_pump", "cogeneration", "battery")

@@ -5,7 +5,8 @@
 
 | Fact | Home | Made from it |
 |---|---|---|
-| limits | the constants of crates/*/src | checks/facts.py, python/cogmaula/limits.py, the tables `limits` and `inputs` of pages |
+| limits | the constants of crates/*/src | checks/facts.py, python/cogmaula/limits.py, tables of pages and market.1 |
+| kinds of node | pm_scene and pm_device; cluster.schema.json has their members and limits for checks and Python | checks/facts.py, market.1 |
 | refusals | crates/pm_plan/src/refusal.rt has the numbers, script/refusals.toml the words | script/words.sh, python/cogmaula/refusals.py, pages |
 | exit statuses | crates/pm_answer/src/status.rt has the numbers, script/statuses.toml the words | the same, market.1, python/cogmaula/live/statuses.py |
 
@@ -15,6 +16,7 @@ A table in a page or a script stands between a line with `table NAME` and one wi
 import re
 import tomllib
 from collections.abc import Callable, Iterator
+from dataclasses import dataclass
 from functools import cache
 from pathlib import Path
 from typing import Any
@@ -105,6 +107,60 @@ def refusals() -> dict[int, dict[str, str]]:
 def statuses() -> dict[int, dict[str, str]]:
     """The words of each exit status."""
     return told("script/statuses.toml", "status", "crates/pm_answer/src/status.rt", "Status")
+
+
+# Kinds of node.
+
+
+@dataclass(frozen=True)
+class Kind:
+    """A kind of node: its word, its variant in the code, its forms with their further members, and whether it is a device."""
+
+    word: str
+    variant: str
+    forms: tuple[frozenset[str], ...]
+    is_device: bool
+
+
+@cache
+def code_of(crate: str) -> str:
+    """The code of a crate, one file behind the other."""
+    return "\n".join(it.read_text() for it in sorted((CRATES / crate / "src").rglob("*.rt")))
+
+
+def part_of(crate: str, begin: str) -> str:
+    """The part of a crate's code from these words to the next brace in the first column."""
+    _, found, rest = code_of(crate).partition(begin)
+    if not found:
+        raise Unreadable(f"no code of {crate} has `{begin}`, which checks/lint/facts.py reads")
+    return rest.partition("\n}")[0]
+
+
+@cache
+def kinds() -> list[Kind]:
+    """The kinds that the reader of cluster files names, with the members of their rows."""
+    scene = code_of("pm_scene")
+    words = dict(re.findall(r'const (\w+): Member = Member\("(\w+)"', scene))
+    table = {
+        name: frozenset(words[it] for it in re.findall(r"\w+", members))
+        for name, members in re.findall(r"static (\w+): \[Member; \d+\] = \[([^\]]*)\];", scene)
+    }
+    row_of = dict(re.findall(r"KindName::(\w+) => &(\w+)", part_of("pm_scene", "fn node_row(")))
+    manual = re.findall(r"=> &(\w+)", part_of("pm_scene", "fn manual_row("))
+    devices = set(re.findall(r"^    ([A-Z]\w+)(?: \{|,)", part_of("pm_device", "pub enum Kind "), re.M))
+    found = []
+    for word, variant in re.findall(r'"(\w+)" => Some\(KindName::(\w+)\)', part_of("pm_scene", "fn kind_named(")):
+        rows = [row_of[variant]] if variant in row_of else manual
+        found.append(Kind(word, variant, tuple(table[it] - {"name", "kind", "parent"} for it in rows), variant in devices))
+    lost = devices - {it.variant for it in found}
+    if lost:
+        raise Unreadable(f"pm_device has kinds that pm_scene does not name: {', '.join(sorted(lost))}")
+    return found
+
+
+def ticking() -> set[str]:
+    """The variants of the kinds that change at a tick."""
+    return set(re.findall(r"Kind::(\w+)", part_of("pm_device", "pub fn ticks(").partition("=> true")[0]))
 
 
 # What is made of them.
@@ -225,11 +281,23 @@ def facts_of_checks() -> str:
     numbers = "".join(f"{name} = {number:_}\n" for name, (number, _) in sorted(limits().items()))
     ends = "".join(f"{snake(it['status'])} = {code}\n" for code, it in statuses().items() if "status" in it)
     return (
-        '"""The limits of the market and the exit statuses, for what makes inputs and for the judges.\n\n'
+        '"""The limits of the market, the exit statuses and the kinds of node, for what makes inputs and for the judges.\n\n'
         'Made of the constants of crates/*/src by `checks/run places write`.\n"""\n\n'
         f"# Limits: the names are those of the code, and INPUT_.. is the most bytes of the input of a command.\n{numbers}\n"
-        f"# Exit statuses.\n{ends}"
+        f"# Exit statuses.\n{ends}\n"
+        f"# Kinds of node: those that are no device, and those that change at a tick.\nCONCENTRATORS = {named(lambda it: not it.is_device)}\n"
+        f"TICKING = {named(lambda it: it.variant in ticking())}\n"
     )
+
+
+def named(is_one: Callable[[Kind], bool]) -> str:
+    """The words of some kinds, as a tuple of Python."""
+    return "(" + ", ".join(f'"{it.word}"' for it in kinds() if is_one(it)) + ")"
+
+
+def kinds_of_manual() -> str:
+    words = [it.word for it in kinds()]
+    return "".join(f".BR {it} ,\n" for it in words[:-2]) + f".B {words[-2]}\nand\n.BR {words[-1]} .\n"
 
 
 def snake(name: str) -> str:
@@ -249,7 +317,7 @@ TABLES: dict[str, dict[str, Callable[[], str]]] = {
     "docs/CLUSTER_FILE.md": {"refusals": refusals_of_page, "lengths": too_long_of_page},
     "docs/SERVE.md": {"statuses": statuses_of_stream},
     "docs/DEFINITIONS.md": {"limits": limits_of_page},
-    "market.1": {"statuses": statuses_of_manual, "inputs": inputs_of_manual},
+    "market.1": {"kinds": kinds_of_manual, "statuses": statuses_of_manual, "inputs": inputs_of_manual},
 }
 MARKS = {".md": ("<!-- ", " -->"), ".1": ('.\\" ', "")}
 

@@ -18,7 +18,7 @@ from typing import Any
 
 from checks import TOP
 from checks.lint import facts
-from checks.lint.facts import CRATES, Unreadable, limits, text_of
+from checks.lint.facts import Kind, Unreadable, kinds, limits, text_of, ticking
 
 SCHEMA = "cluster.schema.json"
 MANUAL = "market.1"
@@ -191,57 +191,6 @@ def wrong_limits() -> Iterator[tuple[str, list[str]]]:
 # Kinds of node.
 
 
-@dataclass(frozen=True)
-class Kind:
-    """A kind of node: its word, its variant in the code, its forms with their further members, and whether it is a device."""
-
-    word: str
-    variant: str
-    forms: tuple[frozenset[str], ...]
-    is_device: bool
-
-
-@cache
-def code_of(crate: str) -> str:
-    """The code of a crate, one file behind the other."""
-    return "\n".join(it.read_text() for it in sorted((CRATES / crate / "src").rglob("*.rt")))
-
-
-def part_of(crate: str, begin: str) -> str:
-    """The part of a crate's code from these words to the next brace in the first column."""
-    _, found, rest = code_of(crate).partition(begin)
-    if not found:
-        raise Unreadable(f"no code of {crate} has `{begin}`, which checks/lint/places.py reads")
-    return rest.partition("\n}")[0]
-
-
-@cache
-def kinds() -> list[Kind]:
-    """The kinds that the reader of cluster files names, with the members of their rows."""
-    scene = code_of("pm_scene")
-    words = dict(re.findall(r'const (\w+): Member = Member\("(\w+)"', scene))
-    table = {
-        name: frozenset(words[it] for it in re.findall(r"\w+", members))
-        for name, members in re.findall(r"static (\w+): \[Member; \d+\] = \[([^\]]*)\];", scene)
-    }
-    row_of = dict(re.findall(r"KindName::(\w+) => &(\w+)", part_of("pm_scene", "fn node_row(")))
-    manual = re.findall(r"=> &(\w+)", part_of("pm_scene", "fn manual_row("))
-    devices = set(re.findall(r"^    ([A-Z]\w+)(?: \{|,)", part_of("pm_device", "pub enum Kind "), re.M))
-    found = []
-    for word, variant in re.findall(r'"(\w+)" => Some\(KindName::(\w+)\)', part_of("pm_scene", "fn kind_named(")):
-        rows = [row_of[variant]] if variant in row_of else manual
-        found.append(Kind(word, variant, tuple(table[it] - {"name", "kind", "parent"} for it in rows), variant in devices))
-    lost = devices - {it.variant for it in found}
-    if lost:
-        raise Unreadable(f"pm_device has kinds that pm_scene does not name: {', '.join(sorted(lost))}")
-    return found
-
-
-def ticking() -> set[str]:
-    """The variants of the kinds that change at a tick."""
-    return set(re.findall(r"Kind::(\w+)", part_of("pm_device", "pub fn ticks(").partition("=> true")[0]))
-
-
 def listed(it: frozenset[str]) -> str:
     return ", ".join(sorted(it)) or "none"
 
@@ -261,14 +210,8 @@ def kind_places(kind: Kind, ticks: bool) -> Iterator[str]:
     yield from differ(SCHEMA, kind, [frozenset(form["properties"]) - common for word, form in forms() if word == kind.word])
 
     yield from package_places(kind, ticks)
-    if not re.search(rf"\b{kind.word}\b", text_of(MANUAL)):
-        yield f"{MANUAL} has no kind {kind.word}"
-    if not re.search(rf'"{kind.word}"', text_of(AUCTION)):
+    if kind.is_device and not re.search(rf'"{kind.word}"', text_of(AUCTION)):
         yield f"{AUCTION} has no kind {kind.word}"
-    if kind.is_device == (kind.word in module(AUCTION).CONCENTRATORS):
-        yield f"{AUCTION} has {kind.word} {'among' if kind.is_device else 'not among'} its CONCENTRATORS"
-    if ticks != (kind.word in module(AUCTION).TICKING):
-        yield f"{AUCTION} has {kind.word} {'not among' if ticks else 'among'} the kinds that are TICKING"
     if kind.is_device and f'"{kind.word}"' not in text_of(VILLAGE):
         yield f"{VILLAGE} has no device of the kind {kind.word}"
     yield from page_places(kind, ticks)

@@ -3,10 +3,8 @@
 from dataclasses import dataclass
 from itertools import zip_longest
 
+from checks.facts import CONCENTRATORS, TICKING
 from checks.facts import TEMPERATURE_LIMIT as TEMPERATURE
-
-CONCENTRATORS = ("concentrator", "limited")
-TICKING = ("freezer", "heat_pump", "cogeneration", "battery")
 
 
 class Misfit(Exception):
