@@ -16,7 +16,6 @@ from importlib import import_module
 from types import ModuleType
 from typing import Any
 
-from checks import TOP
 from checks.lint import facts
 from checks.lint.facts import Kind, Unreadable, kinds, limits, text_of, ticking
 

@@ -8,7 +8,7 @@ import tempfile
 from dataclasses import dataclass
 
 from checks import CASES, TOP
-from checks.facts import DONE, MOST_TARGETS, READ_FAULT, REFUSED, TOO_LONG, USAGE, WRITE_FAULT
+from checks.facts import DONE, MOST_TARGETS, READ_FAULT, REFUSED, TOO_LONG, WRITE_FAULT
 from checks.facts import FILE_LIMIT as LIMIT
 from checks.facts import INPUT_ASK as ASK_LIMIT
 from checks.facts import INPUT_CHECK as CHECK_LIMIT
