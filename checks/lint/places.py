@@ -16,6 +16,7 @@ from importlib import import_module
 from types import ModuleType
 from typing import Any
 
+from checks import TOP
 from checks.lint import facts
 from checks.lint.facts import Kind, Unreadable, kinds, limits, text_of, ticking
 
@@ -272,6 +273,33 @@ def wrong_kinds() -> Iterator[tuple[str, list[str]]]:
         yield path, [f"{path} has the kind {it}, which the code has not" for it in sorted(others - words)]
 
 
+# Frames.
+
+KIND = re.compile(r"^(?:pub\(crate\) )?const (\w+): u8 = (\d+);", re.M)
+ROW = re.compile(r"^\| (\w+) \| (\d+)(?: \+ `n`)? \|", re.M)
+CLASS = re.compile(r"^class (\w+)\(.*?\n    KIND = (\d+)$", re.M | re.S)
+
+
+def wrong_frames() -> Iterator[tuple[str, list[str]]]:
+    """The first bytes of frames that a page or the package has otherwise than the code."""
+    text = text_of("crates/pm_frames/src/kinds.rt") + text_of("crates/pm_wire/src/bids.rt")
+    known = {name.title().replace("_", ""): int(number) for name, number in KIND.findall(text)}
+    tables = {page: {name: int(number) for name, number in ROW.findall(text_of(page))} for page in (RELAY, "docs/SERVE.md")}
+    # Those that only answers have: the two pages have the same.
+    shared = tables[RELAY] | {name: number for name, number in known.items()}
+    found = {}
+    for path in sorted((TOP / "python" / "cogmaula" / "live").glob("*.py")):
+        found |= {name: int(number) for name, number in CLASS.findall(path.read_text())}
+    for name, number in known.items():
+        wrong = [f"{RELAY} has no frame {name} of the kind {number}"] if tables[RELAY].get(name) != number else []
+        wrong += [f"python/cogmaula/live has no frame {name} of the kind {number}"] if found.get(name, number) != number else []
+        yield name, wrong
+    for name, number in tables["docs/SERVE.md"].items():
+        # A Price of `serve` is another frame than that of a node.
+        if name in shared and name != "Price":
+            yield name, [] if shared[name] == number else [f"docs/SERVE.md has the frame {name} of the kind {number}, and it is {shared[name]}"]
+
+
 def main() -> int:
     """Writes what can be made, or compares all."""
     if sys.argv[1:] == ["write"]:
@@ -282,7 +310,7 @@ def main() -> int:
         return 2
     passed, failed = 0, 0
     try:
-        for _, findings in [*facts.wrong(), *wrong_limits(), *wrong_kinds()]:
+        for _, findings in [*facts.wrong(), *wrong_limits(), *wrong_kinds(), *wrong_frames()]:
             for it in findings:
                 print(it)
             failed += len(findings)
