@@ -277,7 +277,7 @@ def wrong_kinds() -> Iterator[tuple[str, list[str]]]:
 
 KIND = re.compile(r"^(?:pub\(crate\) )?const (\w+): u8 = (\d+);", re.M)
 ROW = re.compile(r"^\| (\w+) \| (\d+)(?: \+ `n`)? \|", re.M)
-CLASS = re.compile(r"^class (\w+)\(.*?\n    KIND = (\d+)$", re.M | re.S)
+CLASS = re.compile(r"^class (\w+)\(.*\n(?:(?!class ).*\n)*?    KIND = (\d+)$", re.M)
 
 
 def wrong_frames() -> Iterator[tuple[str, list[str]]]:
