@@ -232,7 +232,8 @@ def calls_in(path: Path) -> list[Call]:
             if re.search(r"\bensures\b", contract):
                 name = f"{owner}::{head[3]}" if head[1] and owner else head[3]
                 told = re.split(r"(?<=[.])\s", " ".join(comment))[0]
-                found.append(Call(name, "::" not in name and contract.endswith("{}"), told))
+                is_law = told.startswith("A law") or ("::" not in name and contract.endswith("{}"))
+                found.append(Call(name, is_law, told))
             comment = []
         elif line.strip() and not line.strip().startswith(("#[", "//")):
             comment = []
