@@ -3,10 +3,13 @@
 from __future__ import annotations
 
 import argparse
+from datetime import datetime
 from fractions import Fraction
 from pathlib import Path
+from zoneinfo import ZoneInfo
 
 from .. import cli
+from ..data.supply import read_supply
 from ..money import rate_of
 from ..report import Currency, report
 
@@ -23,6 +26,11 @@ def rate(text: str) -> Fraction:
         return rate_of(text)
     except ValueError as error:
         raise argparse.ArgumentTypeError(str(error)) from None
+
+
+def zone_in(moment: datetime) -> ZoneInfo | None:
+    """The zone of a moment, None if it has none, or an offset alone."""
+    return moment.tzinfo if isinstance(moment.tzinfo, ZoneInfo) else None
 
 
 def add_arguments(parser: argparse.ArgumentParser) -> None:
@@ -42,6 +50,9 @@ def add_arguments(parser: argparse.ArgumentParser) -> None:
     parser.add_argument(
         "--connection", metavar="NAME", help="the manual device that is the connection to the supplier: it and the grid are one account"
     )
+    parser.add_argument(
+        "--tariff", metavar="FILE", help="a supplier's prices, fee and VAT, by which each household is billed by the month; needs --start"
+    )
     parser.add_argument("--quiet", action="store_true", help="tells no progress")
     parser.set_defaults(fail=parser.error)
 
@@ -50,6 +61,9 @@ def main(arguments: argparse.Namespace) -> int:
     """Writes the page."""
     if (arguments.currency is None) != (arguments.per_kwh is None):
         arguments.fail("--currency and --per-kwh go together: name the unit, and what a kilowatt-hour costs at price 1")
+    if arguments.tariff is not None and arguments.start is None:
+        arguments.fail("--tariff needs --start: a tariff has months and times of the day")
+    supply = None if arguments.tariff is None else read_supply(arguments.tariff, zone_in(arguments.start))
     currency = None if arguments.currency is None else Currency(arguments.currency, arguments.per_kwh)
     text = report(
         arguments.file,
@@ -59,6 +73,7 @@ def main(arguments: argparse.Namespace) -> int:
         span=arguments.span,
         targets=arguments.target,
         connection=arguments.connection,
+        supply=supply,
         program=cli.program_of(arguments),
         quiet=arguments.quiet,
     )

@@ -8,7 +8,7 @@ from concurrent.futures import ThreadPoolExecutor
 from dataclasses import dataclass
 from datetime import datetime
 from pathlib import Path
-from typing import TYPE_CHECKING
+from typing import TYPE_CHECKING, Any
 
 from ..cluster import Cluster, Source, bytes_of
 from ..continuing import continued
@@ -24,6 +24,7 @@ from .limits import Group, groups_of
 from .times import Interval, intervals_of
 
 if TYPE_CHECKING:
+    from ..data.supply import Supply
     from .course import Course
 
 # The minutes of a bill's span if the user names none.
@@ -39,6 +40,7 @@ class Findings:
     has_start:  whether the user named the start of the run
     connection: the manual device that is the connection to the supplier, or None if the user named none
     bill:       the bill of the run, in which the connection and the grid are one account if there is a connection
+    tariff:     what a supplier bills each household and month, in a currency, as `Tariff.bill` has it; None if the user named no tariff
     """
 
     title: str
@@ -54,6 +56,7 @@ class Findings:
     currency: Currency
     flexibility: Flexibility
     digest: str
+    tariff: tuple[str, Any] | None = None
 
 
 def findings_of(
@@ -65,6 +68,7 @@ def findings_of(
     span: int | None = None,
     targets: Iterable[int] | None = None,
     connection: str | None = None,
+    supply: Supply | None = None,
     program: Program | None = None,
     quiet: bool = True,
 ) -> Findings:
@@ -95,6 +99,7 @@ def findings_of(
         currency or Currency(),
         flexibility_of(continued(done), targets, program),
         hashlib.sha256(data).hexdigest(),
+        None if supply is None else (supply.tariff.currency, supply.bill(done.series(), connection)),
     )
 
 
@@ -118,6 +123,7 @@ def report(
     span: int | None = None,
     targets: Iterable[int] | None = None,
     connection: str | None = None,
+    supply: Supply | None = None,
     program: Program | None = None,
     quiet: bool = True,
 ) -> str:
@@ -131,17 +137,19 @@ def report(
     targets:  watts that the cluster is asked for at the end of the run; some of its range if they are not given
     connection: the manual device that is the connection to the supplier: its account and that of the grid are then one, the page
                 shows what is bought and sold, and compares the cost with that without the market
+    supply:   what a supplier bills by its tariff: the page then has the bill of each household and month; none if it is not given
     program:  the proved program; by default the one that `Program.find()` finds
     quiet:    whether no progress is told on standard error
 
-    Raises what `run` and `chain` raise, NoConnection, ValueError if a span is below 1, and NoPackage without matplotlib.
+    Raises what `run` and `chain` raise, NoConnection, RecipeFault if the supply does not fit the run, ValueError if a span is below 1, and
+    NoPackage without matplotlib.
     """
     asked = None if targets is None else list(targets)
     with ThreadPoolExecutor(1) as pool:
         # The program runs while matplotlib is loaded, which takes longer than a short run.
         found = pool.submit(
             lambda: findings_of(
-                source, title=title, start=start, currency=currency, span=span, targets=asked, connection=connection,
+                source, title=title, start=start, currency=currency, span=span, targets=asked, connection=connection, supply=supply,
                 program=program, quiet=quiet,
             )
         )

@@ -4,6 +4,7 @@ from __future__ import annotations
 
 from collections.abc import Callable, Iterable, Iterator, Sequence
 from fractions import Fraction
+from typing import Any
 
 from ..texts import Account
 from . import page
@@ -32,6 +33,7 @@ def page_of(found: Findings) -> str:
     """The whole page."""
     left_out = {"use"} if not has_use(found) else set[str]()
     left_out |= set() if found.groups else {"limits"}
+    left_out |= set() if found.tariff else {"tariff"}
     sections = [it for it in SECTIONS if it[0] not in left_out]
     body = [
         page.heading(found.title, 1),
@@ -291,6 +293,28 @@ def by_device_and_span(found: Findings) -> str:
     )
 
 
+def tariff(found: Findings) -> Iterator[str]:
+    """What a supplier bills each household and month for the powers of the run."""
+    if found.tariff is None:
+        return
+    unit, frame = found.tariff
+    yield page.words(
+        f"What a supplier bills by its tariff for the powers of the run. It is no account of the market. Amounts are in {unit}: VAT is paid on what "
+        "is bought and on the fee, and the total is that less what is sold."
+    )
+    head = ["household", "month", "bought (kWh)", "sold (kWh)", *(f"{it} ({unit})" for it in ("bought", "sold", "fee", "VAT", "total"))]
+    rows = [[household, month, *(hours(it) for it in row[:2]), *(money(it) for it in row[2:])] for (household, month), row in frame_rows(frame)]
+    yield long_table("Each household and month", head, rows)
+    if len(rows) > 1:
+        sums = frame.sum().tolist()
+        yield page.words(f"All together pay {money(sums[-1])} {unit}.", "soft")
+
+
+def frame_rows(frame: Any) -> Iterator[tuple[tuple[str, str], list[float]]]:
+    """The rows of the bill of a tariff, each with its household and month."""
+    yield from zip(frame.index.tolist(), frame.to_numpy().tolist(), strict=True)
+
+
 def net(account: Account | None) -> int:
     """What an account took less what it gave, in watts times minutes."""
     return account.taken - account.given if account else 0
@@ -349,4 +373,5 @@ SECTIONS: list[tuple[str, str, bool, Callable[[Findings], Iterable[str]]]] = [
     ("powers", "Who took what", False, powers),
     ("flexibility", "Flexibility at the end", False, flexibility),
     ("bills", "Bills", True, bills),
+    ("tariff", "By the tariff", True, tariff),
 ]
