@@ -5,14 +5,14 @@ The schema is the one place outside the crates that has them; `checks/run places
 
 import json
 
-from checks import TOP
+from checks import SCHEMA, TOP
 
 COMMON = {"name", "kind", "parent"}
 
 
 def forms():
     """The forms of a node in the schema, each with its kind and its further members."""
-    for form in json.loads((TOP / "cluster.schema.json").read_text())["$defs"].values():
+    for form in json.loads((TOP / SCHEMA).read_text())["$defs"].values():
         kind = form.get("properties", {}).get("kind", {})
         if "const" in kind:
             yield kind["const"], {name: it for name, it in form["properties"].items() if name not in COMMON}

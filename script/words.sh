@@ -77,7 +77,7 @@ END_OF_HELP
     if [ "$installed" = yes ]; then
         echo "More: $pages"
     else
-        echo "More: README.md, $pages, man ./market.1"
+        echo "More: README.md, $pages, man packaging/help/market.1"
         tell_program
     fi
 }

@@ -105,7 +105,6 @@ share/doc/market/examples/README.md
 share/fish/vendor_completions.d/market.fish
 share/man/man1/cogmaula.1
 share/man/man1/market.1
-share/market/cluster.schema.json
 share/market/installed
 share/market/live.stamp
 share/market/market.stamp

@@ -620,7 +620,7 @@ rm -r prebuilt "$folder/prebuilt"
 # The order of proofs, and the range of minutes that pages name.
 is "the order of the proofs" 0 "9 passed, 0 failed" "" 'cd "$repository"; PYTHONDONTWRITEBYTECODE=1 python3 -m checks.drive.proving | tail -n 1'
 is "the minutes of a proof on each page" 0 "" "" 'range="$(. script/program.sh; minutes_to_prove)"; cd "$repository"
-    grep -L "$range" README.md docs/COMMANDS.md market.1 Makefile'
+    grep -L "$range" README.md docs/COMMANDS.md packaging/help/market.1 Makefile'
 
 # Help and versions, with nothing but the script.
 forget

@@ -221,6 +221,17 @@ def inputs_of_manual() -> str:
     return f"With 4 the input has more than {run} bytes, of\n.B ask\n{ask}, of\n.B check\n{check}, of\n.B serve\nand of a node {stream}.\n"
 
 
+def inputs_of_page() -> str:
+    body = [
+        [of, f"{limits()[name][0]:,} bytes"]
+        for of, name in (
+            ("`run`, `trace`, `free`, `bill`", "INPUT_RUN"), ("`ask`", "INPUT_ASK"), ("`check`", "INPUT_CHECK"),
+            ("`serve`, `relay`, `auctioneer`, `device`", "STREAM_LIMIT"),
+        )
+    ]
+    return rows(["Input of", "At most"], body)
+
+
 def too_long_of_page() -> str:
     body = [
         [f"`too long, more than {limits()[name][0]} bytes`", f"the input of {commands} is too long", remedy]
@@ -314,9 +325,10 @@ FILES: dict[str, Callable[[], str]] = {
 TABLES: dict[str, dict[str, Callable[[], str]]] = {
     "script/words.sh": {"refusals": refusals_of_shell, "help": statuses_of_help, "statuses": statuses_of_shell},
     "docs/CLUSTER_FILE.md": {"refusals": refusals_of_page, "lengths": too_long_of_page},
+    "docs/COMMANDS.md": {"inputs": inputs_of_page, "statuses": statuses_of_page},
     "docs/SERVE.md": {"statuses": statuses_of_stream},
     "docs/DEFINITIONS.md": {"limits": limits_of_page},
-    "market.1": {"kinds": kinds_of_manual, "statuses": statuses_of_manual, "inputs": inputs_of_manual},
+    "packaging/help/market.1": {"kinds": kinds_of_manual, "statuses": statuses_of_manual, "inputs": inputs_of_manual},
 }
 MARKS = {".md": ("<!-- ", " -->"), ".1": ('.\\" ', "")}
 

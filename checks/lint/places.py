@@ -17,11 +17,11 @@ from types import ModuleType
 from typing import Any
 
 from checks import TOP
+from checks import SCHEMA
 from checks.lint import facts
 from checks.lint.facts import Kind, Unreadable, kinds, limits, text_of, ticking
 
-SCHEMA = "cluster.schema.json"
-MANUAL = "market.1"
+MANUAL = "packaging/help/market.1"
 PAGE = "docs/CLUSTER_FILE.md"
 RELAY = "docs/RELAY.md"
 CLASSES = "docs/PYTHON.md"

@@ -12,7 +12,7 @@ import json
 import re
 import sys
 
-from checks import TOP
+from checks import SCHEMA, TOP
 from checks.make import members
 from checks.make.cases import edited_members, examples, stored_cases
 
@@ -42,16 +42,12 @@ BEYOND = {
 }
 
 
-# The package has a copy of the schema, since the gate takes no link.
-PACKAGED = "python/cogmaula/cluster.schema.json"
-
-
 def validators():
     """The schema's validator by the standard, and the one for which a number with a point or an exponent is not whole."""
     from jsonschema import Draft202012Validator
     from jsonschema.validators import extend
 
-    schema = json.loads((TOP / "cluster.schema.json").read_text())
+    schema = json.loads((TOP / SCHEMA).read_text())
     Draft202012Validator.check_schema(schema)
 
     def is_whole(_, it):
@@ -127,8 +123,6 @@ def points():
 
 def results():
     """The name of each trial, and what is wrong, or None."""
-    same = (TOP / PACKAGED).read_bytes() == (TOP / "cluster.schema.json").read_bytes()
-    yield PACKAGED, None if same else f"it differs: cp cluster.schema.json {PACKAGED}"
     standard, check = validators()
     for name, file, code in files():
         yield name, why_wrong(check, name, file, code)
