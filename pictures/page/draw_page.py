@@ -21,7 +21,7 @@ sys.path[:0] = [str(PICTURES.parent / "python"), str(PICTURES.parent / "python" 
 import markets  # noqa: E402
 from brokers import Mosquitto, free_port, live_program, wait_until  # noqa: E402
 from looking import CHROMIUM, get  # noqa: E402
-from websockets.legacy.client import connect  # noqa: E402
+from websockets import connect  # noqa: E402
 
 from cogmaula.live import PageSettings  # noqa: E402
 

@@ -2,6 +2,7 @@
 
 from __future__ import annotations
 
+import sys
 from dataclasses import dataclass
 from typing import Literal
 
@@ -20,6 +21,11 @@ class NoProgram(MarketError):
 
 class NoPackage(MarketError):
     """A call needs a Python package that is not installed. The message names it, and Debian's package of it."""
+
+    @classmethod
+    def lacking(cls, need: str, debian: str) -> NoPackage:
+        """The error that the Python that runs this lacks a package. `need` names the package, and `debian` is Debian's."""
+        return cls(f"{need}, which {sys.executable} does not have. Debian's {debian} is for /usr/bin/python3")
 
 
 class Unreadable(MarketError):

@@ -10,7 +10,6 @@ import base64
 import contextlib
 import hashlib
 import json
-import logging
 import os
 import re
 import threading
@@ -21,18 +20,18 @@ from importlib.resources import files
 from typing import Any
 from urllib.parse import urlsplit
 
-from ..errors import NoPackage
 from .board import Board
 from .page_settings import PageSettings
 from .sessions import now_text
 from .view import view_of
+from .websocket import NoHandshake, WebSocket, protocol_of
 
 # The least seconds between two views, and the greatest part of a processor that making them may take.
 BETWEEN, MOST_WORK = 0.5, 0.1
 # The most WebSockets, and the most connections with those that ask for something.
 MOST_SOCKETS, MOST_CONNECTIONS = 64, 128
-# The longest message of a client in bytes, and the seconds within which a client has to say what it wants.
-LONGEST, PATIENCE = 1_024, 5.0
+# The longest message of a client in bytes, the seconds within which a client has to say what it wants, and those that an end takes.
+LONGEST, PATIENCE, LAST_SECONDS = 1_024, 5.0, 1.0
 # The seconds after which a view is told again, so that a client notices a connection that is lost.
 SILENCE = 10.0
 # The seconds between tries to listen.
@@ -46,16 +45,6 @@ COMMON = [
     ("Referrer-Policy", "no-referrer"),
     ("Cross-Origin-Resource-Policy", "same-origin"),
 ]
-
-
-def websockets_package() -> Any:
-    """The package websockets, with its server. Raises NoPackage if it is not installed."""
-    try:
-        import websockets.exceptions
-        import websockets.legacy.server
-    except ImportError:
-        raise NoPackage("a page needs the package websockets (Debian: python3-websockets)") from None
-    return websockets
 
 
 def page_bytes() -> bytes:
@@ -93,7 +82,7 @@ class Page:
         own:   the node whose messages alone the board holds, None if it holds all of the market
         pause: the seconds between tries to listen
         """
-        self._websockets = websockets_package()
+        protocol_of("a page")
         self.settings = settings
         self._prefix, self._own = prefix, own
         self._board = board
@@ -114,6 +103,7 @@ class Page:
         self._made_at = self._work = 0.0
         self._is_old = True
         self._sockets = 0
+        self._clients: set[asyncio.Task[Any]] = set()
 
     # The calls of other threads.
 
@@ -163,35 +153,15 @@ class Page:
     async def _serve(self) -> None:
         self._ending, self._changed, self._news = asyncio.Event(), asyncio.Event(), asyncio.Event()
         self._sockets, self._is_old, self._is_told = 0, True, False
-        server = await self._websockets.legacy.server.serve(
-            self._serve_socket,
-            self.settings.host,
-            self.settings.port,
-            create_protocol=self._new_connection,
-            process_request=self._answer,
-            logger=logging.Logger("page", logging.CRITICAL + 1),
-            compression=None,
-            server_header=None,
-            max_size=LONGEST,
-            max_queue=1,
-            close_timeout=1,
-        )
+        server = await asyncio.start_server(self._serve_client, self.settings.host, self.settings.port)
         async with server:
             self.port = server.sockets[0].getsockname()[1]
             self._loop = asyncio.get_running_loop()
             telling = asyncio.create_task(self._tell_news())
             if not self._closing.is_set():
                 await self._ending.wait()
-            telling.cancel()
-
-    def _new_connection(self, *arguments: Any, **named: Any) -> Any:
-        """A connection that is ended if there are too many, or if its client asks for nothing."""
-        made = self._websockets.legacy.server.WebSocketServerProtocol(*arguments, **named)
-        connections = made.ws_server.websockets
-        loop = asyncio.get_running_loop()
-        loop.call_later(0, lambda: made.transport.abort() if len(connections) > MOST_CONNECTIONS else None)
-        loop.call_later(PATIENCE, lambda: made.transport.abort() if made.state.name == "CONNECTING" else None)
-        return made
+            for task in (telling, *self._clients):
+                task.cancel()
 
     # The view.
 
@@ -236,35 +206,69 @@ class Page:
 
     # The clients.
 
-    async def _serve_socket(self, socket: Any) -> None:
+    async def _serve_client(self, reader: asyncio.StreamReader, writer: asyncio.StreamWriter) -> None:
+        """Answers one client. It is ended if there are too many, or if it asks for nothing."""
+        task = asyncio.current_task()
+        assert task is not None
+        if len(self._clients) >= MOST_CONNECTIONS:
+            writer.transport.abort()
+            return
+        self._clients.add(task)
+        try:
+            await self._serve_socket(WebSocket(reader, writer, LONGEST))
+        except (NoHandshake, OSError, TimeoutError):
+            # It went, or it asks for nothing that is here.
+            pass
+        finally:
+            self._clients.discard(task)
+            writer.transport.abort()
+
+    async def _serve_socket(self, socket: WebSocket) -> None:
+        """Answers a request, and goes on with one who looks. Raises NoHandshake, ConnectionError and TimeoutError."""
+        async with asyncio.timeout(PATIENCE):
+            answer = await self._answer_to(socket)
+            if answer is None:
+                await socket.accept()
+            else:
+                await socket.answer(*answer)
+        if answer is None:
+            await self._tell(socket)
+        await socket.close(LAST_SECONDS)
+
+    async def _answer_to(self, socket: WebSocket) -> Answer | None:
+        """What the request of a connection is answered by, None if it goes on as a WebSocket."""
+        try:
+            path, headers = await socket.request()
+        except NoHandshake as error:
+            return _words(HTTPStatus.BAD_REQUEST, str(error))
+        return self._answer(path, headers)
+
+    async def _tell(self, socket: WebSocket) -> None:
         """Sends the view at each change, and after a silence, to one who looks, until that one goes. What it sends is dropped."""
         self._sockets += 1
         reading = asyncio.ensure_future(self._drop_all(socket))
         try:
             while not reading.done():
                 news = asyncio.ensure_future(self._news.wait())
-                await asyncio.wait_for(socket.send(self._newest()), PATIENCE)
+                async with asyncio.timeout(PATIENCE):
+                    # One that does not read what it is sent ends.
+                    await socket.send(self._newest().encode())
                 await asyncio.wait({reading, news}, timeout=SILENCE, return_when=asyncio.FIRST_COMPLETED)
                 news.cancel()
-        except asyncio.TimeoutError:
-            # It does not read what it is sent.
-            socket.transport.abort()
-        except self._websockets.exceptions.ConnectionClosed:
-            pass
         finally:
             reading.cancel()
             self._sockets -= 1
 
-    async def _drop_all(self, socket: Any) -> None:
+    async def _drop_all(self, socket: WebSocket) -> None:
         """Reads all that a client sends, and drops it, until the connection ends."""
-        with contextlib.suppress(self._websockets.exceptions.ConnectionClosed):
-            async for _ in socket:
+        with contextlib.suppress(OSError):
+            while await socket.receive() is not None:
                 pass
 
-    async def _answer(self, path: str, headers: Any) -> Answer | None:
+    def _answer(self, path: str, headers: dict[str, str]) -> Answer | None:
         """What a request is answered by, None if it goes on as a WebSocket."""
         path = urlsplit(path).path
-        if not self._is_own_host(headers.get("Host", "")):
+        if not self._is_own_host(headers.get("host", "")):
             return _words(HTTPStatus.FORBIDDEN, "this name is not the page's: give page.origin, the address that browsers have for it")
         if path == "/":
             return HTTPStatus.OK, [*COMMON, ("Content-Security-Policy", self._policy), ("Content-Type", HTML)], self._html
@@ -272,7 +276,7 @@ class Page:
             return HTTPStatus.OK, [*COMMON, ("Content-Type", JSON)], self._newest().encode()
         if path != "/live":
             return _words(HTTPStatus.NOT_FOUND, "there are /, /view and /live")
-        if not self._is_own_origin(headers.get("Origin", ""), headers.get("Host", "")):
+        if not self._is_own_origin(headers.get("origin", ""), headers.get("host", "")):
             return _words(HTTPStatus.FORBIDDEN, "only the page itself may connect: read /view, or give page.origin")
         if self._sockets >= MOST_SOCKETS:
             return _words(HTTPStatus.SERVICE_UNAVAILABLE, f"{MOST_SOCKETS} are looking, and no more may")

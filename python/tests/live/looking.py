@@ -20,7 +20,7 @@ CHROMIUM = shutil.which("chromium")
 
 def require_page():
     """Skips the test if the page's package is not installed."""
-    pytest.importorskip("websockets.legacy.server", reason="websockets is not installed: apt-get install python3-websockets")
+    pytest.importorskip("websockets", reason="websockets is not installed: apt-get install python3-websockets")
 
 
 def require_browser():
@@ -76,7 +76,7 @@ def get(port, path="/", method="GET", **headers):
 
 
 def socket_of(port, origin=None, path="/live", **more):
-    from websockets.legacy.client import connect
+    from websockets import connect
 
     more = {"compression": None, **more}
     return connect(f"ws://127.0.0.1:{port}{path}", origin=origin or f"http://127.0.0.1:{port}", **more)

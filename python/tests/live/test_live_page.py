@@ -103,7 +103,7 @@ def test_only_the_page_itself_may_connect(served, origin):
 
 
 def test_without_an_origin_nobody_may_connect(served):
-    from websockets.legacy.client import connect
+    from websockets import connect
 
     assert asyncio.run(refused(lambda: connect(f"ws://127.0.0.1:{served.page.port}/live"))) == 403
     assert asyncio.run(refused(lambda: served.socket(path="/other"))) == 404
@@ -301,12 +301,13 @@ def test_without_websockets_the_node_goes_on_with_a_line(tmp_path, monkeypatch):
     import sys
 
     said = []
-    monkeypatch.setitem(sys.modules, "websockets.legacy.server", None)
+    monkeypatch.setitem(sys.modules, "websockets", None)
     showing = Showing(settings("relay", tmp_path, page=PageSettings("127.0.0.1:0")), said.append)
     showing.start()
     showing.tick(True)
     showing.close(1)
-    assert said == ["page: a page needs the package websockets (Debian: python3-websockets)"]
+    lacks = f"a page needs the package websockets, which {sys.executable} does not have"
+    assert said == [f"page: {lacks}. Debian's python3-websockets is for /usr/bin/python3"]
 
 
 def test_a_node_shows_what_it_hears(joined):
