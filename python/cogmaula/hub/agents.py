@@ -13,6 +13,7 @@ from ..live.sessions import Session
 from .agent import Agent
 from .exchange import Exchange
 from .places import Place, keep_place, places_in, require_places
+from .refusals import NodeDown, TooManyWrongLogins, WrongLogin
 from .running import Running
 from .settings import HubSettings
 from .tokens import Entries, Entry, FailedLogins, TokenFile, hash_of
@@ -60,6 +61,8 @@ class Agents:
             self._entries = self._right(self._file.changed() or {})
         except FileNotFoundError:
             raise BadSettings(f"there is no {self._settings.agents}: --new-token AGENT CHILD makes it") from None
+        except PermissionError:
+            raise BadSettings(f"{self._settings.agents} cannot be read: give it to the user of the hub, or put it into the hub's folder") from None
         self._exchange.watch(self._take_message)
         for name, place in self._places.items():
             agent = self._agent(name, place.child)
@@ -120,24 +123,47 @@ class Agents:
     # Logins.
 
     def login(self, data: bytes, address: str) -> Agent:
-        """The agent that logs in by this line from this address, with its node at work. Raises LiveError."""
-        if self._failed.are_too_many(address):
-            raise BadMessage(f"too many logins of {address} failed: try again in a second")
+        """The agent that logs in by this line from this address, with its node at work. Raises LiveError.
+
+        The token is looked at first: no failed login of others keeps a right one out.
+        """
+        agent = self._agent_of(self._entry_of(data, address))
+        if agent.running is None or not agent.running.is_alive:
+            self._start(agent)
+            if agent.running is None:
+                raise NodeDown(f"the node of {agent.name} does not start: the hub's log says why")
+        return agent
+
+    def _entry_of(self, data: bytes, address: str) -> Entry:
+        """The entry of the agent that logs in. Raises BadMessage."""
         try:
             login = Login.of(data)
             entry = self._entries.get(login.agent, self._nobody)
-            if not entry.takes(login.token) or entry is self._nobody:
-                raise BadMessage(f"the login of {quoted(login.agent)} is refused: look at agentId and token")
+            if entry.takes(login.token) and entry is not self._nobody:
+                return entry
+            raise WrongLogin(f"the login of {quoted(login.agent)} is refused: look at agentId and token")
         except BadMessage:
+            if self._failed.are_too_many(address):
+                raise TooManyWrongLogins(f"too many logins of {address} failed: try again in a second") from None
             self._failed.note(address)
             raise
+
+    def _agent_of(self, entry: Entry) -> Agent:
+        """The agent of an entry. One without a node takes the child number of the entry."""
         agent = self._agents.get(entry.agent) or self._agent(entry.agent, entry.child)
         if agent.running is None or not agent.running.is_alive:
             agent.child = entry.child
-            self._start(agent)
-            if agent.running is None:
-                raise BadMessage(f"the node of {agent.name} does not start: the hub's log says why")
         return agent
+
+    @property
+    def with_node(self) -> int:
+        """How many agents have a node."""
+        return len(self._agents)
+
+    @property
+    def allowed(self) -> int:
+        """How many agents may log in."""
+        return len(self._entries)
 
     # The nodes.
 

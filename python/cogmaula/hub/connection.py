@@ -10,7 +10,9 @@ from typing import Protocol
 from ..cluster import Basis
 from ..live.errors import BadMessage, LiveError
 from .agent import Agent
-from .words import LEAVE_OFFER, LONGEST, BidUpdate, error_line, word_of
+from .lines import Lines
+from .refusals import LineTooLong, NoLogin
+from .words import LEAVE_OFFER, BidUpdate, error_line, word_of
 
 # The seconds within which a login has to come, and those in which a connection that is to end may still write.
 LOGIN_SECONDS, LAST_SECONDS = 10.0, 1.0
@@ -20,19 +22,11 @@ BETWEEN = 0.02
 WAITING = 8
 
 
-class LineTooLong(LiveError):
-    """A line or a message is longer than the hub takes."""
-
-    def __init__(self) -> None:
-        super().__init__(f"the line is above {LONGEST} bytes: the connection ends")
-
-
 class Channel(Protocol):
     """What carries the lines of one connection."""
 
-    # The other side as lines name it, and its host alone.
+    # The other side as lines name it.
     peer: str
-    host: str
 
     async def read(self) -> bytes | None:
         """The next line, None at the end. Raises LineTooLong and ConnectionError."""
@@ -50,21 +44,21 @@ class Connection:
     def __init__(
         self,
         channel: Channel,
-        login: Callable[[bytes, str], Agent],
+        login: Callable[[bytes], Agent],
         welcome: Callable[[Agent], bytes],
         basis: Basis,
-        say: Callable[[str], None],
+        log: Lines,
     ) -> None:
         """Takes the channel, and what the hub has.
 
-        login:   finds the agent of a line and of a host, or raises LiveError
+        login:   finds the agent of a line, or raises LiveError
         welcome: the answer to a login
         """
         self._channel = channel
         self._login = login
         self._welcome = welcome
         self._basis = basis
-        self._say = say
+        self._log = log
         self._agent: Agent | None = None
         self._lines: deque[bytes] = deque(maxlen=WAITING)
         self._told: bytes | None = None
@@ -88,7 +82,7 @@ class Connection:
                 it.cancel()
             for found in await asyncio.gather(reading, sending, return_exceptions=True):
                 if isinstance(found, Exception) and not isinstance(found, OSError):
-                    self._say(f"{self._name}: the connection failed, {found!r}")
+                    self._log.say_seldom(type(found), f"{self._name}: the connection failed, {found!r}")
             await self._channel.close()
 
     @property
@@ -101,10 +95,10 @@ class Connection:
         """See Listener."""
         self._news.set()
 
-    def end(self, why: str) -> None:
-        """See Listener."""
+    def end(self, why: str, kind: object = "end") -> None:
+        """See Listener. Lines of one kind and one agent are said seldom."""
         if not self._is_ending:
-            self._tell_error(why)
+            self._tell_error(why, kind)
             self._is_ending = True
             if self._sending is not None:
                 asyncio.get_running_loop().call_later(LAST_SECONDS, self._sending.cancel)
@@ -119,17 +113,17 @@ class Connection:
                     self._take(line)
                 await asyncio.sleep(BETWEEN)
         except LiveError as error:
-            self.end(str(error))
+            self.end(str(error), type(error))
 
     async def _read_login(self) -> None:
         try:
             line = await asyncio.wait_for(self._channel.read(), LOGIN_SECONDS)
         except asyncio.TimeoutError:
-            raise BadMessage(f"no login came for {LOGIN_SECONDS:g} s: the connection ends") from None
+            raise NoLogin(f"no login came for {LOGIN_SECONDS:g} s: the connection ends") from None
         if line is None:
             self._is_ending = True
             return
-        agent = self._login(line, self._channel.host)
+        agent = self._login(line)
         self._lines.append(self._welcome(agent))
         self._agent = agent
         agent.connect(self)
@@ -139,14 +133,14 @@ class Connection:
         try:
             word = word_of(line, self._basis)
         except BadMessage as error:
-            self._tell_error(str(error))
+            self._tell_error(str(error), type(error))
             return
         self._agent.offer(word.to_offer() if isinstance(word, BidUpdate) else LEAVE_OFFER)
 
     # What the agent is told.
 
-    def _tell_error(self, text: str) -> None:
-        self._say(f"{self._name}: {text}")
+    def _tell_error(self, text: str, kind: object) -> None:
+        self._log.say_seldom((kind, "" if self._agent is None else self._agent.name), f"{self._name}: {text}")
         self._lines.append(error_line(text))
         self._news.set()
 

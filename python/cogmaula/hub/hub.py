@@ -7,6 +7,7 @@ its own process of `live` and its own folder. So a proved service numbers each b
 from __future__ import annotations
 
 import asyncio
+import math
 import sys
 from collections.abc import Callable
 from typing import Any
@@ -14,11 +15,15 @@ from typing import Any
 from ..live.errors import LiveError
 from ..live.messages import BasisMessage
 from ..live.node import Node
+from ..live.page import MOST_CONNECTIONS as CONNECTIONS_OF_PAGE
 from ..live.sessions import Session, now_text
+from .admission import Admission, Guest, files_allowed
 from .agent import Agent
 from .agents import Agents
 from .connection import Channel, Connection
 from .exchange import Exchange
+from .lines import Lines
+from .memory import Memory
 from .running import Running
 from .server import Server
 from .settings import Address, HubSettings
@@ -27,8 +32,6 @@ from .words import error_line, welcome
 
 # The seconds between looks at the files of tokens and of the certificate, and those in which connections have to end.
 LOOK, LAST_SECONDS = 1.0, 3.0
-# The most connections, of agents and of those that have not logged in.
-CONNECTIONS = 1_024
 
 
 class Hub:
@@ -41,8 +44,11 @@ class Hub:
         """
         self.settings = settings
         self.exchange = Exchange()
-        self._say = say or self._say_at_standard_error
-        self._server = Server(settings, self._serve, self._say)
+        self._lines = Lines(say or self._say_at_standard_error)
+        self._say = self._lines.say
+        self._admission = Admission(files_allowed() - (0 if settings.page is None else CONNECTIONS_OF_PAGE))
+        self._memory = Memory()
+        self._server = Server(settings, self._serve, self._admission, self._lines)
         self.showing = Showing(settings.page, settings.topics.prefix, self.exchange, self._say)
         self._connections: dict[Connection, asyncio.Task[Any] | None] = {}
         self._loop: asyncio.AbstractEventLoop | None = None
@@ -116,6 +122,10 @@ class Hub:
         self._session = BasisMessage.of(basis.payload).session
         self._agents = Agents(self.settings, self.exchange, self._session, loop, self._say)
         self._agents.begin()
+        lacking = self._admission.files_lacking(self._agents.allowed)
+        if lacking:
+            self._say(f"{self._agents.allowed} agents may log in, and {lacking} files are lacking for them: raise LimitNOFILE of the hub's unit")
+        self._admission.agents = self._agents.with_node
         await self._server.start()
         for how, found in (("WebSocket", self.addresses), ("TCP", self.addresses_tcp)):
             for address in found:
@@ -126,11 +136,13 @@ class Hub:
         assert self._agents is not None
         self._agents.look()
         self._server.look()
+        self._lines.tick()
+        self._memory.look(self._admission.ended)
 
     async def _end(self, auctioneer: Running) -> None:
         """Tells the agents, and ends all: first the connections, then the nodes of agents, and then the auctioneer."""
         for connection in self._connections:
-            connection.end("the hub ends: connect again later")
+            connection.end("the hub ends: connect again later", "the hub ends")
         tasks = [it for it in self._connections.values() if it is not None]
         if tasks:
             await asyncio.wait(tasks, timeout=LAST_SECONDS)
@@ -140,31 +152,39 @@ class Hub:
         auctioneer.stop()
         await asyncio.to_thread(auctioneer.join, LAST_SECONDS)
         await asyncio.to_thread(self.showing.close)
+        self._lines.tick(math.inf)
 
     # Connections.
 
-    async def _serve(self, channel: Channel) -> None:
+    async def _serve(self, channel: Channel, guest: Guest) -> None:
         """Works one connection."""
-        assert self._agents is not None
-        if len(self._connections) >= CONNECTIONS or not self.is_up:
-            await channel.write(error_line(f"the hub has {CONNECTIONS} connections or ends: try again later"))
+        if not self.is_up:
+            await channel.write(error_line("the hub ends: connect again later"))
             await channel.close()
             return
-        connection = Connection(channel, self._agents.login, self._welcome, self.settings.basis, self._say)
+        connection = Connection(channel, lambda line: self._login(line, guest), self._welcome, self.settings.basis, self._lines)
         self._connections[connection] = asyncio.current_task()
         try:
             await connection.run()
         finally:
             del self._connections[connection]
 
+    def _login(self, line: bytes, guest: Guest) -> Agent:
+        """The agent that a guest logs in as. Raises LiveError."""
+        assert self._agents is not None
+        agent = self._agents.login(line, guest.network)
+        self._admission.admit(guest)
+        self._admission.agents = self._agents.with_node
+        return agent
+
     def _welcome(self, agent: Agent) -> bytes:
         assert self._session is not None
         return welcome(agent.name, self.settings.cluster, self.settings.basis, self._session.id, now_text())
 
     def _say_error(self, _loop: asyncio.AbstractEventLoop, told: dict[str, Any]) -> None:
-        """Says what the loop finds wrong, such as a handshake of TLS that fails."""
+        """Says what the loop finds wrong."""
         error = told.get("exception")
-        self._say(f"{told.get('message', 'a connection failed')}{'' if error is None else f': {error}'}")
+        self._lines.say_seldom(type(error), f"{told.get('message', 'a connection failed')}{'' if error is None else f': {error}'}")
 
 
 async def _wait(event: asyncio.Event, seconds: float) -> None:

@@ -1,40 +1,44 @@
-"""Where the hub listens: WebSocket and lines over TCP, with the same words, and both by TLS if there is a certificate."""
+"""Where the hub listens: WebSocket and lines over TCP, with the same words, and both by TLS if there is a certificate.
+
+A connection is a guest of the hub from when it is accepted. By TLS nothing is made for it before it has sent its first bytes.
+"""
 
 from __future__ import annotations
 
 import asyncio
-import logging
+import errno
 import os
+import socket
 import ssl
+from asyncio import sslproto
 from collections.abc import Awaitable, Callable
+from http import HTTPStatus
 from typing import Any
 
-from ..live.errors import LiveError
-from .channels import (
-    ANSWER,
-    KEPT_BESIDE,
-    LONGEST_MESSAGE,
-    MESSAGES,
-    SILENCE,
-    TcpChannel,
-    WebSocketChannel,
-    open_socket,
-    patient,
-    websockets,
-)
+from ..live.errors import BadSettings, LiveError
+from ..live.websocket import NoHandshake, WebSocket, protocol_of
+from .admission import Admission, Guest
+from .channels import KEPT, KEPT_BESIDE, LONGEST_MESSAGE, TcpChannel, WebSocketChannel, open_socket, peer_of
 from .connection import LOGIN_SECONDS, Channel
+from .lines import Lines
 from .settings import Address, HubSettings
 from .words import LONGEST
+
+# What the system says if it has no file for another connection, and the seconds until the hub tries again.
+NO_FILES, PAUSE = (errno.EMFILE, errno.ENFILE), 0.5
+# By itself asyncio keeps a buffer of 256 kB for each connection by TLS.
+sslproto.SSLProtocol.max_size = KEPT
+
+Serve = Callable[[Channel, Guest], Awaitable[None]]
 
 
 class Certificate:
     """The hub's certificate and its key, which are read again when one of them changes."""
 
-    def __init__(self, certificate: str, key: str, say: Callable[[str], None]) -> None:
-        """Reads both. Raises LiveError if they cannot be read, or do not belong together."""
+    def __init__(self, certificate: str, key: str) -> None:
+        """Reads both. Raises BadSettings if they cannot be read, or do not belong together."""
         self._files = (certificate, key)
         self.context = ssl.SSLContext(ssl.PROTOCOL_TLS_SERVER)
-        self.context.sslobject_class = _saying(say)
         self.context.minimum_version = ssl.TLSVersion.TLSv1_2
         self._mark = self._marked()
         self._load(self.context)
@@ -47,10 +51,10 @@ class Certificate:
             context.load_cert_chain(*self._files, password=lambda: "")
         except (ssl.SSLError, OSError) as error:
             why = getattr(error, "reason", None) or error.strerror or error
-            raise LiveError(f"the certificate {self._files[0]} and the key {self._files[1]} cannot be used: {why}") from None
+            raise BadSettings(f"the certificate {self._files[0]} and the key {self._files[1]} cannot be used: {why}") from None
 
     def look(self) -> bool:
-        """Reads both again if one has changed, for new connections, and says whether it did. Raises LiveError, once a change."""
+        """Reads both again if one has changed, for new connections, and says whether it did. Raises BadSettings, once a change."""
         mark = self._marked()
         if mark == self._mark:
             return False
@@ -61,37 +65,22 @@ class Certificate:
         return True
 
 
-def _saying(say: Callable[[str], None]) -> type[ssl.SSLObject]:
-    """The end of a TLS connection, which says a line if its handshake fails: asyncio tells nobody."""
-
-    class End(ssl.SSLObject):
-        def do_handshake(self) -> None:
-            try:
-                super().do_handshake()
-            except (ssl.SSLWantReadError, ssl.SSLWantWriteError):
-                raise
-            except ssl.SSLError as error:
-                why = error.reason or error
-                say(f"a handshake of TLS fails ({why}): does the agent connect by TLS, and trust the certificate?")
-                raise
-
-    return End
-
-
 class Server:
     """All addresses at which the hub listens."""
 
-    def __init__(self, settings: HubSettings, serve: Callable[[Channel], Awaitable[None]], say: Callable[[str], None]) -> None:
-        """Takes the settings, what works a connection, and a call for lines. Raises LiveError and NoPackage."""
+    def __init__(self, settings: HubSettings, serve: Serve, admission: Admission, lines: Lines) -> None:
+        """Takes the settings, what works a connection, and what the hub has. Raises BadSettings and NoPackage."""
         self._settings = settings
         self._serve = serve
-        self._say = say
-        self._servers: list[Any] = []
+        self._admission = admission
+        self._lines = lines
+        self._sockets: list[socket.socket] = []
+        self._tasks: set[asyncio.Task[None]] = set()
         self._certificate = None
         if settings.certificate is not None and settings.key is not None:
-            self._certificate = Certificate(settings.certificate, settings.key, say)
+            self._certificate = Certificate(settings.certificate, settings.key)
         if settings.listen:
-            websockets()
+            protocol_of("listen, other than listen_tcp,")
         # Where it listens in fact, for WebSocket and for TCP.
         self.addresses: list[Address] = []
         self.addresses_tcp: list[Address] = []
@@ -99,79 +88,163 @@ class Server:
     async def start(self) -> None:
         """Listens. Raises LiveError if an address cannot be had."""
         for address in self._settings.addresses:
-            await self._listen(address, self._listen_websocket, self.addresses)
+            self._listen(address, self._websocket, self.addresses)
         for address in self._settings.addresses_tcp:
-            await self._listen(address, self._listen_tcp, self.addresses_tcp)
+            self._listen(address, self._tcp, self.addresses_tcp)
 
     async def stop(self) -> None:
-        """Listens no more."""
-        for it in self._servers:
-            it.close()
-            await it.wait_closed()
+        """Listens no more, and ends what is left of connections."""
+        for it in self._tasks:
+            it.cancel()
+        await asyncio.gather(*self._tasks, return_exceptions=True)
+        for opened in self._sockets:
+            opened.close()
 
     def look(self) -> None:
         """Reads the certificate again if it has changed."""
         try:
             if self._certificate is not None and self._certificate.look():
-                self._say("the certificate has changed: new connections have the new one")
-        except LiveError as error:
-            self._say(f"{error}: connections have the one of before")
+                self._lines.say("the certificate has changed: new connections have the new one")
+        except BadSettings as error:
+            self._lines.say(f"{error}: connections have the one of before")
 
-    @property
-    def _more(self) -> dict[str, Any]:
-        if self._certificate is None:
-            return {}
-        return {"ssl": self._certificate.context, "ssl_handshake_timeout": LOGIN_SECONDS}
-
-    async def _listen(self, address: Address, listen: Callable[[Any], Awaitable[Any]], found: list[Address]) -> None:
+    def _listen(self, address: Address, carry: _Carry, found: list[Address]) -> None:
         try:
             opened = open_socket(address.host, address.port)
         except OSError as error:
             raise LiveError(f"the hub cannot listen at {address}: {error.strerror or error}") from None
+        self._sockets.append(opened)
         found.append(Address(address.host, opened.getsockname()[1]))
-        self._servers.append(await listen(opened))
+        self._start(self._accept_all(opened, carry))
 
-    async def _listen_tcp(self, opened: Any) -> Any:
-        async def serve(reader: asyncio.StreamReader, writer: asyncio.StreamWriter) -> None:
-            await self._serve(TcpChannel(reader, writer))
+    def _start(self, work: Any) -> asyncio.Task[None]:
+        task: asyncio.Task[None] = asyncio.get_running_loop().create_task(work)
+        self._tasks.add(task)
+        task.add_done_callback(self._tasks.discard)
+        return task
 
-        return await asyncio.start_server(serve, sock=opened, limit=LONGEST, **self._more)
+    # Connections.
 
-    async def _listen_websocket(self, opened: Any) -> Any:
-        async def serve(connection: Any) -> None:
-            await self._serve(WebSocketChannel(connection))
+    async def _accept_all(self, opened: socket.socket, carry: _Carry) -> None:
+        """Accepts connections for ever, one at a turn of the loop, so that many of them hold up nobody."""
+        loop = asyncio.get_running_loop()
+        while True:
+            try:
+                self._welcome(*await loop.sock_accept(opened), carry)
+            except ConnectionError:
+                # The other side has gone already.
+                pass
+            except OSError as error:
+                do = ": raise LimitNOFILE of the hub's unit" if error.errno in NO_FILES else ""
+                self._lines.say_seldom("no connection", f"no connection is accepted, {error.strerror}{do}")
+                await asyncio.sleep(PAUSE)
+            await asyncio.sleep(0)
 
-        return await websockets().server.serve(
-            serve,
-            sock=opened,
-            max_size=LONGEST_MESSAGE,
-            max_queue=MESSAGES,
-            write_limit=KEPT_BESIDE,
-            compression=None,
-            server_header=None,
-            create_protocol=patient(LOGIN_SECONDS),
-            ping_interval=SILENCE,
-            ping_timeout=ANSWER,
-            close_timeout=1,
-            logger=self._logger(),
-            **self._more,
-        )
+    def _welcome(self, one: socket.socket, address: Any, carry: _Carry) -> None:
+        """Takes a connection as a guest."""
+        visit = _Visit(one, peer_of(address))
+        guest = visit.guest = Guest(str(address[0]) if address else "?", visit.end)
+        visit.task = self._start(self._work(visit, carry))
+        visit.task.add_done_callback(lambda task: self._ended(visit, task))
+        if self._admission.enter(guest):
+            self._lines.say_seldom("too many", f"too many connections wait for a login, many of {guest.network}: the oldest of these ends")
 
-    def _logger(self) -> logging.Logger:
-        """A logger that says a line of what websockets finds wrong, such as a handshake that is none."""
-        logger = logging.Logger("websockets", logging.WARNING)
-        logger.addHandler(_Lines(self._say))
-        return logger
+    async def _work(self, visit: _Visit, carry: _Carry) -> None:
+        """Works one connection."""
+        try:
+            async with asyncio.timeout(LOGIN_SECONDS):
+                if self._certificate is not None:
+                    await visit.first_bytes()
+                channel = await carry(visit)
+            await self._serve(channel, visit.guest)
+        except TimeoutError:
+            self._lines.say_seldom("no handshake", f"{visit.peer}: no handshake came for {LOGIN_SECONDS:g} s: the connection ends")
+        except ssl.SSLError as error:
+            why = error.reason or error
+            told = f"{visit.peer}: a handshake of TLS fails ({why}): does the agent connect by TLS, and trust the certificate?"
+            self._lines.say_seldom("TLS", told)
+        except NoHandshake as error:
+            self._lines.say_seldom(NoHandshake, f"{visit.peer}: {error}")
+        except OSError:
+            # The other side has gone.
+            pass
+
+    def _ended(self, visit: _Visit, task: asyncio.Task[None]) -> None:
+        """Lets a guest go whose work is over."""
+        self._admission.leave(visit.guest)
+        visit.abort()
+        error = None if task.cancelled() else task.exception()
+        if error is not None:
+            self._lines.say_seldom(type(error), f"{visit.peer}: the connection failed, {error!r}")
+
+    async def _tcp(self, visit: _Visit) -> Channel:
+        reader, writer = await visit.open(self._certificate)
+        return TcpChannel(reader, writer, visit.peer)
+
+    async def _websocket(self, visit: _Visit) -> Channel:
+        reader, writer = await visit.open(self._certificate)
+        found = WebSocket(reader, writer, LONGEST_MESSAGE)
+        try:
+            await found.request()
+        except NoHandshake as error:
+            await found.answer(HTTPStatus.BAD_REQUEST, [("Content-Type", "text/plain; charset=utf-8")], f"{error}\n".encode())
+            await found.close(1.0)
+            raise
+        try:
+            await found.accept()
+        except NoHandshake:
+            await found.close(1.0)
+            raise
+        return WebSocketChannel(found, visit.peer)
 
 
-class _Lines(logging.Handler):
-    """Says each record in a line."""
+class _Visit:
+    """A connection that was accepted: its socket, and what was made for it."""
 
-    def __init__(self, say: Callable[[str], None]) -> None:
-        super().__init__()
-        self._to = say
+    guest: Guest
+    task: asyncio.Task[None]
 
-    def emit(self, record: logging.LogRecord) -> None:
-        """See logging.Handler."""
-        error = record.exc_info[1] if record.exc_info else None
-        self._to(record.getMessage() + ("" if error is None else f": {' '.join(str(error).split())}"))
+    def __init__(self, opened: socket.socket, peer: str) -> None:
+        self._socket = opened
+        self.peer = peer
+        self._transport: asyncio.Transport | None = None
+
+    async def first_bytes(self) -> None:
+        """Waits until the other side has sent something. Raises ConnectionError if it has gone."""
+        loop = asyncio.get_running_loop()
+        came = loop.create_future()
+        loop.add_reader(self._socket, lambda: None if came.done() else came.set_result(None))
+        try:
+            await came
+        finally:
+            loop.remove_reader(self._socket)
+        if not self._socket.recv(1, socket.MSG_PEEK):
+            raise ConnectionResetError("it has gone")
+
+    async def open(self, certificate: Certificate | None) -> tuple[asyncio.StreamReader, asyncio.StreamWriter]:
+        """The two ends, by TLS with a certificate. Raises ssl.SSLError and ConnectionError."""
+        loop = asyncio.get_running_loop()
+        reader = asyncio.StreamReader(limit=LONGEST, loop=loop)
+        protocol = asyncio.StreamReaderProtocol(reader, loop=loop)
+        by = {} if certificate is None else {"ssl": certificate.context, "ssl_handshake_timeout": LOGIN_SECONDS}
+        made, _ = await loop.connect_accepted_socket(lambda: protocol, self._socket, **by)  # type: ignore[arg-type]
+        self._transport = made
+        made.set_write_buffer_limits(high=KEPT_BESIDE)
+        return reader, asyncio.StreamWriter(made, protocol, reader, loop)
+
+    def abort(self) -> None:
+        """Closes the connection at once."""
+        if self._transport is not None:
+            self._transport.abort()
+        else:
+            self._socket.close()
+
+    def end(self) -> None:
+        """Ends the connection at once, and its work."""
+        if self._transport is not None:
+            self._transport.abort()
+        self.task.cancel()
+
+
+# Makes the channel of a connection that has sent its first bytes. Raises NoHandshake, ssl.SSLError and ConnectionError.
+_Carry = Callable[[_Visit], Awaitable[Channel]]

@@ -6,6 +6,7 @@ import asyncio
 import contextlib
 import json
 import os
+import resource
 import select
 import signal
 import socket
@@ -105,10 +106,10 @@ class HubInThread:
 
 
 class HubProcess:
-    """A hub in a process of its own, which the test may kill."""
+    """A hub in a process of its own, which the test may kill. It may open so many files at most."""
 
-    def __init__(self, folder, live, *words, tokens=None, listen="listen_tcp", **members):
-        self.folder, self.live, self.words = Path(folder), live, words
+    def __init__(self, folder, live, *words, tokens=None, listen="listen_tcp", files=None, **members):
+        self.folder, self.live, self.words, self.files = Path(folder), live, words, files
         self.tokens = tokens_in(folder) if tokens is None else tokens
         self.port = free_port()
         told = {"state": str(self.folder / "state"), "agents": str(self.folder / "agents"), "pause": 0.05}
@@ -125,8 +126,9 @@ class HubProcess:
         return {**os.environ, "PYTHONPATH": str(TOP / "python"), "PYTHONDONTWRITEBYTECODE": "1", "COGMAULA_LIVE": self.live}
 
     def start(self):
+        bound = None if self.files is None else lambda: resource.setrlimit(resource.RLIMIT_NOFILE, (self.files, self.files))
         with open(self.folder / "hub.err", "ab") as log:
-            self.process = subprocess.Popen(self.command(*self.words), stderr=log, env=self.environment)
+            self.process = subprocess.Popen(self.command(*self.words), stderr=log, env=self.environment, preexec_fn=bound)
         wait_until(lambda: self._listens() or self.process.poll() is not None, "the hub listens")
         return self
 
@@ -137,6 +139,12 @@ class HubProcess:
     @property
     def lines(self):
         return (self.folder / "hub.err").read_text().splitlines()
+
+    @property
+    def megabytes(self):
+        """The memory of the process that no other shares."""
+        rows = Path(f"/proc/{self.process.pid}/smaps_rollup").read_text().splitlines()
+        return sum(int(it.split()[1]) for it in rows if it.startswith("Private")) / 1024
 
     def agent(self, name, **more):
         return TcpAgent(self.port, **more).login(name, self.tokens[name])
@@ -156,6 +164,23 @@ class HubProcess:
 
     def __exit__(self, *_):
         self.stop()
+
+
+@contextlib.contextmanager
+def silent_connections(port, count, data=b""):
+    """So many connections that say nothing behind these bytes."""
+    opened = []
+    try:
+        for _ in range(count):
+            one = socket.create_connection(("127.0.0.1", port), timeout=SECONDS)
+            opened.append(one)
+            if data:
+                with contextlib.suppress(OSError):
+                    one.sendall(data)
+        yield opened
+    finally:
+        for one in opened:
+            one.close()
 
 
 class Told:
@@ -203,11 +228,12 @@ class Told:
 
 
 class TcpAgent(Told):
-    """An agent over TCP, by TLS if a CA is given. A slow one reads nothing until it is let."""
+    """An agent over TCP, by TLS if a CA is given. A slow one reads nothing until it is let. It may have another address."""
 
-    def __init__(self, port, ca=None, is_slow=False):
+    def __init__(self, port, ca=None, is_slow=False, address="127.0.0.1"):
         super().__init__()
         one = socket.socket()
+        one.bind((address, 0))
         if is_slow:
             one.setsockopt(socket.SOL_SOCKET, socket.SO_RCVBUF, 4_096)
         one.connect(("127.0.0.1", port))

@@ -10,7 +10,9 @@ import pytest
 from cogmaula.cluster import Basis
 from cogmaula.hub import connection as module
 from cogmaula.hub.agent import Agent
-from cogmaula.hub.connection import Connection, LineTooLong
+from cogmaula.hub.connection import Connection
+from cogmaula.hub.lines import Lines
+from cogmaula.hub.refusals import LineTooLong
 from cogmaula.live import BadMessage
 
 BASIS = Basis(0, 1, 2)
@@ -21,7 +23,7 @@ class PretendedChannel:
     """A channel that the test feeds, and whose writing it may hold up."""
 
     def __init__(self):
-        self.peer, self.host = "192.0.2.1:5", "192.0.2.1"
+        self.peer = "192.0.2.1:5"
         self.lines, self.written, self.is_closed = asyncio.Queue(), [], False
         self.open = asyncio.Event()
         self.open.set()
@@ -50,14 +52,14 @@ class Table:
         self.agent = Agent("house", 1, gone, asyncio.get_running_loop())
         self.agent.start(self.offers.append, None)
 
-    def login(self, line, host):
-        if json.loads(line) != {"agentId": "house"} or host != "192.0.2.1":
+    def login(self, line):
+        if json.loads(line) != {"agentId": "house"}:
             raise BadMessage("no such agent")
         return self.agent
 
     def connect(self):
         channel = PretendedChannel()
-        one = Connection(channel, self.login, lambda agent: json.dumps({"welcome": agent.name}).encode(), BASIS, self.said.append)
+        one = Connection(channel, self.login, lambda agent: json.dumps({"welcome": agent.name}).encode(), BASIS, Lines(self.said.append))
         channel.work = asyncio.create_task(one.run())
         channel.connection = one
         return channel

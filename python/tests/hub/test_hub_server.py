@@ -30,7 +30,7 @@ def put(paths, certificate, key, moment):
 def test_a_certificate_that_changes_is_read_again(files):
     paths, (one, other) = files
     put(paths, *one, 1)
-    found = Certificate(*paths, lambda _: None)
+    found = Certificate(*paths)
     assert not found.look()
     put(paths, *other, 2)
     assert found.look()
@@ -40,7 +40,7 @@ def test_a_certificate_that_changes_is_read_again(files):
 def test_a_wrong_pair_is_told_once_and_not_taken(files):
     paths, (one, other) = files
     put(paths, *one, 1)
-    found = Certificate(*paths, lambda _: None)
+    found = Certificate(*paths)
     put(paths, one[0], other[1], 2)
     with pytest.raises(LiveError, match="cannot be used: KEY_VALUES_MISMATCH"):
         found.look()
@@ -52,6 +52,6 @@ def test_a_wrong_pair_is_told_once_and_not_taken(files):
 def test_files_that_cannot_be_read(files, tmp_path):
     paths, (one, other) = files
     with pytest.raises(LiveError, match="cannot be used: No such file"):
-        Certificate(*paths, lambda _: None)
+        Certificate(*paths)
     with pytest.raises(LiveError, match="KEY_VALUES_MISMATCH"):
-        Certificate(one[0], other[1], lambda _: None)
+        Certificate(one[0], other[1])
