@@ -19,13 +19,19 @@ finish() {
 }
 trap finish EXIT
 
-# Waits until a file has a word.
+# Whether all that was started still runs.
+all_run() {
+    for one in "${started[@]}"; do kill -0 "$one" 2>/dev/null || return 1; done
+}
+
+# Waits until a file has a word, and not once a part has ended.
 wait_for() {
     for _ in $(seq 600); do
         ! grep -q "$2" "$1" 2>/dev/null || return 0
+        all_run || break
         sleep 0.1
     done
-    echo "$1 has no $2 after a minute" >&2
+    echo "$1 has no $2, after a minute or since a part has ended" >&2
     cat "$work"/*.said >&2
     exit 1
 }
@@ -36,8 +42,7 @@ sed "s#/etc/market#$work#; s#/var/lib/market-hub#$work/state#; s#0\.0\.0\.0:8443
     "$here/hub.toml" >"$work/hub.toml"
 openssl req -x509 -newkey ec -pkeyopt ec_paramgen_curve:P-256 -nodes -days 30 -subj /CN=127.0.0.1 -addext subjectAltName=IP:127.0.0.1 \
     -keyout "$work/hub.key" -out "$work/hub.crt" 2>/dev/null
-"$@" hub --config "$work/hub.toml" --new-token house 1 >"$work/house.token"
-"$@" hub --config "$work/hub.toml" --new-token store 2 >"$work/store.token"
+"$@" hub --config "$work/hub.toml" --new-tokens - --into "$work" <<<$'house 1\nstore 2' >/dev/null
 
 "$@" hub --config "$work/hub.toml" 2>"$work/hub.said" &
 started+=($!)

@@ -6,14 +6,16 @@ import argparse
 import resource
 import signal
 import sys
+from collections.abc import Mapping
+from pathlib import Path
 from typing import Any
 
 from .. import cli
 from ..hub.settings import HubSettings, hub_settings_of, read_hub_toml
-from ..hub.tokens import TokenFile, child_of
+from ..hub.tokens import TokenFile, child_of, children_in, write_token
 from ..live.errors import BadSettings, NodeRefused
-from ..program import LIVE_VARIABLE
 from ..live.topics import require_name
+from ..program import LIVE_VARIABLE
 
 CALLS_PROGRAM = False
 HELP = "runs one whole market in one process, for agents that connect by WebSocket or TCP"
@@ -36,6 +38,8 @@ _OPTIONS: list[tuple[str, type, str, str]] = [
     ("period", float, "SECONDS", "clears by the clock; without it after news"),
     ("pause", float, "SECONDS", "after news, not faster than this; default 1"),
     ("record", str, "FOLDER", "records all frames of all nodes there, for cogmaula judge"),
+    ("record_size", int, "BYTES", "a file of a recording ends at so many bytes, and is compressed; default 4194304"),
+    ("record_files", int, "N", "keeps the newest so many files of each node's recording; default all"),
 ]
 _ADDRESSES = [
     ("listen", "an address for WebSocket; may be given again"),
@@ -45,7 +49,7 @@ _FLAGS = [
     ("insecure", "lets the hub listen without TLS where other machines reach it"),
     ("new_session", "begins a new session, in which all agents count from 1"),
 ]
-# The open files that 256 agents need: four each for their nodes, one for their connection, and those of the rest.
+# The open files that 256 agents need: six each for their nodes, one for their connection, those that wait for a login, and the rest.
 FILES = 4_096
 
 
@@ -58,6 +62,9 @@ def add_arguments(parser: argparse.ArgumentParser) -> None:
     parser.add_argument("--config", metavar="FILE", required=True, help="a TOML file with the tables [hub], [basis] and [page]")
     told = "draws a token for an agent of this child number, prints it once, writes its line to the file of tokens, and ends"
     parser.add_argument("--new-token", nargs=2, metavar=("AGENT", "CHILD"), help=told)
+    told = "the same for each line AGENT CHILD of a file, or of standard input for -; needs --into"
+    parser.add_argument("--new-tokens", metavar="FILE", help=told)
+    parser.add_argument("--into", metavar="FOLDER", help="writes each new token to FOLDER/AGENT.token, for its owner alone, and prints none")
     for member, kind, word, what in _OPTIONS:
         parser.add_argument(_option(member), type=kind, metavar=word, help=what)
     for member, what in _ADDRESSES:
@@ -67,8 +74,11 @@ def add_arguments(parser: argparse.ArgumentParser) -> None:
 
 
 def _tables_of(arguments: argparse.Namespace) -> dict[str, dict[str, Any]]:
-    """The tables of the settings: those of the file, with the options in them."""
-    tables = read_hub_toml(arguments.config)
+    """The tables of the settings: those of the file, with the options in them. Raises BadSettings."""
+    try:
+        tables = read_hub_toml(arguments.config)
+    except OSError as error:
+        raise BadSettings(f"{arguments.config}: {error.strerror}") from None
     for member in [it[0] for it in _OPTIONS] + [it[0] for it in _ADDRESSES + _FLAGS]:
         value = getattr(arguments, member)
         if value is not None:
@@ -80,8 +90,9 @@ def main(arguments: argparse.Namespace) -> int:
     """Runs the hub until a signal ends it, or draws a token."""
     try:
         settings = hub_settings_of(_tables_of(arguments))
-        if arguments.new_token is not None:
-            return _draw_token(settings, *arguments.new_token)
+        children = _children_of(arguments)
+        if children is not None:
+            return _draw_tokens(settings, children, arguments.into)
         return _run(settings)
     except BadSettings as error:
         print(f"cogmaula: {error}", file=sys.stderr)
@@ -91,10 +102,33 @@ def main(arguments: argparse.Namespace) -> int:
         return cli.REFUSED
 
 
-def _draw_token(settings: HubSettings, agent: str, child: str) -> int:
-    if require_name(agent, "the agent") == settings.name:
-        raise BadSettings(f"{agent} is the hub's own name: give the agent another one")
-    print(TokenFile(settings.agents).add(agent, child_of(child, "--new-token")))
+def _children_of(arguments: argparse.Namespace) -> dict[str, int] | None:
+    """The child number of each agent for which a token is to be drawn, None if none is. Raises BadSettings and OSError."""
+    if arguments.new_token is not None:
+        agent, child = arguments.new_token
+        return {agent: child_of(child, "--new-token")}
+    if arguments.new_tokens is None:
+        return None
+    if arguments.into is None:
+        raise BadSettings("--new-tokens draws many tokens: give the folder for them by --into FOLDER")
+    if arguments.new_tokens == "-":
+        return children_in(sys.stdin.read(), "standard input")
+    return children_in(Path(arguments.new_tokens).read_text(), arguments.new_tokens)
+
+
+def _draw_tokens(settings: HubSettings, children: Mapping[str, int], into: str | None) -> int:
+    for agent in children:
+        if require_name(agent, "the agent") == settings.name:
+            raise BadSettings(f"{agent} is the hub's own name: give the agent another one")
+
+    def keep(tokens: Mapping[str, str]) -> None:
+        for agent, token in tokens.items():
+            if into is None:
+                print(token, flush=True)
+            else:
+                print(write_token(Path(into), agent, token))
+
+    TokenFile(settings.agents).draw(children, keep)
     return 0
 
 

@@ -20,6 +20,8 @@ from ..program import live_command
 from .words import Cluster
 
 TABLES = ("hub", "basis", "page")
+# The bytes of a file of a recording: a hub has many nodes, and a file is compressed once it has ended.
+RECORD_SIZE = 4_194_304
 _ADDRESS = re.compile(r"(?:\[([0-9A-Fa-f:.]+)\]|([^\[\]:]+)):([0-9]{1,5})")
 
 
@@ -70,6 +72,8 @@ class HubSettings:
     clusterId, commodity, currency: how the market names itself to agents; the first is by default the hub's name
     new_session: whether the market begins a new session
     record:      the folder of the recordings of all nodes; None records nothing
+    record_size: the bytes after which a file of a recording ends, is compressed, and the next begins
+    record_files: how many files of each node are kept there, the newest; None keeps all
     page:        the page of the market, None for no page
     """
 
@@ -93,6 +97,8 @@ class HubSettings:
     currency: str = "EUR"
     new_session: bool = False
     record: str | None = None
+    record_size: int = RECORD_SIZE
+    record_files: int | None = None
     page: PageSettings | None = None
     addresses: tuple[Address, ...] = field(init=False)
     addresses_tcp: tuple[Address, ...] = field(init=False)
@@ -136,17 +142,21 @@ class HubSettings:
         """The folder that has a folder of each agent."""
         return Path(self.state) / "agents"
 
+    @property
+    def _recording(self) -> dict[str, Any]:
+        return {"record": self.record, "record_size": self.record_size, "record_files": self.record_files}
+
     def of_auctioneer(self) -> Settings:
         """The settings of the auctioneer's node."""
         folder = str(Path(self.state) / "auctioneer")
-        more: dict[str, Any] = {"period": self.period, "pause": self.pause, "new_session": self.new_session, "record": self.record}
-        more |= {"validity": self.validity, "heartbeat": self.heartbeat, "grace": self.gone}
+        more: dict[str, Any] = {"period": self.period, "pause": self.pause, "new_session": self.new_session}
+        more |= {"validity": self.validity, "heartbeat": self.heartbeat, "grace": self.gone, **self._recording}
         return Settings("auctioneer", self.name, folder, self.basis, self.live, **more)
 
     def of_agent(self, agent: str, child: int) -> Settings:
         """The settings of an agent's node. Raises BadSettings."""
         folder = str(self.folder_of_agents / agent)
-        more: dict[str, Any] = {"parent": self.name, "child": child, "record": self.record}
+        more: dict[str, Any] = {"parent": self.name, "child": child, **self._recording}
         return Settings("device", require_name(agent, "the agent"), folder, self.basis, self.live, **more)
 
 

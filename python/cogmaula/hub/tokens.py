@@ -1,6 +1,7 @@
 """The file of tokens: a line an agent, `AGENT CHILD SHA256-OF-TOKEN`. A blank line, or one that begins with #, does not count.
 
-A token is drawn from 256 random bits. The file has its SHA-256 alone, from which nobody gets it back.
+A token is drawn from 256 random bits. The file has its SHA-256 alone, from which nobody gets it back. Only its owner can read it, who
+is the owner of its folder: so a hub that runs as a user of its own can read a file in its own folder, whoever draws the tokens.
 """
 
 from __future__ import annotations
@@ -13,7 +14,7 @@ import re
 import secrets
 import time
 from collections import deque
-from collections.abc import Iterator, Mapping
+from collections.abc import Callable, Iterator, Mapping
 from contextlib import contextmanager
 from dataclasses import dataclass
 from pathlib import Path
@@ -111,32 +112,37 @@ class TokenFile:
             raise BadSettings(f"{self.path} is no text") from None
 
     def add(self, agent: str, child: int) -> str:
-        """Draws a token for an agent, and writes its line: a new one, or in place of its own. Gives the token.
+        """Draws a token for an agent. See `draw`."""
+        return self.draw({agent: child})[agent]
 
-        Raises BadSettings if the child number is another agent's, or the agent has another number, and OSError.
+    def draw(self, children: Mapping[str, int], keep: Callable[[Mapping[str, str]], object] | None = None) -> dict[str, str]:
+        """Draws a token for each of these agents, and writes its line: a new one, or in place of its own. Gives the tokens by agent.
+
+        children: the child number of each
+        keep:     is called with the tokens before they count; if it raises, none does
+
+        Raises BadSettings if a child number is another agent's, or an agent has another number, and OSError.
         """
-        token = secrets.token_urlsafe(TOKEN_BYTES)
-        entry = Entry(agent, child, hash_of(token))
+        tokens = {it: secrets.token_urlsafe(TOKEN_BYTES) for it in children}
         with self._alone():
-            entries = self.read() if self.path.exists() else {}
-            before = entries.get(agent)
-            if before is not None and before.child != child:
-                raise BadSettings(f"{agent} is child {before.child} in {self.path}: give that number")
-            for other in entries.values():
-                if other.child == child and other.agent != agent:
-                    raise BadSettings(f"child {child} is {other.agent}'s in {self.path}: give another number")
             text = self.path.read_text() if self.path.exists() else ""
-            if before is not None:
-                text = text.replace(_line_of(text, agent), entry.to_line())
-            else:
-                text += "" if not text or text.endswith("\n") else "\n"
-                text += entry.to_line()
-            self._replace(text)
-        return token
+            entries = entries_of(text, str(self.path))
+            numbers = {it.child: it.agent for it in entries.values()}
+            for agent, child in children.items():
+                before = entries.get(agent)
+                if before is not None and before.child != child:
+                    raise BadSettings(f"{agent} is child {before.child} in {self.path}: give that number")
+                if numbers.setdefault(child, agent) != agent:
+                    raise BadSettings(f"child {child} is {numbers[child]}'s in {self.path}: give another number")
+            if keep is not None:
+                keep(tokens)
+            self._replace(_with_lines(text, {it: Entry(it, child, hash_of(tokens[it])) for it, child in children.items()}))
+        return tokens
 
     @contextmanager
     def _alone(self) -> Iterator[None]:
-        """Lets one process alone write the file."""
+        """Lets one process alone write the file, in a folder that is made if it is missing."""
+        self.path.parent.mkdir(mode=0o700, parents=True, exist_ok=True)
         folder = os.open(self.path.parent, os.O_RDONLY | os.O_DIRECTORY)
         try:
             fcntl.flock(folder, fcntl.LOCK_EX)
@@ -145,13 +151,15 @@ class TokenFile:
             os.close(folder)
 
     def _replace(self, text: str) -> None:
-        """Replaces the file as a whole, and safely. It keeps its owner and its rights."""
+        """Replaces the file as a whole, and safely. It keeps its owner and its rights; a new one has those of its folder's owner alone."""
         fresh = self.path.with_name(f"{self.path.name}.fresh")
-        with open(fresh, "w") as file:
-            if self.path.exists():
-                found = os.stat(self.path)
-                os.fchmod(file.fileno(), found.st_mode & 0o777)
+        is_new = not self.path.exists()
+        found = os.stat(self.path.parent if is_new else self.path)
+        fresh.unlink(missing_ok=True)
+        with open(os.open(fresh, os.O_WRONLY | os.O_CREAT | os.O_EXCL | os.O_CLOEXEC, 0o600), "w") as file:
+            if not is_new or os.geteuid() == 0:
                 os.fchown(file.fileno(), found.st_uid, found.st_gid)
+            os.fchmod(file.fileno(), 0o600 if is_new else found.st_mode & 0o777)
             file.write(text)
             file.flush()
             os.fsync(file.fileno())
@@ -163,9 +171,43 @@ class TokenFile:
             os.close(folder)
 
 
-def _line_of(text: str, agent: str) -> str:
-    """The line of an agent, with its end."""
-    return next(it for it in text.splitlines(keepends=True) if it.split()[:1] == [agent])
+def _with_lines(text: str, entries: Entries) -> str:
+    """The text of a file with the line of each of these agents: in place of its own, or behind all others."""
+    left = dict(entries)
+    lines = []
+    for line in text.splitlines():
+        entry = left.pop(line.split()[0], None) if line.split() else None
+        lines.append(line if entry is None else entry.to_line().rstrip("\n"))
+    lines += [it.to_line().rstrip("\n") for it in left.values()]
+    return "".join(f"{it}\n" for it in lines)
+
+
+def children_in(text: str, name: str) -> dict[str, int]:
+    """The child number of each agent that a text names, a line an agent: AGENT CHILD. Raises BadSettings, which names the line."""
+    found: dict[str, int] = {}
+    for number, line in enumerate(text.splitlines(), 1):
+        words = line.split()
+        if not words or words[0].startswith("#"):
+            continue
+        where = f"{name} line {number}"
+        if len(words) != 2:
+            raise BadSettings(f"{where} has {len(words)} words: write AGENT CHILD")
+        if require_name(words[0], f"{where}: the agent") in found:
+            raise BadSettings(f"{where}: {words[0]} has a line already: take one out")
+        found[words[0]] = child_of(words[1], where)
+    return found
+
+
+def write_token(folder: Path, agent: str, token: str) -> Path:
+    """Writes an agent's token into a folder as AGENT.token, which its owner alone can read. Gives the path. Raises OSError."""
+    folder.mkdir(mode=0o700, parents=True, exist_ok=True)
+    path = folder / f"{agent}.token"
+    fresh = folder / f"{agent}.token.fresh"
+    fresh.unlink(missing_ok=True)
+    with open(os.open(fresh, os.O_WRONLY | os.O_CREAT | os.O_EXCL | os.O_CLOEXEC, 0o600), "w") as file:
+        file.write(f"{token}\n")
+    os.replace(fresh, path)
+    return path
 
 
 class FailedLogins:

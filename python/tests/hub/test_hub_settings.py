@@ -2,6 +2,11 @@
 
 from __future__ import annotations
 
+import os
+import stat
+import time
+from pathlib import Path
+
 import pytest
 
 from cogmaula import cli
@@ -135,9 +140,27 @@ def test_the_command_draws_a_token_and_prints_it_once(config, tmp_path, capsys):
     assert (entry.child, entry.takes(token)) == (3, True)
 
 
+def test_the_command_draws_tokens_for_256_agents_at_once(config, tmp_path, capsys):
+    children = {f"agent{it}": it for it in range(1, 257)}
+    (tmp_path / "list").write_text("# all\n" + "".join(f"{agent} {child}\n" for agent, child in children.items()))
+    begin = time.monotonic()
+    assert cli.main(["hub", "--config", config, "--new-tokens", str(tmp_path / "list"), "--into", str(tmp_path / "out")]) == 0
+    assert time.monotonic() - begin < 5
+    entries = TokenFile(tmp_path / "agents").read()
+    assert {it.agent: it.child for it in entries.values()} == children
+    paths = capsys.readouterr().out.split()
+    assert paths == [str(tmp_path / "out" / f"{it}.token") for it in children]
+    for agent, path in zip(children, paths, strict=True):
+        assert entries[agent].takes(Path(path).read_text().strip())
+        assert stat.S_IMODE(os.stat(path).st_mode) == 0o600
+
+
 @pytest.mark.parametrize(
     ("words", "why"),
     [
+        (["--new-tokens", "/dev/null"], "give the folder for them by --into"),
+        (["--record-size", "1"], "record_size is 1"),
+        (["--record-files", "0"], "record_files is 0"),
         (["--new-token", "house", "0"], "the child is '0'"),
         (["--new-token", "ho/use", "1"], "the agent is 'ho/use'"),
         (["--new-token", "hub", "1"], "hub is the hub's own name"),

@@ -9,7 +9,7 @@ import threading
 
 import pytest
 
-from cogmaula.hub.tokens import FAILED, Entry, FailedLogins, TokenFile, entries_of, hash_of
+from cogmaula.hub.tokens import FAILED, Entry, FailedLogins, TokenFile, children_in, entries_of, hash_of, write_token
 from cogmaula.live import BadSettings
 
 HASH = "0" * 64
@@ -81,6 +81,49 @@ def test_a_child_number_is_of_one_agent(file):
     with pytest.raises(BadSettings, match="house is child 1"):
         file.add("house", 2)
     assert file.path.read_text() == before
+
+
+@pytest.mark.parametrize("mask", [0o022, 0o077, 0])
+def test_the_owner_of_the_folder_alone_can_read_the_file(tmp_path, mask):
+    """So a hub that runs as a user of its own can read the file in its own folder, whoever drew the tokens, and by which umask."""
+    folder = tmp_path / "state"
+    before = os.umask(mask)
+    try:
+        TokenFile(folder / "tokens").add("house", 1)
+        if os.geteuid() == 0:
+            os.chown(folder, 12_345, 12_345)
+            (folder / "tokens").unlink()
+            TokenFile(folder / "tokens").add("house", 1)
+            assert (folder / "tokens").stat().st_uid == 12_345
+            TokenFile(folder / "tokens").add("store", 2)
+        found = (folder / "tokens").stat()
+        assert stat.S_IMODE(found.st_mode) == 0o600
+        assert found.st_uid == folder.stat().st_uid
+        path = write_token(tmp_path / "out", "house", "word")
+        assert (path.read_text(), stat.S_IMODE(path.stat().st_mode)) == ("word\n", 0o600)
+    finally:
+        os.umask(before)
+
+
+def test_no_token_counts_if_they_cannot_be_kept(file):
+    file.add("house", 1)
+    before = file.path.read_text()
+
+    def fails(_):
+        raise OSError("No space left on device")
+
+    with pytest.raises(OSError, match="No space left"):
+        file.draw({"house": 1, "store": 2}, fails)
+    assert file.path.read_text() == before
+
+
+@pytest.mark.parametrize(
+    ("text", "why"),
+    [("house\n", "list line 1 has 1 words"), ("\nhouse 0\n", "list line 2: the child is '0'"), ("house 1\nhouse 2\n", "list line 2: house has a line")],
+)
+def test_a_list_of_agents_that_is_none(text, why):
+    with pytest.raises(BadSettings, match=why):
+        children_in(text, "list")
 
 
 def test_tokens_that_are_drawn_at_once_are_all_there(file):
