@@ -1,26 +1,29 @@
 """Reads the recordings of a folder: which nodes and sessions are there, in which files, and line by line what was done.
 
-A file is read as it is judged, so its length does not matter. docs/JUDGE.md has the lines.
+A file is read as it is judged, so its length does not matter. One whose name ends with .gz is compressed. docs/JUDGE.md has the lines.
 """
 
 from __future__ import annotations
 
+import gzip
 import json
 import os
 import re
+import zlib
 from collections.abc import Generator, Iterator
 from dataclasses import dataclass, field, replace
 from pathlib import Path
 from typing import Any
 
 from ..cluster import Basis
+from ..live.compressing import ENDING
 from ..live.errors import BadMessage
 from ..live.frames import SORTS, Sort
 from ..live.recording import END, IN, OUT, START, STORED, SUFFIX
 from ..live.sessions import Session
 from .faults import Fault, Faulty, NoRecording
 
-_NAME = re.compile(r"([A-Za-z0-9_-]{1,64})\.([0-9a-f]{16})\.([0-9]{6,})\.frames")
+_NAME = re.compile(r"([A-Za-z0-9_-]{1,64})\.([0-9a-f]{16})\.([0-9]{6,})\.frames(\.gz)?")
 _HEX = re.compile(r"(?:[0-9a-f]{2})+")
 # The members of each line behind `at` and `what`, in their order.
 MEMBERS: dict[str, list[str]] = {
@@ -118,17 +121,26 @@ class Recorded:
 
     def _events_in(self, path: Path) -> Iterator[Event]:
         """What the lines of a file tell. A part of a line at its end is an event without a word."""
-        with open(path, "rb") as lines:
-            for number, line in enumerate(lines, 1):
-                if not line.endswith(b"\n"):
-                    yield Event(path.name, number, "")
-                    return
-                event = event_of(line, path.name, number)
-                if event is None:
-                    raise self.fault(Event(path.name, number, ""), "it is no line of a recording")
-                if event.start is not None and (event.start.node, event.start.session.id) != (self.node, self.session):
-                    raise self.fault(event, "it is of another node or session than its file's name says")
-                yield event
+        for number, line in self._lines_in(path):
+            if not line.endswith(b"\n"):
+                yield Event(path.name, number, "")
+                return
+            event = event_of(line, path.name, number)
+            if event is None:
+                raise self.fault(Event(path.name, number, ""), "it is no line of a recording")
+            if event.start is not None and (event.start.node, event.start.session.id) != (self.node, self.session):
+                raise self.fault(event, "it is of another node or session than its file's name says")
+            yield event
+
+    def _lines_in(self, path: Path) -> Iterator[tuple[int, bytes]]:
+        """The lines of a file, each with its number. Raises Faulty if what is compressed is damaged, and OSError."""
+        number = 0
+        try:
+            with gzip.open(path, "rb") if path.suffix == ENDING else open(path, "rb") as lines:
+                for number, line in enumerate(lines, 1):
+                    yield number, line
+        except (gzip.BadGzipFile, EOFError, zlib.error) as error:
+            raise self.fault(Event(path.name, number + 1, ""), f"the compressed file is damaged from here on: {error}") from None
 
 
 def event_of(line: bytes, file: str, number: int) -> Event | None:
@@ -186,10 +198,15 @@ def recordings_in(folder: str | os.PathLike[str]) -> list[Recorded]:
         raise NoRecording(f"{folder} is no folder: give the one that has the recordings of all nodes")
     found: dict[tuple[str, str], Recorded] = {}
     numbers: dict[str, list[int]] = {}
-    for path in Path(folder).iterdir():
+    seen: set[str] = set()
+    # Of a file that is there twice the one that is not compressed counts, which is first.
+    for path in sorted(Path(folder).iterdir()):
         name = _NAME.fullmatch(path.name)
         if name:
             one = found.setdefault((name[2], name[1]), Recorded(name[1], name[2]))
+            if path.name.removesuffix(ENDING) in seen:
+                continue
+            seen.add(path.name)
             one.files.append((int(name[3]), path))
             numbers.setdefault(name[1], []).append(int(name[3]))
     if not found:

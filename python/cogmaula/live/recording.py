@@ -1,7 +1,8 @@
 """What a node records: each frame that its service was fed or wrote, in files of JSON lines. docs/JUDGE.md has the lines.
 
 A line is written before what it tells of is done, by one write, so that a killed process leaves whole lines and at most a part of
-the last. All lines are safe on disk before a Resume is stored: a recording holds all that a stored Resume stands on.
+the last. All lines are safe on disk before a Resume is stored: a recording holds all that a stored Resume stands on. A file that has
+ended is compressed in a thread of its own.
 """
 
 from __future__ import annotations
@@ -11,6 +12,7 @@ import os
 from datetime import datetime, timezone
 from pathlib import Path
 
+from .compressing import ENDING, compress_later
 from .settings import Settings
 from .store import Stored
 
@@ -19,11 +21,11 @@ START, IN, OUT, STORED, END = "start", "in", "out", "stored", "end"
 
 
 def numbered_files(folder: Path, node: str) -> list[tuple[int, Path]]:
-    """The files of a node in a folder, each with its number, in the order of the numbers."""
+    """The files of a node in a folder, each with its number, in the order of the numbers. A number may have two: one is compressed."""
     found = []
-    for path in folder.glob(f"{node}.*{SUFFIX}"):
-        below = path.name.split(".")
-        if len(below) == 4 and below[2].isdecimal():
+    for path in folder.glob(f"{node}.*{SUFFIX}*"):
+        below = path.name.removesuffix(ENDING).split(".")
+        if len(below) == 4 and below[2].isdecimal() and f".{below[3]}" == SUFFIX:
             found.append((int(below[2]), path))
     return sorted(found)
 
@@ -93,7 +95,7 @@ class Recording:
             self._write(END, why=why)
 
     def close(self) -> None:
-        """Ends the file. The next line begins another."""
+        """Ends the file. The next line begins another, and then all before it are compressed."""
         try:
             self.make_safe()
         finally:
@@ -129,9 +131,14 @@ class Recording:
         path = folder / f"{self._settings.name}.{self._session}.{number:06}{SUFFIX}"
         self._file = os.open(path, os.O_WRONLY | os.O_CREAT | os.O_EXCL | os.O_APPEND | os.O_CLOEXEC, 0o600)
         self._size = 0
-        if self._settings.record_files is not None:
-            for _, old in files[: max(0, len(files) + 1 - self._settings.record_files)]:
-                old.unlink()
+        kept = self._settings.record_files
+        numbers = sorted({it for it, _ in files})
+        dropped = [] if kept is None else numbers[: max(0, len(numbers) + 1 - kept)]
+        for it, old in files:
+            if it in dropped:
+                old.unlink(missing_ok=True)
+            elif old.suffix != ENDING:
+                compress_later(old)
         opened = os.open(folder, os.O_RDONLY | os.O_DIRECTORY)
         try:
             os.fsync(opened)

@@ -12,7 +12,9 @@ from looking import get, require_page
 from cogmaula.hub import hub_settings_of
 from cogmaula.judge import judge
 from cogmaula.live import BadSettings
+from cogmaula.live.compressing import is_idle
 from cogmaula.live.page_settings import PageSettings
+from cogmaula.live.recording import numbered_files
 
 
 def viewed(hub):
@@ -90,4 +92,22 @@ def test_pages_that_a_hub_cannot_have(page, words):
 def test_the_settings_of_a_page_and_of_recordings():
     found = hub_settings_of({**TABLES_OF_PAGE, "page": {"listen": "127.0.0.1:8080"}})
     assert found.page == PageSettings("127.0.0.1:8080")
-    assert (found.of_auctioneer().record, found.of_agent("house", 1).record) == ("recorded", "recorded")
+    for node in (found.of_auctioneer(), found.of_agent("house", 1)):
+        assert (node.record, node.record_size, node.record_files) == ("recorded", 4_194_304, None)
+    hub = {**TABLES_OF_PAGE["hub"], "record_size": 2_048, "record_files": 3}
+    found = hub_settings_of({**TABLES_OF_PAGE, "hub": hub})
+    for node in (found.of_auctioneer(), found.of_agent("house", 1)):
+        assert (node.record, node.record_size, node.record_files) == ("recorded", 2_048, 3)
+
+
+def test_a_hub_keeps_the_newest_files_of_each_node(live, tmp_path):
+    folder = tmp_path / "recorded"
+    with HubInThread(tmp_path, live, record=str(folder), record_size=2_048, record_files=2) as hub:
+        house = hub.agent("house")
+        for number in range(1, 25):
+            house.bids([number] * 10, number).waits_for(power=number)
+    wait_until(is_idle, "all that has ended is compressed")
+    for name in ("hub", "house"):
+        (first, one), (second, other) = numbered_files(folder, name)
+        assert second == first + 1 > 2
+        assert (one.suffix, other.suffix) == (".gz", ".frames")

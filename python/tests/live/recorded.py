@@ -2,6 +2,7 @@
 
 from __future__ import annotations
 
+import gzip
 import json
 import os
 import time
@@ -11,6 +12,7 @@ from brokers import wait_until
 from markets import BASIS, PLACES, STEPS, Control
 from pretended import PretendedLink, turn
 
+from cogmaula.live import compressing
 from cogmaula.live.broker import Arrived, Message
 from cogmaula.live.frames import READS, WRITES, frame_of
 from cogmaula.live.node import Node
@@ -135,7 +137,7 @@ class Lines:
 
     def __init__(self, folder, places=PLACES, steps=STEPS):
         self.folder, self.places, self.steps = Path(folder), places, steps
-        self.files = {path.name: path.read_bytes().split(b"\n")[:-1] for path in sorted(self.folder.iterdir())}
+        self.files = {name: data.split(b"\n")[:-1] for name, data in contents_of(folder).items()}
 
     def of(self, node, what, name="", **fields):
         """The places of a node's lines of this word, and if a name is given of frames of this name with these fields."""
@@ -180,9 +182,18 @@ class Lines:
         return self.folder
 
 
+def contents_of(folder):
+    """What each file of a folder has, also those that are compressed, by their names without `.gz`."""
+    wait_until(compressing.is_idle, "all files that have ended are compressed")
+    read = {True: gzip.decompress, False: bytes}
+    found = {it.name.removesuffix(".gz"): read[it.suffix == ".gz"](it.read_bytes()) for it in Path(folder).iterdir()}
+    return dict(sorted(found.items()))
+
+
 def files_of(folder, node):
-    """The names of a node's files."""
-    return [path.name for _, path in numbered_files(Path(folder), node)]
+    """The names of a node's files, without `.gz`."""
+    wait_until(compressing.is_idle, "all files that have ended are compressed")
+    return [path.name.removesuffix(".gz") for _, path in numbered_files(Path(folder), node)]
 
 
 def descriptors():

@@ -3,6 +3,7 @@
 from __future__ import annotations
 
 import errno
+import gzip
 import json
 import os
 import re
@@ -10,10 +11,10 @@ import re
 import pytest
 from markets import falls_at
 from pretended import BASIS_TOPIC, LATER, SESSION, auctioneer_resume, basis_payload, bid, numbers, price, relay_resume, saved
-from recorded import Lines, RecordedMarket, files_of
+from recorded import Lines, RecordedMarket, contents_of, files_of
 
 from cogmaula.judge import judge
-from cogmaula.live import BadSettings, recording
+from cogmaula.live import BadSettings, compressing, recording
 from cogmaula.live.frames import Clear, Send
 from cogmaula.live.settings import settings_of
 
@@ -22,7 +23,7 @@ FIRST = relay_resume(1, 0, 0, numbers((1, 1)))
 
 def told_in(folder):
     """All lines of a folder's recordings, without their times."""
-    found = [json.loads(line) for path in sorted(folder.iterdir()) for line in path.read_text().splitlines()]
+    found = [json.loads(line) for data in contents_of(folder).values() for line in data.splitlines()]
     for it in found:
         assert re.fullmatch(r"\d{4}-\d\d-\d\dT\d\d:\d\d:\d\d\.\d{6}Z", it.pop("at"))
     return found
@@ -205,7 +206,7 @@ def test_a_file_ends_at_its_size_and_the_next_begins(tmp_path, live):
         files = files_of(market.recordings, name)
         assert len(files) > 1
         assert [it.split(".")[2] for it in files] == [f"{number:06}" for number in range(1, len(files) + 1)]
-        assert all((market.recordings / it).stat().st_size <= 4_096 for it in files)
+        assert all(len(contents_of(market.recordings)[it]) <= 4_096 for it in files)
     verdict = judge(market.recordings, live)
     assert (verdict.verdict, verdict.lives) == ("valid", 4)
     lines = Lines(market.recordings)
@@ -213,6 +214,52 @@ def test_a_file_ends_at_its_size_and_the_next_begins(tmp_path, live):
     del lines.files[middle]
     verdict = judge(lines.write(), live)
     assert verdict.missing == ("street: its file 000003 is not there",)
+
+
+def test_files_that_have_ended_are_compressed_and_judged(tmp_path, live):
+    """All but the newest of each node. What was written stays in them, line by line, and one that is damaged is named."""
+    market = RecordedMarket(tmp_path, live)
+    market.start("auctioneer", "street", "house", "store", record_size=4_096)
+    market.offers(house=[100] * 10)
+    for step in range(1, 9):
+        market.offers(store=falls_at(step, 0, -150))
+        market.settles_at(step, house=100, store=-150)
+    market.stop()
+    names = list(contents_of(market.recordings))
+    packed = sorted(market.recordings.glob("*.gz"))
+    assert len(packed) == len(names) - 4
+    for it in packed:
+        assert it.stat().st_mode & 0o777 == 0o600
+        assert it.stat().st_size < len(gzip.decompress(it.read_bytes())) / 3
+    assert judge(market.recordings, live).verdict == "valid"
+    # A process that ended between the two leaves both, and each is whole.
+    one = next(it for it in packed if it.name.startswith("street"))
+    (market.recordings / one.stem).write_bytes(gzip.decompress(one.read_bytes()))
+    assert judge(market.recordings, live).verdict == "valid"
+    (market.recordings / one.stem).unlink()
+    for damaged in (one.read_bytes()[:-20], one.read_bytes()[:100] + b"x" * 40 + one.read_bytes()[140:]):
+        one.write_bytes(damaged)
+        fault = judge(market.recordings, live).fault
+        assert (fault.node, fault.file) == ("street", one.name)
+
+
+def test_a_file_that_cannot_be_compressed_stays_as_it_is(tmp_path, monkeypatch):
+    path = tmp_path / "a.frames"
+    path.write_bytes(b"line\n" * 1_000)
+
+    def fails(_):
+        raise OSError(errno.ENOSPC, os.strerror(errno.ENOSPC))
+
+    monkeypatch.setattr(compressing.os, "fsync", fails)
+    with pytest.raises(OSError, match="No space left"):
+        compressing.compress(path)
+    assert [it.name for it in tmp_path.iterdir()] == ["a.frames"]
+    monkeypatch.undo()
+    compressing.compress(path)
+    assert [it.name for it in tmp_path.iterdir()] == ["a.frames.gz"]
+    with pytest.raises(OSError, match="No such file"):
+        compressing.compress(path)
+    assert [it.name for it in tmp_path.iterdir()] == ["a.frames.gz"]
 
 
 def test_only_the_newest_files_are_kept(tmp_path, live):
@@ -233,7 +280,7 @@ def test_only_the_newest_files_are_kept(tmp_path, live):
 def test_a_new_process_begins_a_new_file_behind_those_there(joined, tmp_path):
     folder = tmp_path / "recordings"
     folder.mkdir()
-    for name in (f"street.{SESSION.id}.000007.frames", "street.frames", "street.x.y.frames", f"house.{SESSION.id}.000009.frames"):
+    for name in (f"street.{SESSION.id}.000007.frames.gz", "street.frames", "street.x.y.frames", f"house.{SESSION.id}.000009.frames"):
         (folder / name).touch()
     joined("relay", record=str(folder)).begun()
     assert (folder / f"street.{SESSION.id}.000008.frames").stat().st_size > 0
@@ -244,7 +291,7 @@ def test_a_session_has_files_of_its_own(joined, tmp_path):
     one = joined("relay", record=str(folder)).begun()
     one.link.comes(BASIS_TOPIC, basis_payload(LATER))
     one.turned()
-    assert sorted(it.name for it in folder.iterdir()) == [f"street.{SESSION.id}.000001.frames", f"street.{LATER.id}.000002.frames"]
+    assert list(contents_of(folder)) == [f"street.{SESSION.id}.000001.frames", f"street.{LATER.id}.000002.frames"]
     assert [it["what"] for it in told_in(folder)] == ["start", "end", "start"]
 
 
