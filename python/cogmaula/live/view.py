@@ -300,12 +300,15 @@ def _own_power(node: NodeView) -> PowerView | None:
 
 
 def _sum_of(nodes: list[NodeView]) -> PowerView | None:
-    """The sum of the powers of these nodes. One that bids and whose power is not known makes the sum unknown."""
+    """The sum of the powers of these nodes. One that bids and whose power is not known makes the sum unknown.
+
+    It is 0 if all that bid have left, and None if none has bid.
+    """
     parts = [it.power for it in nodes if it.power is not None]
     lacking = sum(it.lacking for it in parts)
     lacking += sum(it.power is None and it.bid is not None and not it.bid.is_gone and it.lapsed is None for it in nodes)
     clearings = [index for it in parts for index in (it.first, it.last) if index is not None]
-    if not parts and not lacking:
+    if not parts and not lacking and not any(it.lapsed is not None or it.bid is not None for it in nodes):
         return None
     power = sum(it.power for it in parts if it.power is not None)
     return PowerView(None if lacking else power, "sum", min(clearings, default=None), max(clearings, default=None), lacking)

@@ -92,6 +92,15 @@ def test_a_setpoint_that_stays_behind_a_gone_does_not_count():
     assert village().gone("street", 1, 4).node("house").power is None
 
 
+def test_a_relay_of_which_all_devices_left_takes_no_power():
+    """Then the sums above it are known too. A relay below which nobody has bid yet tells nothing."""
+    told = village().gone("street", 1, 4).without("street/price/1", "house/setpoint")
+    told.put("street/lapsed/2", b'{"number": 5, "why": "it is down", "time": "2026-01-31T06:30:00.000Z"}').without("store/setpoint")
+    assert told.node("street").power == PowerView(0, "sum", None, None)
+    assert told.node("auctioneer").power == PowerView(-60, "sum", 7, 7)
+    assert told.without("street/bid/1", "street/bid/2", "street/price/2", "street/lapsed/2").node("street").power is None
+
+
 def test_a_device_that_bids_nothing_takes_no_part():
     told = village().state("new", "device", "street", 9)
     assert told.node("new").power is None
