@@ -67,3 +67,18 @@ def steps_of(page, heading):
         block = re.search(r"^    .*(\n    .*)*", text, re.MULTILINE)
         found[int(number)] = "" if block is None else re.sub("^    ", "", block[0], flags=re.MULTILINE)
     return found
+
+
+def block_of(page, first):
+    """The indented block of a page that begins with this line."""
+    found = re.search(rf"^    {re.escape(first)}\n(?:    .*\n|\n(?=    ))+", page, re.MULTILINE)
+    require(found, f"the page has no block {first}")
+    return re.sub("^    ", "", found[0], flags=re.MULTILINE)
+
+
+def with_settings(text, block):
+    """A file of settings with those of a block: behind the heading of a table that it has, or as a table of its own."""
+    for table in re.split(r"^(?=\[)", block, flags=re.MULTILINE)[1:]:
+        heading, _, members = table.partition("\n")
+        text = text.replace(f"{heading}\n", f"{heading}\n{members}", 1) if f"{heading}\n" in text else f"{text}\n{table}"
+    return text

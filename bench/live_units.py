@@ -7,8 +7,8 @@ PACKAGE is what `make deb` makes. The machine is a Debian 12 in a temporary fold
 the end. With --root its files are copied from that folder, which is made first if it is missing, and kept. All nodes of the
 example are on this one machine.
 
-Each line is what was tried, and what was seen. The status is 1 if something failed. It needs root, debootstrap and
-systemd-container, and takes about five minutes.
+Each line is what was tried, and what was seen. The settings that pages print are tried under the units, and the hub with umask
+077. The status is 1 if something failed. It needs root, debootstrap and systemd-container, and takes about five minutes.
 """
 
 import argparse
@@ -24,7 +24,7 @@ import threading
 import time
 from pathlib import Path
 
-from live_found import Failed, Found, need, require, steps_of, wait_for
+from live_found import Failed, Found, block_of, need, require, steps_of, wait_for, with_settings
 from live_machine import Machine, make_root
 
 PACKAGES = ["systemd-sysv", "dbus", "python3", "python3-paho-mqtt", "python3-websockets"]
@@ -222,6 +222,57 @@ def refused(market, units, name, edit, status):
     return next(it for it in reversed(line) if it.startswith("cogmaula"))
 
 
+def set_as_in(machine, file, page, first):
+    """Adds a block of settings of a page to a file of /etc/market."""
+    path = machine.root / "etc/market" / file
+    path.write_text(with_settings(path.read_text(), block_of(machine.run(f"cat {DOCS}/{page}").stdout, first)))
+
+
+def view_of(machine):
+    """What the page of the machine shows, once it shows a clearing."""
+
+    def shown():
+        code = "import urllib.request as it; print(it.urlopen('http://127.0.0.1:8080/view', timeout=5).read().decode())"
+        told = json.loads(machine.run(f'/usr/bin/python3 -c "{code}"', False).stdout or "{}")
+        return told if told.get("clearing") else None
+
+    return wait_for(shown, PATIENCE, "the page shows no clearing")
+
+
+def recorded(machine, folder):
+    """How many files of recordings a folder has, which has some."""
+    found = machine.run(f"ls {folder}").stdout.split()
+    require(found, f"{folder} has no recording")
+    return len(found)
+
+
+def recording_on(market, units):
+    """Lets the street record as JUDGE.md has it."""
+    set_as_in(market.machine, "street.toml", "JUDGE.md", "[node]")
+    units.do("restart", "street")
+    market.all_are_up()
+    index = market.offer()["clearing"]
+    return f"{recorded(market.machine, '/var/lib/market/street/recordings')} file, and the next clearing is {index}"
+
+
+def page_on(market, units):
+    """Lets the auctioneer serve a page as LIVE.md has it. All other nodes have no password of a page."""
+    set_as_in(market.machine, "auctioneer.toml", "LIVE.md", "[page]")
+    market.run("cp market/operator.password /etc/market/auctioneer.page.password; chmod 600 /etc/market/auctioneer.page.password")
+    units.do("restart", "auctioneer")
+    market.all_are_up()
+    index = market.offer()["clearing"]
+    wait_for(lambda: view_of(market.machine)["clearing"] >= index, PATIENCE, f"the page does not show clearing {index}")
+    return f"the page shows clearing {index} and {len(view_of(market.machine)['nodes'])} nodes"
+
+
+def verified(machine, *units):
+    """That systemd-analyze finds no fault in units."""
+    said = machine.run(f"systemd-analyze verify --man=no {' '.join(f'{it}.service' for it in units)}", False)
+    require(said.returncode == 0 and not said.stderr.strip(), said.stderr.strip())
+    return f"no fault in {', '.join(units)}"
+
+
 def booted_again(market, units):
     """Stops the machine, and boots it again."""
     session, before = market.told("basis")["session"], {name: market.index(name) for name in NODES}
@@ -278,6 +329,9 @@ def try_nodes(found, machine):
         found.part(f"the service of {name} is killed", lambda it=name: service_killed(market, units, it))
     for name in NODES:
         found.part(f"{unit_of(name)} is stopped and started", lambda it=name: stopped(market, units, it))
+    found.part("a recording by the words of JUDGE.md", lambda: recording_on(market, units))
+    found.part("a page by the words of LIVE.md", lambda: page_on(market, units))
+    found.part("systemd-analyze verify", lambda: verified(machine, *map(unit_of, NODES)))
     found.part("a wrong password", lambda: password_wrong(market, units, "house"))
     found.part("status 2 is for good", lambda: refused(market, units, "house", "s/^child.*/child = 0/", 2))
     found.part("status 5 is for good", lambda: refused(market, units, "house", "s/^max.*/max = 18/", 5))
@@ -305,8 +359,8 @@ class Hub:
         return self.begin(0)
 
     def run(self, command):
-        """Runs a command line in the operator's folder."""
-        return self.machine.run(f"set -e; mkdir -p /root/hub && cd /root/hub\n{command}").stdout
+        """Runs a command line in the operator's folder, by whose umask nobody else can read what is made."""
+        return self.machine.run(f"set -e; umask 077; mkdir -p /root/hub && cd /root/hub\n{command}").stdout
 
     def starts(self):
         """How often the hub has begun to listen."""
@@ -345,6 +399,23 @@ class Hub:
         wait_for(lambda: f'"power": {power},' in self.lines["store"][-1], PATIENCE, f"no {power} W: {self.lines}")
         return json.loads(self.lines["store"][-1])["priceUpdate"]["clearing"]
 
+    def has_tokens_of_its_own(self):
+        """Whether the tokens are for the hub and their agents alone, and one is added while the hub runs."""
+        modes = self.run("stat -L -c '%a' /var/lib/market-hub/tokens house.token store.token").split()
+        require(modes == ["600"] * 3, f"their modes are {modes}")
+        self.run("cogmaula hub --config /etc/market/hub.toml --new-token mill 3 --into .")
+        wait_for(lambda: "3 agents may log in" in self._units.journal("hub"), 10, "the third agent may not log in")
+        return "all have the mode 600, and the hub has read that of a third agent"
+
+    def set_further(self):
+        """Lets the hub record and serve a page as HUB.md has it."""
+        starts = self.starts()
+        set_as_in(self.machine, "hub.toml", "HUB.md", "[hub]")
+        self._units.do("restart", "hub")
+        told = self.begin(starts)
+        nodes = len(view_of(self.machine)["nodes"])
+        return f"{recorded(self.machine, '/var/lib/market-hub/recordings')} files, and the page shows {nodes} nodes; {told}"
+
     def killed(self):
         """Kills all of the unit."""
         before, starts = self.bid(), self.starts()
@@ -381,6 +452,9 @@ def try_hub(found, machine):
     units = Units(machine)
     hub = Hub(machine, units)
     found.part("the hub, by the words of HUB.md", hub.set_up)
+    found.part("the tokens of the hub", hub.has_tokens_of_its_own)
+    found.part("a recording and a page by the words of HUB.md", hub.set_further)
+    found.part("systemd-analyze verify", lambda: verified(machine, "market-hub"))
     found.part("market-hub is killed", hub.killed)
     found.part("market-hub is stopped and started", hub.stopped)
     found.part("limits of market-hub", lambda: limits(units, "hub"))

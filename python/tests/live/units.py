@@ -1,0 +1,50 @@
+"""A service unit of the repository as tests read it, and the blocks of settings that the pages show."""
+
+from __future__ import annotations
+
+import re
+import tomllib
+
+from brokers import TOP
+
+
+class Unit:
+    """What a service unit hands to its program, and lets it write. `%i` is the instance."""
+
+    def __init__(self, path, unit, instance=""):
+        self.lines = [it.split("=", 1) for it in (TOP / path).read_text().replace("%i", instance).splitlines() if re.match("[A-Z]", it)]
+        self.state = [f"/var/lib/{it}" for it in self.all("StateDirectory")]
+        handed = [it.partition(":") for it in self.all("LoadCredential")]
+        self.credentials = {f"/run/credentials/{unit}/{name}" for name, _, _ in handed}
+        # Files that the unit hands over by an option, which goes before the settings.
+        self.options = {path for name, _, path in handed if f"%d/{name}" in self.all("ExecStart")[0]}
+        assert self.all("DynamicUser") == ["yes"] and self.all("ProtectSystem") == ["strict"]
+
+    def all(self, name):
+        return [it[1] for it in self.lines if it[0] == name]
+
+    def require(self, tables):
+        """Requires that what is written lies in the unit's own folder, and that each secret comes from there or is handed over."""
+        seen = 0
+        for table, members in tables.items():
+            for member, value in members.items():
+                if member in ("state", "record", "agents"):
+                    assert any(f"{value}/".startswith(f"{it}/") for it in self.state), f"{member} = {value} is not below {self.state}"
+                    seen += 1
+                elif member in ("password_file", "key"):
+                    is_given = value in self.credentials or (table != "page" and value in self.options)
+                    assert is_given, f"{table}.{member} = {value} is none of {self.credentials}"
+                    seen += 1
+        assert seen, f"nothing of {tables} is written or secret"
+
+
+def block_of(page, first):
+    """The indented block of a page that begins with this line, as TOML."""
+    found = re.search(rf"^    {re.escape(first)}\n(?:    .*\n|\n(?=    ))+", (TOP / "docs" / page).read_text(), re.M)
+    assert found, f"{page} has no block {first}"
+    return tomllib.loads(re.sub("^    ", "", found[0], flags=re.M))
+
+
+def example(path):
+    """The settings of an example."""
+    return tomllib.loads((TOP / "examples" / path).read_text())
