@@ -3,6 +3,9 @@
 
     /usr/bin/python3 bench/hub.py rest [AGENTS [SECONDS]]   processor time and memory at rest, and the time from bid to price
     /usr/bin/python3 bench/hub.py failures [TIMES]          ends each part so many times while bids flow, and prints a row of each
+    /usr/bin/python3 bench/hub.py records [AGENTS [TIMES]]  the bytes that a clearing for all agents is recorded in, and compressed
+    /usr/bin/python3 bench/hub.py silent [COUNT]            the memory and the files of connections by TLS that say nothing, or little
+    /usr/bin/python3 bench/hub.py flood [COUNT [FILES]]     whether agents go on beside silent connections and beside wrong logins
 
 The program is the one that COGMAULA_LIVE names, or that of the checkout. Agents connect by lines over TCP on this machine.
 """
@@ -20,8 +23,8 @@ from pathlib import Path
 TOP = Path(__file__).resolve().parents[1]
 sys.path[:0] = [str(TOP / it) for it in ("python", "python/tests/hub", "python/tests/live")]
 
-from brokers import live_program, wait_until  # noqa: E402
-from hubs import STEPS, HubProcess, tokens_in  # noqa: E402
+from brokers import Certificates, live_program, wait_until  # noqa: E402
+from hubs import STEPS, HubProcess, TcpAgent, silent_connections, tokens_in  # noqa: E402
 
 from cogmaula.live.serving import LIVED  # noqa: E402
 
@@ -77,6 +80,77 @@ def rest(folder, agents=256, seconds=60):
         median = statistics.median(took)
         print(f"from a bid to its price at all {agents}: median {median:.2f} s, greatest {max(took):.2f} s, pause 0.2 s")
         print(f"processor time of a clearing for all: {(sum(map(processor_seconds, every)) - begun) / len(took):.2f} s")
+
+
+def records(folder, agents=256, times=20):
+    """Each clearing moves the step, so all agents are told a price."""
+    from cogmaula.live.compressing import compress
+
+    recordings = folder / "recorded"
+    tokens = tokens_in(folder, {f"agent{it}": it for it in range(1, agents + 1)})
+    hub = HubProcess(folder, live_program(), tokens=tokens, pause=0.2, record=str(recordings))
+
+    def size():
+        return sum(it.stat().st_size for it in recordings.iterdir())
+
+    with hub:
+        connected = [hub.agent(name).bids([number] * STEPS, 1) for number, name in enumerate(tokens, 1)]
+        wait_until(lambda: all(it.prices for it in connected), "each agent has a price", 600)
+        time.sleep(2)
+        begin, first = size(), connected[0].prices[-1]["clearing"]
+        for number in range(2, times + 2):
+            step = 3 + number % 2
+            connected[0].bids([10_000_000] * step + [-10_000_000] * (STEPS - step), number)
+            wait_until(lambda step=step: all(it.has(step=step) for it in connected), "all have the price", 120)
+        time.sleep(1)
+        clearings = connected[0].prices[-1]["clearing"] - first
+        made = (size() - begin) / clearings
+    plain = size()
+    for it in recordings.glob("*.frames"):
+        compress(it)
+    share = size() / plain
+    day = made * 86_400 / 1e9
+    print(f"{agents} agents, {clearings} clearings: {made:,.0f} bytes a clearing, compressed {made * share:,.0f}")
+    print(f"at one clearing a second: {day:.2f} GB a day, compressed {day * share:.2f} GB")
+
+
+def silent(folder, count=200):
+    certificate, key = Certificates(folder / "keys").make("server", "127.0.0.1")
+    with HubProcess(folder, live_program(), certificate=certificate, key=key) as hub:
+        files = Path(f"/proc/{hub.process.pid}/fd")
+        hub.agent("house", ca=str(folder / "keys" / "ca.crt")).bids([1] * STEPS, 1).waits_for(power=1)
+        before = hub.megabytes
+        for what, data in (("say nothing", b""), ("begin a handshake of TLS", b"\x16\x03\x01\x02\x00")):
+            with silent_connections(hub.port, count, data):
+                time.sleep(3)
+                grown = hub.megabytes - before
+                print(f"{count} connections that {what}: {grown:.1f} MB, {grown / count:.3f} MB each, {len(list(files.iterdir()))} files open")
+            time.sleep(12)
+            print(f"after them: {hub.megabytes - before:.1f} MB, {len(list(files.iterdir()))} files open")
+        print(f"lines of the log: {len(hub.lines)}")
+
+
+def flood(folder, count=600, files=300):
+    """The hub may open so many files. Each of 20 right logins comes behind three wrong ones of the same address."""
+    with HubProcess(folder, live_program(), files=files) as hub:
+        house = hub.agent("house").bids([1] * STEPS, 1).waits_for(power=1)
+        priced = 0
+        with silent_connections(hub.port, count):
+            for number in range(2, 12):
+                house.bids([number] * STEPS, number)
+                time.sleep(1)
+                priced += house.has(power=number)
+            lines = len(hub.lines)
+        print(f"beside {count} silent connections: {priced} of 10 bids have a price within 1 s, {lines} lines of the log")
+    with HubProcess(folder, live_program()) as hub:
+        right = 0
+        for _ in range(20):
+            for _ in range(3):
+                TcpAgent(hub.port).login("house", "wrong")
+            agent = hub.agent("store")
+            right += "agentId" in agent.welcome
+            agent.close()
+        print(f"beside 60 wrong logins of one address: {right} of 20 right ones are let in")
 
 
 class Flow:
@@ -169,12 +243,15 @@ def failures(folder, times=20):
         flow.is_over = True
 
 
+WHAT = {"rest": rest, "failures": failures, "records": records, "silent": silent, "flood": flood}
+
+
 def main(words):
     with tempfile.TemporaryDirectory() as folder:
-        {"rest": rest, "failures": failures}[words[0]](Path(folder), *map(int, words[1:]))
+        WHAT[words[0]](Path(folder), *map(int, words[1:]))
 
 
 if __name__ == "__main__":
-    if len(sys.argv) < 2 or sys.argv[1] not in ("rest", "failures"):
+    if len(sys.argv) < 2 or sys.argv[1] not in WHAT:
         sys.exit(__doc__)
     main(sys.argv[1:])
