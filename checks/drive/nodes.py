@@ -1,8 +1,9 @@
 """Compares the nodes of the built program `live` with checks/oracle/nodes.py, byte for byte, also by a reader that waits.
 
-    python3 -m checks.drive.nodes PROGRAM [all]
+    python3 -m checks.drive.nodes LIVE MARKET [all]
 
-With `all` many more streams are tried, and those of a gigabyte.
+The bids of a device's control are compared with those of the program MARKET too. With `all` many more streams are tried, and
+those of a gigabyte.
 """
 
 import os
@@ -17,8 +18,9 @@ import threading
 import time
 from pathlib import Path
 
-from checks.drive import faults
+from checks.drive import control, faults
 from checks.drive.built import Hangs, differs, ended, sampled
+from checks.make.control_rows import kind, points, state
 from checks.make.node_bytes import (
     AUCTIONEER, CLEAR, DEVICE, GIVEN, LEAVE, RELAY, SEND, bid, bound, expire, fault, gone, hello, limits, offer, old, price, resume_gone,
 )
@@ -72,7 +74,7 @@ def small_streams():
         + old(3, 1) + price(3, 1, 1, 1, other) + price(3, 1, 1, 1)
     yield AUCTIONEER, hello() + bound(1, -9, 9) + bid(1, 2, 5, -3) + CLEAR + gone(2, 1) + bid(1, 2, 5, -3) + bid(1, 4, 10, 0) + expire(1)
     yield DEVICE, hello() + offer(5, -3) + price(2, 2, 1, 1) + price(2, 2, 2, 1, other) + old(2, 3) + LEAVE
-    yield DEVICE, hello() + resume_gone(4, 1) + LEAVE
+    yield DEVICE, hello() + resume_gone(4, 1) + kind(5) + state(9) + points((0, 5), (9, -3)) + LEAVE
 
 
 def try_faults(program, folder):
@@ -265,8 +267,9 @@ def try_longest(program):
             yield named(arguments, f"a stream of {size} bytes"), None if found == (status, size - 11) else f"it ends with {found}"
 
 
-def tried(program, folder, everything):
+def tried(program, market, folder, everything):
     yield from try_rows(program)
+    yield from control.try_village(program, market)
     yield from try_random(program, MANY_RANDOM_STREAMS if everything else RANDOM_STREAMS)
     yield from try_faults(program, folder)
     yield from try_kills(program, MANY_KILLS if everything else KILLS, folder)
@@ -277,15 +280,15 @@ def tried(program, folder, everything):
         yield from try_longest(program)
 
 
-def main(program, everything):
+def main(program, market, everything):
     passed = failed = 0
     with tempfile.TemporaryDirectory() as name:
         try:
-            for what, why in tried(program, Path(name), everything):
+            for what, why in tried(program, market, Path(name), everything):
                 passed, failed = passed + (why is None), failed + (why is not None)
                 if why is not None:
                     print(f"{what}: {why}")
-        except (Hangs, OSError, subprocess.TimeoutExpired) as why:
+        except (Hangs, control.Ends, OSError, subprocess.TimeoutExpired) as why:
             failed += 1
             print(f"behind {passed + failed} checks: {why!r}")
     print(f"{passed} passed, {failed} failed")
@@ -293,4 +296,4 @@ def main(program, everything):
 
 
 if __name__ == "__main__":
-    sys.exit(main(sys.argv[1], sys.argv[2:] == ["all"]))
+    sys.exit(main(sys.argv[1], sys.argv[2], sys.argv[3:] == ["all"]))

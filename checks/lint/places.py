@@ -164,6 +164,7 @@ LIMITS: dict[str, list[Place]] = {
     "SPREAD_LIMIT": [Bound("node battery/spread/maximum"), Said(PAGE, r"spread \| 0 to")],
     "MINUTES_LIMIT": [Bound("$defs/tick/properties/tick/maximum"), Said(PAGE, "minutes")],
     "MAX_POINTS": [Bound("$defs/points/maxItems"), Said(PAGE, "points")],
+    "MOST_POINTS": [Said(RELAY, "points")],
     "MAX_NAME_BYTES": [Said(PAGE, "[Nn]ame.*bytes")],
     "FILE_LIMIT": [Said(MANUAL, "bytes"), Said(PAGE, "bytes")],
     "INPUT_RUN": [],

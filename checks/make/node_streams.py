@@ -2,6 +2,7 @@
 
 import struct
 
+from checks.make import control_rows
 from checks.make.node_bytes import (
     CLEAR, LAST_NUMBER, LEAVE, MOST, SEND, bid, bound, expire, gone, hello, limits, offer, old, price, resume_gone,
 )
@@ -84,11 +85,35 @@ class Drawing:
     def of_auctioneer(self):
         return CLEAR if self.chance.random() < 0.3 else self.of_child()
 
+    def points(self):
+        many = self.chance.choice([1, 2, 2, 5, 64])
+        prices = sorted(self.chance.randint(*self.basis[:2]) for _ in range(many))
+        return control_rows.points(*zip(prices, sorted((self.chance.randint(-self.widest, self.widest) for _ in range(many)), reverse=True)))
+
+    def kind(self):
+        chance, low = self.chance, self.chance.randint(-50, 50)
+        number, power = chance.randrange(6), chance.randint(0, self.widest)
+        if number == control_rows.BATTERY:
+            return control_rows.kind(number, chance.choice([1, 100, MOST]), power, chance.randint(0, self.widest), chance.choice([0, 1, 1000]))
+        kept = number < control_rows.BATTERY
+        return control_rows.kind(number, *((low, low + chance.choice([1, 7, 99]), power, 1, 2) if kept else ()))
+
+    def state(self):
+        """A state of the kind, or a new kind if there is none."""
+        node = self.node.kind
+        if node is None:
+            return self.kind()
+        if "low" in node:
+            return control_rows.state(self.chance.randint(node["low"] - 1, node["high"] + 1))
+        return control_rows.state(self.chance.randint(0, node.get("capacity", self.widest)))
+
     def of_device(self):
         what = self.chance.random()
         if what < self.prices:
             return self.of_parent()
-        return LEAVE if what > 0.93 else offer(*self.demands())
+        if what > 0.9:
+            return LEAVE if what > 0.93 else self.kind()
+        return self.chance.choice([lambda: offer(*self.demands()), self.points, self.state])()
 
     def go_on(self, number):
         draw = {"relay": self.of_relay, "auctioneer": self.of_auctioneer, "device": self.of_device}[self.arguments[0]]
@@ -179,6 +204,9 @@ def bad_frame(chance, arguments, steps):
         bid(0, 1, *falling), bid(257, 1, *falling), bid(1, 0, *falling), bid(9, 9, *falling[:-1], falling[0] + 1),
         gone(0, 1), gone(1, 0), offer(*falling[:-1], falling[0] + 1), offer(MOST + 1, *falling[1:]),
         price(child + 1, 1, 1, 0, basis), price(child, 0, 1, 0, basis), price(child, 1, 1, steps, basis), old(child - 1, 1),
+        control_rows.points((1, 1), (0, 1)), control_rows.points((0, 1), (1, 2)), control_rows.points((basis[1] + 1, 0)),
+        control_rows.points((basis[0] - 1, 0)), control_rows.points((0, MOST + 1)), control_rows.kind(6), control_rows.kind(4, 1),
+        control_rows.kind(0, 5, 5, 1, 1, 1), control_rows.kind(3, 9, 1, 1, 1, 1), control_rows.state(-MOST - 1), b"\x80", b"\xc1",
     ])
 
 

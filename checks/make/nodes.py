@@ -1,5 +1,6 @@
 """Streams for the nodes of docs/RELAY.md, a relay, an auctioneer and a device, with the answers due: rows worked by hand."""
 
+from checks.make.control_rows import control_rows
 from checks.make.device_rows import device_rows
 from checks.make.node_bytes import (
     AUCTIONEER, BAD_FRAMES_OF_CHILDREN, CLEAR, DEVICE, LAST_NUMBER, LEAVE, MOST, NOT_CAUGHT_UP, NOT_CHANGED, OUT_OF_NUMBERS, RELAY, SEND,
@@ -43,6 +44,14 @@ EXAMPLES = [
                 19 00000002 00000007 00000000 00000009 0002 000001F4 FFFFFED4
                 1A 00000004 00000007 00000000 00000009 0002
                 03 0002 00000004"""),
+    (DEVICE, """01 00000000 00000009 0002
+                82 00000000 000001F4 00000009 FFFFFED4
+                1D 03 000003E8 0000012C 0000012C 00000000 00000000
+                1E 00000190""",
+             """19 00000002 00000000 00000000 00000009 0002 000001F4 FFFFFED4
+                02 0002 00000002 000001F4 FFFFFED4
+                19 00000004 00000000 00000000 00000009 0002 00000000 FFFFFED4
+                02 0002 00000004 00000000 FFFFFED4"""),
 ]
 
 
@@ -158,5 +167,5 @@ def rows():
     """Streams with the arguments before, and the status and the answers due, worked by hand."""
     for arguments, data, answers in EXAMPLES:
         yield f"the page's {arguments[0]}", arguments, from_hex(data), DONE, from_hex(answers)
-    for made in (usage_rows, common_rows, relay_rows, auctioneer_rows, device_rows, longest_rows):
+    for made in (usage_rows, common_rows, relay_rows, auctioneer_rows, device_rows, control_rows, longest_rows):
         yield from made()

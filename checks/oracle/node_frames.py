@@ -1,13 +1,26 @@
-"""The frames of the nodes of a market across machines, by docs/RELAY.md alone: their kinds, which are right, and their bytes."""
+"""The frames of the nodes of a market across machines, by docs/RELAY.md alone: their kinds, which are right, and their bytes.
+
+What points and states stand for is by docs/CLUSTER_FILE.md, as RELAY.md says.
+"""
 
 import struct
 from dataclasses import dataclass
 
+from checks import facts
+from checks.oracle.auction import TEMPERATURE, bid_of, demand_at
 from checks.oracle.frames import CHILDREN, MOST, Hello, Right, is_bid
 
 SEND, WINDOW_FULL, DROPPED = 9, 10, 11
 OFFER, LEAVE, SETPOINT = 13, 14, 15
 NOT_CAUGHT_UP, OUT_OF_NUMBERS, EXPIRE, LIMITS, BOUND, TOO_MUCH, PRICE, OTHER_BASIS, RESUME, RESUME_GONE, OUT_OF_LIMITS = range(17, 28)
+KIND, STATE = 29, 30
+# The kind of Points is this number and how many points there are.
+POINTS = 128
+# The parameters of each kind of device, by its number from 0 on.
+PARAMETERS = {
+    "freezer": ("low", "high", "power", "warm", "cool"), "heat_pump": ("low", "high", "power", "loss", "gain"),
+    "cogeneration": ("low", "high", "power", "loss", "gain"), "battery": ("capacity", "charge", "discharge", "spread"), "solar": (), "load": (),
+}
 # The fields of a basis: the least price, the greatest price, and the number of steps.
 BASIS = "iiH"
 
@@ -50,6 +63,66 @@ class Offer:
 
     def is_right(self, basis):
         return is_bid(self.demands, basis)
+
+
+def prices_of(basis):
+    width = (basis.greatest - basis.least) // (basis.steps - 1)
+    return range(basis.least, basis.greatest + 1, width)
+
+
+@dataclass(frozen=True)
+class Points:
+    points: tuple
+
+    def is_right(self, basis):
+        pairs = list(zip(self.points, self.points[1:]))
+        runs = all(a[0] <= b[0] and a[1] >= b[1] for a, b in pairs)
+        return runs and all(basis.least <= price <= basis.greatest and abs(demand) <= MOST for price, demand in self.points)
+
+    def demands(self, basis):
+        return tuple(demand_at(self.points, price) for price in prices_of(basis))
+
+
+@dataclass(frozen=True)
+class Kind:
+    number: int
+    numbers: tuple
+
+    def node(self):
+        """The kind as a node of a cluster file has it, or None if the numbers name none."""
+        if self.number >= len(PARAMETERS):
+            return None
+        kind, names = list(PARAMETERS.items())[self.number]
+        return None if any(self.numbers[len(names) :]) else {"kind": kind, **dict(zip(names, self.numbers))}
+
+    def is_right(self, _):
+        node = self.node()
+        if node is None:
+            return False
+        if node["kind"] == "battery":
+            powers = node["charge"], node["discharge"]
+            return 1 <= node["capacity"] <= MOST and all(0 <= it <= MOST for it in powers) and 0 <= node["spread"] <= facts.SPREAD_LIMIT
+        if node["kind"] in ("solar", "load"):
+            return True
+        low, high, power, *changes = self.numbers
+        return -TEMPERATURE <= low < high <= TEMPERATURE and 0 <= power <= MOST and all(0 <= it <= TEMPERATURE for it in changes)
+
+
+@dataclass(frozen=True)
+class State:
+    """`node` is the kind that was named last, as a node of a cluster file has it, or None."""
+
+    node: dict
+    state: int
+
+    def is_right(self, _):
+        if self.node is None:
+            return False
+        greatest = {"battery": self.node.get("capacity"), "solar": MOST, "load": MOST}.get(self.node["kind"])
+        return abs(self.state) <= TEMPERATURE if greatest is None else 0 <= self.state <= greatest
+
+    def demands(self, basis):
+        return tuple(bid_of(self.node, self.state, basis.steps))
 
 
 @dataclass(frozen=True)
@@ -162,6 +235,17 @@ def relay_resume_form(arguments):
     return f">III{BASIS}iiHii{CHILDREN}I", lambda *it: RelayResume(
         arguments, *it[:3], Hello(*it[3:6]), it[6:9], it[9:11], with_numbers(it[11:])
     )
+
+
+def control_forms(steps, node):
+    """The frames of a device's control, whose kind as a node of a cluster file this is."""
+    pairs = {POINTS + many: (f">{2 * many}i", lambda *it: Points(tuple(zip(it[::2], it[1::2])))) for many in range(1, facts.MOST_POINTS + 1)}
+    return pairs | {
+        OFFER: (f">{steps}i", lambda *it: Offer(it)),
+        LEAVE: (">", Leave),
+        KIND: (">B5i", lambda number, *it: Kind(number, it)),
+        STATE: (">i", lambda it: State(node, it)),
+    }
 
 
 AUCTIONEER_RESUME_FORM = f">I{BASIS}{CHILDREN}I", lambda *it: AuctioneerResume(it[0], Hello(*it[1:4]), with_numbers(it[4:]))

@@ -15,9 +15,9 @@ from checks.oracle.frames import (
     BID, CHILDREN, CLEAR, GONE, HELLO_FORM, MOST, NOT_CHANGED, OLD, Bid, Clear, Gone, Hello, bid, bid_forms, clearing_step, gone, old, sum_of,
 )
 from checks.oracle.node_frames import (
-    AUCTIONEER_RESUME_FORM, BOUND, EXPIRE, LEAVE, LIMITS, NOT_CAUGHT_UP, OFFER, OUT_OF_NUMBERS, PRICE, RESUME, RESUME_GONE, RESUME_GONE_FORM,
-    SEND, WINDOW_FULL, AuctioneerResume, Bound, DeviceResume, Expire, Leave, Limits, Offer, Old, Price, RelayResume, ResumeGone, Send,
-    are_limits, device_resume, device_resume_form, dropped, other_basis, out_of_limits, price, price_form, relay_resume,
+    AUCTIONEER_RESUME_FORM, BOUND, EXPIRE, LIMITS, NOT_CAUGHT_UP, OUT_OF_NUMBERS, PRICE, RESUME, RESUME_GONE, RESUME_GONE_FORM, SEND,
+    WINDOW_FULL, AuctioneerResume, Bound, DeviceResume, Expire, Kind, Leave, Limits, Offer, Old, Points, Price, RelayResume, ResumeGone, Send,
+    State, are_limits, control_forms, device_resume, device_resume_form, dropped, other_basis, out_of_limits, price, price_form, relay_resume,
     relay_resume_form, resume_gone, setpoint, too_much,
 )
 
@@ -319,23 +319,22 @@ class Device(Node):
     """The agent of one device. Its own numbers are even: the odd one after each is its parent's.
 
     `offers` has by its number the offer answered last, which is number `answered`, and each later one. An offer that came back is
-    held for answered. `newest` is the last offer, or None if the device has left or never offered.
+    held for answered. `newest` is the last offer, or None if the device has left or never offered. `kind` is the kind that its control
+    named last, as a node of a cluster file has it, or None.
     """
 
     def __init__(self, child):
         super().__init__()
         self.child, self.last, self.index = child, 0, 0
-        self.offers, self.answered, self.newest = {}, 0, None
+        self.offers, self.answered, self.newest, self.kind = {}, 0, None, None
 
     def resume_forms(self):
         return {RESUME: device_resume_form(self.basis.steps), RESUME_GONE: RESUME_GONE_FORM}
 
     def later_forms(self):
-        return {
+        return control_forms(self.basis.steps, self.kind) | {
             PRICE: price_form(self.child),
             OLD: (">HI", lambda *it: Old(self.child, *it)),
-            OFFER: (f">{self.basis.steps}i", lambda *it: Offer(it)),
-            LEAVE: (">", Leave),
         }
 
     def answer(self, frame):
@@ -350,6 +349,11 @@ class Device(Node):
                 return gone(self.child, self.last) if self.last else b""
             case Offer():
                 return self.offered(frame.demands)
+            case Points() | State():
+                return self.offered(frame.demands(self.basis))
+            case Kind():
+                self.kind = frame.node()
+                return b""
             case Leave():
                 return self.left()
             case Price():

@@ -6,7 +6,9 @@ pub mod NodePlaces
 pub mod Sizes
 pub mod OneRelayFrame
 pub mod OneRootFrame
+pub mod OneOffer
 pub mod OneDeviceFrame
 pub mod ReadNodes
+pub mod ReadOffers
 pub mod Written
 pub mod Prices

@@ -1,5 +1,5 @@
 -- What nodes keep over a restart, and what names a basis or limits: its bytes determine it, whatever follows.
-use Rattle.std.proofs.Common.{◌≡◌, ◌∙◌, sym, ap, ℕ, ◌<◌, ◌≤◌, ◌^◌, ◌≢◌, ℤ, List, ◌++◌, get_or}
+use Rattle.std.proofs.Common.{◌≡◌, ◌∙◌, sym, ap, ℕ, ◌<◌, ◌≤◌, ◌^◌, ℤ, List, ◌++◌, get_or}
 use Rattle.std.proofs.Common.{Option, Some, None, refl, arith}
 use Rattle.std.specs.Int.{w16, w32, to_be_bytes}
 use Rattle.pm_base.specs.declared.limits.Limits.{Limits}

@@ -12,7 +12,7 @@ use Rattle.pm_wire.specs.Frames.{bid_framing, frame_bytes, clear_kind, IsFormed,
 use Rattle.pm_wire.specs.Spelling.{IsOne, IsRefusedFrame, IsFrameAt}
 use Rattle.pm_wire.proofs.OneFrame.{parts_same}
 use Rattle.pm_basis.specs.Prices.{BasisValue}
-use Rattle.pm_frames.specs.Kinds.{offer_kind, resume_kind, resume_gone_kind}
+use Rattle.pm_frames.specs.Kinds.{resume_kind, resume_gone_kind}
 use Rattle.pm_frames.specs.NamedBases.{basis_bytes, IsBasisFormed}
 use Rattle.pm_frames.specs.Expiries.{expire_bytes, IsExpireFormed, IsExpireAccepted}
 use Rattle.pm_frames.specs.Places.{bid_place, basis_at, steps_at, IsOpen, IsFresh}
@@ -211,16 +211,6 @@ root_resume_refused stage bytes stored fresh is spelled refused = record {
 pub nothing_offered : (steps many : ℕ) (bytes : List ℕ) (offer : Option (List ℤ)) → many ≡ steps → offer ≡ None → IsOffer many bytes offer →
     IsRefusedOffer steps bytes
 nothing_offered steps many bytes offer same none is = subst (λ n. IsRefusedOffer n bytes) same (subst (λ o. IsOffer many bytes o) none is)
-
--- an Offer whose demands are no bid is refused
-pub offer_refused : (place : NodePlace) (body : List ℕ) → IsOpen place.stage → IsRefusedOffer (steps_at place.stage) body →
-    IsRefusedFrame device_framing place (offer_kind ∷ body)
-offer_refused place body is_open at = record {
-  frame = devices.Offer at.demand;
-  formed = (is_open, at.are.count, at.are.fit);
-  refused = at.refused;
-  spelled = ap (λ l. offer_kind ∷ l) at.are.spelled;
-}
 
 -- the fields of what a device comes back with that stand before its offer
 pub record AreFields (body x y z : List ℕ) (number index : ℕ) (basis : BasisValue) : Type 0 where

@@ -1,5 +1,5 @@
 -- The frame by which a device is let go at its parent.
-use Rattle.std.specs.Prelude.{◌≡◌, ℕ, ◌<◌, ◌≤◌, ◌^◌, List, ◌∷◌}
+use Rattle.std.specs.Prelude.{ℕ, ◌<◌, ◌≤◌, ◌^◌, List, ◌∷◌}
 use Rattle.std.specs.Int.{w16, to_be_bytes}
 use Rattle.pm_base.specs.Limits.{most_nodes}
 use Rattle.pm_frames.specs.Kinds.{expire_kind}

@@ -54,3 +54,13 @@ resume_gone_kind = 26
 
 abbrev pub out_of_limits_kind : ℕ
 out_of_limits_kind = 27
+
+abbrev pub kind_kind : ℕ
+kind_kind = 29
+
+abbrev pub state_kind : ℕ
+state_kind = 30
+
+-- the kind of points is this number and how many there are
+abbrev pub points_kind : ℕ
+points_kind = 128

@@ -6,6 +6,8 @@ pub mod RelayFrames
 pub mod RootFrames
 pub mod DeviceFrames
 pub mod Offers
+pub mod OfferForms
+pub mod NamedKinds
 pub mod Answers
 pub mod Expiries
 pub mod LimitsFrames

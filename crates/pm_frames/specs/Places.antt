@@ -1,7 +1,9 @@
 -- Where a frame stands in the stream to a node: before Hello, directly after it, or further on.
-use Rattle.std.specs.Prelude.{ℕ, Option, Some, None, IfSome, ⊤}
+use Rattle.std.specs.Prelude.{ℕ, Option, Some, None, IfSome, IsTrue, ⊤}
 use Rattle.pm_base.specs.Limits.{AreSteps}
 use Rattle.pm_basis.specs.Prices.{BasisValue}
+use Rattle.pm_device.specs.Kinds.{is_valid}
+use Rattle.pm_device.specs.declared.kind.Kind.{Kind}
 use Rattle.pm_wire.specs.declared.frame.Frame.{Frame}
 use Rattle.pm_wire.specs.declared.frame.Frame.TheVariants.{Hello, Bid, Gone, Clear}
 use Rattle.pm_frames.specs.declared.place.NodePlace.{NodePlace}
@@ -56,6 +58,10 @@ stage_after stage Clear = stage_behind stage
 abbrev pub with_stage : NodePlace → Stage → NodePlace
 with_stage place stage' = record place { stage = stage' }
 
+-- the same node, at another stage and of this kind
+abbrev pub with_kind : NodePlace → Stage → Option Kind → NodePlace
+with_kind place stage' kind' = record place { stage = stage'; kind = kind' }
+
 abbrev pub with_relay_stage : RelayPlace → Stage → RelayPlace
 with_relay_stage place stage' = record place { stage = stage' }
 
@@ -63,8 +69,9 @@ with_relay_stage place stage' = record place { stage = stage' }
 abbrev pub IsStage : Stage → Type 0
 IsStage stage = IfSome (bid_place stage) AreSteps
 
+-- the parameters of a kind that was named are within their limits
 abbrev pub IsNodePlace : NodePlace → Type 0
-IsNodePlace place = IsStage place.stage
+IsNodePlace place = IsStage place.stage × IfSome place.kind (λ kind. IsTrue (is_valid kind))
 
 abbrev pub IsRelayPlace : RelayPlace → Type 0
 IsRelayPlace place = IsStage place.stage

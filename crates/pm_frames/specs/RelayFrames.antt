@@ -1,6 +1,6 @@
 -- The frames of the stream to a relay: its children's as they stand in a stream of bids, except Clear; its parent's; Send, Expire, Limits,
 -- Bound and Resume.
-use Rattle.std.specs.Prelude.{◌≡◌, ℕ, ◌+◌, ◌*◌, ◌≤◌, ◌==◌, if◌then◌else◌, List, [], ◌∷◌, Option, Some, None, ⊤}
+use Rattle.std.specs.Prelude.{◌≡◌, ℕ, ◌+◌, ◌*◌, ◌==◌, if◌then◌else◌, List, [], ◌∷◌, Option, Some, None, ⊤}
 use Rattle.pm_wire.specs.declared.frame.Frame.{Frame}
 use Rattle.pm_wire.specs.declared.frame.Frame.TheVariants.{Hello, Bid, Gone, Clear}
 use Rattle.pm_wire.specs.Frames.{hello_kind, bid_kind, gone_kind, frame_bytes, IsFormed, IsAccepted}

@@ -1,5 +1,5 @@
 -- What the arguments of the command line say of a relay: its limits, and the place among its children in which it is given others.
-use Rattle.std.specs.Prelude.{◌≡◌, ℕ, ◌≤◌, Option, Some, None, ⊤}
+use Rattle.std.specs.Prelude.{ℕ, ◌≤◌, Option, Some, None, ⊤}
 use Rattle.pm_base.specs.Limits.{most_nodes}
 use Rattle.pm_relay.specs.Relays.{AreRelayLimits}
 use Rattle.pm_frames.specs.declared.terms.RelayTerms.{RelayTerms}

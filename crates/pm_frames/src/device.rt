@@ -4,30 +4,33 @@ ghost use Rattle.std.specs.Prelude.{◌≡◌, ◌+◌, ◌*◌, ◌%◌, ◌≤
 ghost use Rattle.pm_base.specs.Limits.{AreSteps};
 ghost use Rattle.pm_wire.specs.Frames.{hello_kind};
 ghost use Rattle.pm_wire.specs.Spelling.{IsOne};
-ghost use Rattle.pm_frames.specs.Kinds.{offer_kind, resume_kind, resume_gone_kind};
-ghost use Rattle.pm_frames.specs.Places.{basis_at, steps_at, IsOpen, IsFresh, IsStage};
+ghost use Rattle.pm_frames.specs.Kinds.{kind_kind, resume_kind, resume_gone_kind};
+ghost use Rattle.pm_frames.specs.Places.{basis_at, steps_at, IsOpen, IsFresh, IsStage, IsNodePlace};
 ghost use Rattle.pm_frames.specs.ParentFrames.{parent_size};
-ghost use Rattle.pm_frames.specs.Offers.{IsOffer};
 ghost use Rattle.pm_frames.specs.DeviceFrames.{device_size, device_size_open, device_size_fresh, device_framing};
 
 use crate::basis::{NamedBasis, read_basis};
-use crate::kinds::{HELLO, LEAVE, OFFER, OLD, PRICE, RESUME, RESUME_GONE};
+use crate::form::OfferForm;
+use crate::kinds::{HELLO, KIND, LEAVE, OFFER, OLD, PRICE, RESUME, RESUME_GONE, STATE};
+use crate::named_kind::{NamedKind, read_named_kind};
+use crate::offer::{read_offer, read_offered, read_points, read_state, size_points};
 use crate::parent::{ParentFrame, read_accepted};
 use crate::place::{NodePlace, Stage};
 use crate::stored::StoredAgent;
 use pm_basis::Basis;
-use pm_bid::{ArrayBid, Steps};
-use pm_wire::{Frame, StreamFrame, read_demands, read_u32};
+use pm_bid::ArrayBid;
+use pm_wire::{Frame, StreamFrame, read_u32};
 use std::alloc::{AllocError, Global};
-use std::marker::Brand;
 
 /// A frame of the stream to a device's agent.
 #[derive(Drop)]
 pub enum DeviceFrame {
     /// The market basis, in price units. It stands first, and only there.
     Hello { basis: Basis },
-    /// The control offers the power in watts that the device would take at each step.
-    Offer { demand: ArrayBid },
+    /// The control offers the power in watts that the device would take at each step, said in one of its forms.
+    Offer { form: OfferForm, demand: ArrayBid },
+    /// The control names the kind of the device, of which it may say states from here on.
+    Kind(NamedKind),
     /// The device leaves the market.
     Leave,
     /// A frame of the device's parent.
@@ -46,7 +49,9 @@ fn size_open(steps: usize, kind: u8) -> Option<usize>
         LEAVE => Some(1),
         PRICE => Some(23),
         OLD => Some(7),
-        _ => None,
+        KIND => Some(22),
+        STATE => Some(5),
+        _ => size_points(kind),
     }
 }
 
@@ -100,34 +105,17 @@ fn read_hello(
     }
 }
 
-/// The bid of the demands that the bytes are, or None where they are no bid of so many steps.
-fn read_offered(alloc: Global, steps: usize, bytes: &[u8]) -> Result<Option<ArrayBid>, AllocError>
-    requires steps { AreSteps steps }
-    requires size { length bytes.now ≡ 4 * steps }
-    ensures { IfOk result (IsOffer steps bytes.now) }
-{
-    let demands = read_demands(alloc, steps, bytes)?;
-    match ArrayBid::new(demands, steps, &mut Steps::<Brand>::start()) {
-        Ok(demand) => Ok(Some(demand)),
-        Err(_) => Ok(None),
-    }
-}
-
-/// Reads the fields of Offer.
-fn read_offer(
-    alloc: Global,
-    place: NodePlace,
-    body: &[u8],
-) -> Result<Option<DeviceFrame>, AllocError>
-    requires stage { IsStage place.stage }
+/// Reads the fields of Kind.
+fn read_device_kind(place: NodePlace, body: &[u8]) -> Option<DeviceFrame>
     requires open { IsOpen place.stage }
-    requires size { length body.now ≡ 4 * steps_at place.stage }
-    ensures { IfOk result (IsOne device_framing place (offer_kind ∷ body.now)) }
+    requires size { length body.now ≡ 21 }
+    ensures { IsOne device_framing place (kind_kind ∷ body.now) result }
 {
-    match read_offered(alloc, place.stage.steps(), body)? {
-        Some(demand) => Ok(Some(DeviceFrame::Offer { demand })),
-        None => Ok(None),
+    let named = read_named_kind(body);
+    if !named.is_valid() {
+        return None;
     }
+    Some(DeviceFrame::Kind(named))
 }
 
 /// Whether what a device comes back with that has left is of the basis that Hello had, under a number that a device gives.
@@ -210,7 +198,7 @@ fn read_body(
     kind: u8,
     body: &[u8],
 ) -> Result<Option<DeviceFrame>, AllocError>
-    requires stage { IsStage place.stage }
+    requires place { IsNodePlace place }
     requires size { device_size place.stage kind ≡ Some (length body.now + 1) }
     ensures { IfOk result (IsOne device_framing place (kind ∷ body.now)) }
 {
@@ -219,8 +207,11 @@ fn read_body(
         RESUME => read_resume(alloc, place, body),
         RESUME_GONE => Ok(read_resume_gone(place, body)),
         OFFER => read_offer(alloc, place, body),
+        KIND => Ok(read_device_kind(place, body)),
+        STATE => read_state(alloc, place, body),
         LEAVE => Ok(Some(DeviceFrame::Leave)),
-        _ => Ok(read_from_parent(place, kind, body)),
+        PRICE | OLD => Ok(read_from_parent(place, kind, body)),
+        _ => read_points(alloc, place, kind, body),
     }
 }
 
@@ -243,16 +234,18 @@ impl StreamFrame for DeviceFrame {
     }
 
     fn place_after(&self, place: NodePlace) -> NodePlace {
-        let stage = match self {
-            DeviceFrame::Hello { basis } => Stage::Opened { basis: *basis },
+        let (stage, kind) = match self {
+            DeviceFrame::Hello { basis } => (Stage::Opened { basis: *basis }, place.kind),
+            DeviceFrame::Kind(named) => (place.stage.behind(), named.kind()),
             DeviceFrame::Offer { .. }
             | DeviceFrame::Leave
             | DeviceFrame::Parent(_)
-            | DeviceFrame::Resume(_) => place.stage.behind(),
+            | DeviceFrame::Resume(_) => (place.stage.behind(), place.kind),
         };
         NodePlace {
             child: place.child,
             stage,
+            kind,
         }
     }
 

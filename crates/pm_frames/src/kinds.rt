@@ -41,3 +41,10 @@ pub(crate) const RESUME: u8 = 25;
 pub(crate) const RESUME_GONE: u8 = 26;
 
 pub(crate) const OUT_OF_LIMITS: u8 = 27;
+
+pub(crate) const KIND: u8 = 29;
+
+pub(crate) const STATE: u8 = 30;
+
+/// The kind of points is this number and how many there are.
+pub(crate) const POINTS: u8 = 128;

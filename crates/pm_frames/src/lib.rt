@@ -7,16 +7,20 @@
 //!
 //! The definitions stand in `specs/`: `Kinds` (the first byte of each frame), `Places` (where in its stream a frame stands),
 //! `Terms` (what the arguments say of a relay), `ParentFrames`, `LimitsFrames`, `NamedBases`, `Stored` (what is kept over a restart),
-//! `RelayFrames`, `RootFrames`, `DeviceFrames` (which frame may stand where, and its bytes), `Answers` (the bytes of what only a
-//! node writes). The frames are this project's own profile.
+//! `OfferForms` (how a control says an offer), `NamedKinds` (which kind of device a frame names), `RelayFrames`, `RootFrames`,
+//! `DeviceFrames` (which frame may stand where, and its bytes), `Answers` (the bytes of what only a node writes). The frames are this
+//! project's own profile.
 #![tactic(auto)]
 
 mod answers;
 mod basis;
 mod device;
 mod expiry;
+mod form;
 mod kinds;
 mod limits;
+mod named_kind;
+mod offer;
 mod parent;
 mod place;
 mod relay;
@@ -31,6 +35,8 @@ pub use answers::{
 };
 pub use basis::NamedBasis;
 pub use device::DeviceFrame;
+pub use form::OfferForm;
+pub use named_kind::NamedKind;
 pub use parent::ParentFrame;
 pub use place::{NodePlace, RelayPlace, Stage};
 pub use relay::RelayFrame;

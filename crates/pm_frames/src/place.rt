@@ -5,6 +5,7 @@ ghost use Rattle.pm_frames.specs.Places.{bid_place, basis_at, steps_at, stage_be
 
 use crate::terms::RelayTerms;
 use pm_basis::Basis;
+use pm_device::Kind;
 use pm_wire::Frame;
 
 /// How far the stream to a node is.
@@ -25,6 +26,8 @@ pub struct NodePlace {
     pub child: u16,
     /// How far the stream is.
     pub stage: Stage,
+    /// The kind of the device, which its control named last, if it did.
+    pub kind: Option<Kind>,
 }
 
 /// A place in the stream to a relay.

@@ -26,10 +26,10 @@ node_usage_line = codes "usage: live relay CHILD FLOOR CEILING [GIVER] | live au
 abbrev pub WrotePartOfUsage : Option (List ℕ) → Option (List ℕ) → Type 0
 WrotePartOfUsage held holds = (written : ℕ) × (written < length node_usage_line) × Appends held holds (take written node_usage_line)
 
--- ---- a node at the start of its stream
+-- ---- a node at the start of its stream; of a device no kind was named
 
 abbrev pub stream_start : ℕ → NodePlace
-stream_start child' = record { child = child'; stage = Start }
+stream_start child' = record { child = child'; stage = Start; kind = None }
 
 abbrev pub relay_start : ℕ → RelayTerms → RelayPlace
 relay_start child' terms' = record { child = child'; terms = terms'; stage = Start }

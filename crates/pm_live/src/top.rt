@@ -89,6 +89,7 @@ fn serve_named<W: Peer>(alloc: Global, node: LiveNode, wire: &mut W) -> Served
             let place = NodePlace {
                 child,
                 stage: Stage::Start,
+                kind: None,
             };
             let mut device = DeviceService::new(alloc, child);
             serve_from_start(alloc, wire, place, &mut device)

@@ -383,7 +383,8 @@ module _ (p : Pricing) (own : BasisValue) (child : ℕ) where
   device_in_frames : (agent : DeviceAgent) (frame : DeviceFrame) → AreWithin agent.number agent.offers → IsNoDeviceResume frame → IsOfBasis own frame →
       device.device_reply child (record { agent = agent; basis = own }) frame ≡ agent_bytes (device_outs p own agent frame)
   device_in_frames agent (device_frame.Hello basis) within other same = refl
-  device_in_frames agent (device_frame.Offer demand) within other same =
+  device_in_frames agent (device_frame.Kind named) within other same = refl
+  device_in_frames agent (device_frame.Offer form demand) within other same =
       offer_written (may_offer agent) (ltb (agent.number + 5) (2 ^ 32)) _ (made_outs p own (after_offer agent demand))
       (made_written (after_offer agent demand) (Some demand)
       (pushed_demand (agent.number + 2) agent.offers demand agent.number within (omega arith)) _ refl)
@@ -401,7 +402,8 @@ module _ (p : Pricing) (own : BasisValue) (child : ℕ) where
   device_after_frame : (agent' : DeviceAgent) (frame : DeviceFrame) → IsOfBasis own frame →
       device.open_device_after (record { agent = agent'; basis = own }) frame ≡ record { agent = agent_after agent' frame; basis = own }
   device_after_frame agent (device_frame.Hello basis) same = refl
-  device_after_frame agent (device_frame.Offer demand) same = refl
+  device_after_frame agent (device_frame.Offer form demand) same = refl
+  device_after_frame agent (device_frame.Kind named) same = refl
   device_after_frame agent device_frame.Leave same = refl
   device_after_frame agent' (device_frame.Parent (Price number_at number index step basis')) same =
       cond-true (device.same_basis basis' own) (record { agent = after_price agent' (price_message number index step); basis = own })
@@ -423,7 +425,8 @@ device_answers_frames p child basis agent frame within other same =
 pub device_says_other : (child : ℕ) (node : device.OpenDevice) (frame : DeviceFrame) → IsOfOtherBasis node.basis frame →
     (device.open_device_after node frame ≡ node) × SaysOtherBasis (device.device_reply child node frame) frame
 device_says_other child node (device_frame.Hello basis) other = absurd other
-device_says_other child node (device_frame.Offer demand) other = absurd other
+device_says_other child node (device_frame.Offer form demand) other = absurd other
+device_says_other child node (device_frame.Kind named) other = absurd other
 device_says_other child node device_frame.Leave other = absurd other
 device_says_other child node (device_frame.Parent (Price number_at number index step basis)) other = (
   cond-false (device.same_basis basis node.basis) (device.with_held_agent node (after_price node.agent (price_message number index step))) node other,

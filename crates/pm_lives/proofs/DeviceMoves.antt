@@ -17,7 +17,7 @@ use Rattle.pm_frames.specs.Answers.{window_full_bytes, out_of_numbers_bytes}
 use Rattle.pm_frames.specs.declared.stored.StoredAgent.{StoredAgent}
 use Rattle.pm_frames.specs.declared.parent.ParentFrame.TheVariants.{Price, Old}
 use Rattle.pm_frames.specs.declared.device.DeviceFrame.{DeviceFrame}
-use Rattle.pm_frames.specs.declared.device.DeviceFrame.TheVariants.{Hello, Offer, Leave, Parent, Resume}
+use Rattle.pm_frames.specs.declared.device.DeviceFrame.TheVariants.{Hello, Offer, Kind, Leave, Parent, Resume}
 use Rattle.pm_basis.specs.Prices.{BasisValue}
 use Rattle.pm_lives.specs.DeviceWrites.{agent_after}
 use Rattle.pm_system.specs.System.{System, price_in_channel, with_agent, with_bid_sent, with_setpoints}
@@ -278,7 +278,8 @@ module _ (lists : Lists) (p : Pricing) (numbering : Numbering) (own : BasisValue
     frame_follows : (frame : DeviceFrame) → DeviceMayRead lists p own sys d frame →
         DeviceFollows lists p numbering sys d (agent_after agent frame) (told_of agent frame) (device_outs p own agent frame)
     frame_follows (Hello basis) may = silent sys stands
-    frame_follows (Offer demand) may = offer_by (may_offer agent) (ltb (agent.number + 5) (2 ^ 32)) refl demand may
+    frame_follows (Kind named) may = silent sys stands
+    frame_follows (Offer form demand) may = offer_by (may_offer agent) (ltb (agent.number + 5) (2 ^ 32)) refl demand may
     frame_follows Leave may = leave_by (ltb (agent.number + 3) (2 ^ 32)) may
     frame_follows (Parent (Price child number index step basis)) may =
         subst (λ (q : PriceMessage). DeviceFollows lists p numbering sys d (after_price agent q) (setpoints_for agent q)

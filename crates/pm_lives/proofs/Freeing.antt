@@ -23,7 +23,7 @@ use Rattle.pm_frames.specs.declared.relay.RelayFrame.TheVariants as relay_frame
 use Rattle.pm_frames.specs.declared.root.RootFrame.{RootFrame}
 use Rattle.pm_frames.specs.declared.root.RootFrame.TheVariants as root_frame
 use Rattle.pm_frames.specs.declared.device.DeviceFrame.{DeviceFrame}
-use Rattle.pm_frames.specs.declared.device.DeviceFrame.TheVariants.{Hello, Offer, Leave, Parent, Resume}
+use Rattle.pm_frames.specs.declared.device.DeviceFrame.TheVariants.{Hello, Offer, Kind, Leave, Parent, Resume}
 use Rattle.pm_basis.specs.Prices.{BasisValue}
 use Rattle.pm_lives.specs.DeviceWrites.{agent_after}
 use Rattle.pm_system.specs.System.{System, with_agent, with_bid_sent, with_prices_sent, with_setpoints}
@@ -90,7 +90,8 @@ module _ (p q : Pricing) (same : q.steps ≡ p.steps) (own : BasisValue) where
   -- what a device answers is the same under both markets
   pub outs_same : (agent : DeviceAgent) (frame : DeviceFrame) → device_outs q own agent frame ≡ device_outs p own agent frame
   outs_same agent (Hello basis) = refl
-  outs_same agent (Offer demand) =
+  outs_same agent (Kind named) = refl
+  outs_same agent (Offer form demand) =
       ap (λ (l : List (Output StoredAgent)). cond (may_offer agent)
       (cond (ltb (agent.number + 5) (2 ^ 32)) l (Says Rattle.pm_frames.specs.Answers.out_of_numbers_bytes ∷ []))
       (Says Rattle.pm_frames.specs.Answers.window_full_bytes ∷ [])) (made_same (after_offer agent demand))
@@ -198,7 +199,8 @@ module _ (p : Pricing) (own : BasisValue) where
       k.number ≡ agent.number → HandledSome n (device_outs p own agent frame) →
       (stored_last k (take n (device_outs p own agent frame))).number ≡ (agent_after agent frame).number
   answer_keeps seen d agent (Hello basis) k n free is handled = none_keeps agent.number k n is
-  answer_keeps seen d agent (Offer demand) k n free is handled =
+  answer_keeps seen d agent (Kind named) k n free is handled = none_keeps agent.number k n is
+  answer_keeps seen d agent (Offer form demand) k n free is handled =
       offer_keeps (may_offer agent) (ltb (agent.number + 5) (2 ^ 32)) agent (after_offer agent demand) k n
       Rattle.pm_frames.specs.Answers.window_full_bytes Rattle.pm_frames.specs.Answers.out_of_numbers_bytes is handled
   answer_keeps seen d agent Leave k n free is handled =
@@ -227,7 +229,8 @@ asks_anew d n (Some demand) w = with_wanted w d n demand
 
 abbrev pub asks_device : DeviceAgent → ℕ → DeviceFrame → Wanted → Wanted
 asks_device a d (Hello basis) w = w
-asks_device a d (Offer demand) w = cond (may_offer a) (cond (ltb (a.number + 5) (2 ^ 32)) (with_wanted w d (a.number + 2) demand) w) w
+asks_device a d (Kind named) w = w
+asks_device a d (Offer form demand) w = cond (may_offer a) (cond (ltb (a.number + 5) (2 ^ 32)) (with_wanted w d (a.number + 2) demand) w) w
 asks_device a d Leave w = w
 asks_device a d (Parent (Price child number index step basis)) w = w
 asks_device a d (Parent (Old child kept)) w =
@@ -279,7 +282,8 @@ old_goes false room a o = record { by = 0; is = omega arith }
 goes : (p : Pricing) (own : BasisValue) (seen : System) (d : ℕ) (a : DeviceAgent) (frame : DeviceFrame) → DeviceIsFree p own seen d frame →
     Goes a.number (agent_after a frame).number
 goes p own seen d a (Hello basis) free = record { by = 0; is = omega arith }
-goes p own seen d a (Offer demand) free = offer_goes (may_offer a) (ltb (a.number + 5) (2 ^ 32)) a (after_offer a demand) refl
+goes p own seen d a (Kind named) free = record { by = 0; is = omega arith }
+goes p own seen d a (Offer form demand) free = offer_goes (may_offer a) (ltb (a.number + 5) (2 ^ 32)) a (after_offer a demand) refl
 goes p own seen d a Leave free = leave_goes (ltb (a.number + 3) (2 ^ 32)) a (after_leaving a) refl
 goes p own seen d a (Parent (Price child number index step basis)) free =
     record { by = 0; is = omega (arith, price_number a (price_message number index step)) }
@@ -315,7 +319,8 @@ old_outside false room a o d w x n out = same_self w x n
 asks_outside : (a : DeviceAgent) (d : ℕ) (frame : DeviceFrame) (w : Wanted) (x n : ℕ) → (x ≡ d → Outside a.number (agent_after a frame).number n) →
     SameAt (asks_device a d frame w) w x n
 asks_outside a d (Hello basis) w x n out = same_self w x n
-asks_outside a d (Offer demand) w x n out =
+asks_outside a d (Kind named) w x n out = same_self w x n
+asks_outside a d (Offer form demand) w x n out =
     offer_outside (may_offer a) (ltb (a.number + 5) (2 ^ 32)) a (after_offer a demand) d demand w refl x n out
 asks_outside a d Leave w x n out = same_self w x n
 asks_outside a d (Parent (Price child number index step basis)) w x n out = same_self w x n
@@ -326,7 +331,8 @@ asks_outside a d (Resume stored) w x n out = same_self w x n
 asks_odd : (a : DeviceAgent) (half : ℕ) → a.number ≡ half + half → (d : ℕ) (frame : DeviceFrame) (w : Wanted) (x k : ℕ) →
     (asks_device a d frame w).member x (k + k + 1) ≡ w.member x (k + k + 1)
 asks_odd a half even d (Hello basis) w x k = refl
-asks_odd a half even d (Offer demand) w x k =
+asks_odd a half even d (Kind named) w x k = refl
+asks_odd a half even d (Offer form demand) w x k =
     either (λ (v : Wanted). v.member x (k + k + 1) ≡ w.member x (k + k + 1)) (may_offer a)
     (cond (ltb (a.number + 5) (2 ^ 32)) (with_wanted w d (a.number + 2) demand) w) w
     (λ e. either (λ (v : Wanted). v.member x (k + k + 1) ≡ w.member x (k + k + 1)) (ltb (a.number + 5) (2 ^ 32)) (with_wanted w d (a.number + 2) demand) w
@@ -361,7 +367,8 @@ asks_demands : (p : Pricing) (own : BasisValue) (seen : System) (d : ℕ) (frame
     AreDemands p w →
     AreDemands p (asks_device (seen.agents d) d frame w)
 asks_demands p own seen d (Hello basis) w free were = were
-asks_demands p own seen d (Offer demand) w free were =
+asks_demands p own seen d (Kind named) w free were = were
+asks_demands p own seen d (Offer form demand) w free were =
     either (AreDemands p) (may_offer (seen.agents d))
     (cond (ltb ((seen.agents d).number + 5) (2 ^ 32)) (with_wanted w d ((seen.agents d).number + 2) demand) w) w
     (λ e. either (AreDemands p) (ltb ((seen.agents d).number + 5) (2 ^ 32)) (with_wanted w d ((seen.agents d).number + 2) demand) w

@@ -22,7 +22,7 @@ use Rattle.pm_frames.specs.declared.relay.RelayFrame.TheVariants as relay_frame
 use Rattle.pm_frames.specs.declared.root.RootFrame.{RootFrame}
 use Rattle.pm_frames.specs.declared.root.RootFrame.TheVariants as root_frame
 use Rattle.pm_frames.specs.declared.device.DeviceFrame.{DeviceFrame}
-use Rattle.pm_frames.specs.declared.device.DeviceFrame.TheVariants.{Hello, Offer, Leave, Parent, Resume}
+use Rattle.pm_frames.specs.declared.device.DeviceFrame.TheVariants.{Hello, Offer, Kind, Leave, Parent, Resume}
 use Rattle.pm_basis.specs.Prices.{BasisValue}
 use Rattle.pm_services.specs.RelaySetups.{RelaySetup}
 use Rattle.pm_lives.specs.DeviceWrites.{agent_after}
@@ -152,10 +152,11 @@ module _ (tree : Lists) (p : Pricing) (numbering : Numbering) (market : IsTreeMa
       ((n : ℕ) → n ≤ (agent_after (sys.agents d) frame).number → rest.member d n ≡ false) →
       DeviceMayRead lists pricing own sys d frame
   device_may own sys d (Hello basis) rest leaf free le agree low = tt
-  device_may own sys d (Offer demand) rest leaf free le agree low = λ may room.
+  device_may own sys d (Kind named) rest leaf free le agree low = tt
+  device_may own sys d (Offer form demand) rest leaf free le agree low = λ may room.
       let a : DeviceAgent = sys.agents d in
       let n : ℕ = a.number + 2 in
-      let asked : asks_device a d (Offer demand) rest ≡ with_wanted rest d n demand =
+      let asked : asks_device a d (Offer form demand) rest ≡ with_wanted rest d n demand =
       cond-true (may_offer a) (cond (ltb (a.number + 5) (2 ^ 32)) (with_wanted rest d n demand) rest) rest may
       ∙ cond-true (ltb (a.number + 5) (2 ^ 32)) (with_wanted rest d n demand) rest room in
       let at = agree n (omega arith) in

@@ -302,7 +302,8 @@ module _ (lists : Lists) (p : Pricing) (numbering : Numbering) (seen sys : Syste
   device_may : (own : BasisValue) (d : ℕ) → IsNode lists d → seen.agents d ≡ sys.agents d → (frame : DeviceFrame) →
       DeviceMayRead lists p own seen d frame → DeviceMayRead lists p own sys d frame
   device_may own d node same (device_frame.Hello basis) may = tt
-  device_may own d node same (device_frame.Offer demand) may =
+  device_may own d node same (device_frame.Kind named) may = tt
+  device_may own d node same (device_frame.Offer form demand) may =
       subst (λ (a : DeviceAgent). may_offer a ≡ true → Rattle.std.specs.Prelude.nat_lt (a.number + 5) (2 ^ 32) ≡ true →
       IsGivenOffer lists p d (a.number + 2) demand) same may
   device_may own d node same device_frame.Leave may =

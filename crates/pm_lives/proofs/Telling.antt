@@ -16,7 +16,7 @@ use Rattle.pm_frames.specs.Answers.{window_full_bytes, out_of_numbers_bytes}
 use Rattle.pm_frames.specs.declared.stored.StoredAgent.{StoredAgent}
 use Rattle.pm_frames.specs.declared.parent.ParentFrame.TheVariants.{Price, Old}
 use Rattle.pm_frames.specs.declared.device.DeviceFrame.{DeviceFrame}
-use Rattle.pm_frames.specs.declared.device.DeviceFrame.TheVariants.{Hello, Offer, Leave, Parent, Resume}
+use Rattle.pm_frames.specs.declared.device.DeviceFrame.TheVariants.{Hello, Offer, Kind, Leave, Parent, Resume}
 use Rattle.pm_frames.specs.declared.relay.RelayFrame.{RelayFrame}
 use Rattle.pm_frames.specs.declared.relay.RelayFrame.TheVariants as relay_frame
 use Rattle.pm_frames.specs.declared.root.RootFrame.{RootFrame}
@@ -87,7 +87,8 @@ module _ (p : Pricing) (own : BasisValue) where
   pub answer_told : (agent : DeviceAgent) (frame : DeviceFrame) (n : ℕ) → HandledSome n (device_outs p own agent frame) →
       told_by (take n (device_outs p own agent frame)) ≡ told_of agent frame
   answer_told agent (Hello basis) n handled = none_silent n
-  answer_told agent (Offer demand) n handled =
+  answer_told agent (Kind named) n handled = none_silent n
+  answer_told agent (Offer form demand) n handled =
       either (λ (l : List (Output StoredAgent)). told_by (take n l) ≡ []) (may_offer agent)
       (cond (ltb (agent.number + 5) (2 ^ 32)) (made_outs p own (after_offer agent demand)) (Says out_of_numbers_bytes ∷ [])) (Says window_full_bytes ∷ [])
       (λ e. either (λ (l : List (Output StoredAgent)). told_by (take n l) ≡ []) (ltb (agent.number + 5) (2 ^ 32))

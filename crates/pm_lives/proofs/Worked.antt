@@ -10,6 +10,7 @@ use Rattle.pm_relay.specs.Relays.{RelayValue}
 use Rattle.pm_relay.specs.Roots.{RootValue}
 use Rattle.pm_frames.specs.declared.device.DeviceFrame.{DeviceFrame}
 use Rattle.pm_frames.specs.declared.device.DeviceFrame.TheVariants.{Offer}
+use Rattle.pm_frames.specs.declared.form.OfferForm.TheVariants.{Array}
 use Rattle.pm_basis.specs.Prices.{BasisValue}
 use Rattle.pm_frames.specs.declared.terms.RelayTerms.{RelayTerms}
 use Rattle.pm_lives.specs.DeviceWrites.{agent_after}
@@ -41,7 +42,7 @@ pub goes_on : (lists : Lists) (p : Pricing) (numbering : Numbering) (basis : Bas
 unfolding update
 goes_on lists p numbering basis terms root relays demand are leaf given =
     let one : World = up_after lists p numbering (new_world numbering basis terms root relays) 1 0 in
-    let two : World = read_after lists p numbering one 1 (Offer demand) 1 in
+    let two : World = read_after lists p numbering one 1 (Offer Array demand) 1 in
     let three : World = up_after lists p numbering two 1 1 in
     record {
       none = record {

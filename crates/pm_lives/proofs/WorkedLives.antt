@@ -24,6 +24,7 @@ use Rattle.pm_frames.specs.declared.relay.RelayFrame.TheVariants as relay_frame
 use Rattle.pm_frames.specs.declared.root.RootFrame.TheVariants as root_frame
 use Rattle.pm_frames.specs.declared.device.DeviceFrame.{DeviceFrame}
 use Rattle.pm_frames.specs.declared.device.DeviceFrame.TheVariants as device_frame
+use Rattle.pm_frames.specs.declared.form.OfferForm.TheVariants.{Array}
 use Rattle.pm_services.specs.RelayAnswers.{stored_relay}
 use Rattle.pm_services.specs.RootAnswers.{stored_root}
 use Rattle.pm_frames.specs.declared.terms.RelayTerms.{RelayTerms}
@@ -110,10 +111,10 @@ abbrev w4 : World
 w4 = device_begun w3 3
 
 abbrev w5 : World
-w5 = device_read w4 2 (device_frame.Offer (small_device_demand 2 2))
+w5 = device_read w4 2 (device_frame.Offer Array (small_device_demand 2 2))
 
 abbrev w6 : World
-w6 = device_read w5 3 (device_frame.Offer (small_device_demand 3 2))
+w6 = device_read w5 3 (device_frame.Offer Array (small_device_demand 3 2))
 
 abbrev w7 : World
 w7 = relay_read w6 (heard w6 0 2 2) [] 0
@@ -131,7 +132,7 @@ abbrev w11 : World
 w11 = root_read w10 (cleared_root w10.seen.root) (cleared_outs (cleared_root w10.seen.root)) 1
 
 abbrev w12 : World
-w12 = device_read w11 2 (device_frame.Offer (small_device_demand 2 4))
+w12 = device_read w11 2 (device_frame.Offer Array (small_device_demand 2 4))
 
 abbrev w13 : World
 w13 = relay_read w12 (heard w12 0 4 2) [] 0
@@ -203,7 +204,7 @@ does_4 : Lives1 small_tree small_pricing small_places w3 (DeviceUp 3 0) w4
 unfolding parent is_leaf is_member changes update place_in children_to said_between reaches suffices
 does_4 = record { leaf = refl; new_is = refl }
 
-does_5 : Lives1 small_tree small_pricing small_places w4 (Device 2 (device_frame.Offer (small_device_demand 2 2)) 2) w5
+does_5 : Lives1 small_tree small_pricing small_places w4 (Device 2 (device_frame.Offer Array (small_device_demand 2 2)) 2) w5
 unfolding parent is_leaf is_member changes update place_in children_to said_between reaches suffices
 does_5 = record {
   leaf = refl;
@@ -213,7 +214,7 @@ does_5 = record {
   new_is = refl;
 }
 
-does_6 : Lives1 small_tree small_pricing small_places w5 (Device 3 (device_frame.Offer (small_device_demand 3 2)) 2) w6
+does_6 : Lives1 small_tree small_pricing small_places w5 (Device 3 (device_frame.Offer Array (small_device_demand 3 2)) 2) w6
 unfolding parent is_leaf is_member changes update place_in children_to said_between reaches suffices
 does_6 = record {
   leaf = refl;
@@ -373,7 +374,7 @@ does_11 = record {
   new_is = refl;
 }
 
-does_12 : Lives1 small_tree small_pricing small_places w11 (Device 2 (device_frame.Offer (small_device_demand 2 4)) 2) w12
+does_12 : Lives1 small_tree small_pricing small_places w11 (Device 2 (device_frame.Offer Array (small_device_demand 2 4)) 2) w12
 unfolding parent is_leaf is_member changes update place_in children_to said_between reaches suffices
 does_12 =
     record { leaf = refl; runs = refl; may = λ e room. record { has = omega arith; member = refl; is = refl }; handled = inl (omega arith); new_is = refl }

@@ -35,7 +35,8 @@ IsNoRootResume (root_frame.Resume stored) = ⊥
 
 abbrev pub IsNoDeviceResume : DeviceFrame → Type 0
 IsNoDeviceResume (device_frame.Hello basis) = ⊤
-IsNoDeviceResume (device_frame.Offer demand) = ⊤
+IsNoDeviceResume (device_frame.Offer form demand) = ⊤
+IsNoDeviceResume (device_frame.Kind named) = ⊤
 IsNoDeviceResume device_frame.Leave = ⊤
 IsNoDeviceResume (device_frame.Parent frame) = ⊤
 IsNoDeviceResume (device_frame.Resume stored) = ⊥

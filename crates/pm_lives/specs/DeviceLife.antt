@@ -13,7 +13,7 @@ use Rattle.pm_services.specs.DeviceAnswers.{same_basis}
 use Rattle.pm_frames.specs.declared.stored.StoredAgent.{StoredAgent}
 use Rattle.pm_frames.specs.declared.parent.ParentFrame.TheVariants.{Price, Old}
 use Rattle.pm_frames.specs.declared.device.DeviceFrame.{DeviceFrame}
-use Rattle.pm_frames.specs.declared.device.DeviceFrame.TheVariants.{Hello, Offer, Leave, Parent, Resume}
+use Rattle.pm_frames.specs.declared.device.DeviceFrame.TheVariants.{Hello, Offer, Kind, Leave, Parent, Resume}
 use Rattle.pm_system.specs.System.{System, price_in_channel}
 use Rattle.pm_lives.specs.Outputs.{Output, PriceWasSent}
 use Rattle.pm_lives.specs.Moves.{FollowsByCalls, lets_none}
@@ -52,7 +52,8 @@ pub record IsGivenLeaving (lists : Lists) (d number : ℕ) : Type 0 where
 -- sent to d. After an Old by which its parent let it go, the lists have that it leaves and offers anew.
 abbrev pub DeviceMayRead : Lists → Pricing → BasisValue → System → ℕ → DeviceFrame → Type 0
 DeviceMayRead lists p own sys d (Hello basis) = ⊤
-DeviceMayRead lists p own sys d (Offer demand) =
+DeviceMayRead lists p own sys d (Kind named) = ⊤
+DeviceMayRead lists p own sys d (Offer form demand) =
     may_offer (sys.agents d) ≡ true → nat_lt ((sys.agents d).number + 5) (2 ^ 32) ≡ true → IsGivenOffer lists p d ((sys.agents d).number + 2) demand
 DeviceMayRead lists p own sys d Leave = nat_lt ((sys.agents d).number + 3) (2 ^ 32) ≡ true → IsGivenLeaving lists d ((sys.agents d).number + 2)
 DeviceMayRead lists p own sys d (Parent (Price child number index step basis)) =

@@ -9,7 +9,7 @@ use Rattle.pm_services.specs.DeviceAnswers.{after_asking, after_asking_to_leave}
 use Rattle.pm_frames.specs.declared.stored.StoredAgent.{StoredAgent}
 use Rattle.pm_frames.specs.declared.parent.ParentFrame.TheVariants.{Price, Old}
 use Rattle.pm_frames.specs.declared.device.DeviceFrame.{DeviceFrame}
-use Rattle.pm_frames.specs.declared.device.DeviceFrame.TheVariants.{Hello, Offer, Leave, Parent, Resume}
+use Rattle.pm_frames.specs.declared.device.DeviceFrame.TheVariants.{Hello, Offer, Kind, Leave, Parent, Resume}
 use Rattle.pm_net.specs.Pricing.{Pricing}
 use Rattle.pm_system.specs.Calls.{bid_kept}
 use Rattle.pm_lives.specs.Outputs.{Output, Up, Keeps, Tells, Says}
@@ -28,7 +28,8 @@ told_outs own after price (setpoint ∷ more) = Tells setpoint ∷ Keeps (stored
 
 abbrev pub device_outs : Pricing → BasisValue → DeviceAgent → DeviceFrame → List (Output StoredAgent)
 device_outs p own agent (Hello basis) = []
-device_outs p own agent (Offer demand) =
+device_outs p own agent (Kind named) = []
+device_outs p own agent (Offer form demand) =
     if may_offer agent
     then (if nat_lt (agent.number + 5) (2 ^ 32) then made_outs p own (after_offer agent demand) else Says out_of_numbers_bytes ∷ [])
     else Says window_full_bytes ∷ []
@@ -42,7 +43,8 @@ device_outs p own agent (Resume stored) = []
 -- the agent after a frame; a price is of its own basis
 abbrev pub agent_after : DeviceAgent → DeviceFrame → DeviceAgent
 agent_after agent (Hello basis) = agent
-agent_after agent (Offer demand) = after_asking agent demand
+agent_after agent (Offer form demand) = after_asking agent demand
+agent_after agent (Kind named) = agent
 agent_after agent Leave = after_asking_to_leave agent
 agent_after agent (Parent (Price child number index step basis)) = after_price agent (price_message number index step)
 agent_after agent (Parent (Old child kept)) = after_old agent kept

@@ -16,7 +16,7 @@ use Rattle.pm_frames.specs.declared.relay.RelayFrame.TheVariants as relay_frame
 use Rattle.pm_frames.specs.declared.root.RootFrame.{RootFrame}
 use Rattle.pm_frames.specs.declared.root.RootFrame.TheVariants as root_frame
 use Rattle.pm_frames.specs.declared.device.DeviceFrame.{DeviceFrame}
-use Rattle.pm_frames.specs.declared.device.DeviceFrame.TheVariants.{Hello, Offer, Leave, Parent, Resume}
+use Rattle.pm_frames.specs.declared.device.DeviceFrame.TheVariants.{Hello, Offer, Kind, Leave, Parent, Resume}
 use Rattle.pm_services.specs.RelayAnswers.{WaitingRelay}
 use Rattle.pm_basis.specs.Prices.{BasisValue}
 use Rattle.pm_services.specs.DeviceAnswers.{same_basis}
@@ -59,7 +59,8 @@ RootIsFree lists p numbering sys (root_frame.Resume stored) = ⊥
 -- an offer is a demand; so is the one that a device offers anew
 abbrev pub DeviceIsFree : Pricing → BasisValue → System → ℕ → DeviceFrame → Type 0
 DeviceIsFree p own sys d (Hello basis) = ⊤
-DeviceIsFree p own sys d (Offer demand) = IsDemand p.steps demand
+DeviceIsFree p own sys d (Offer form demand) = IsDemand p.steps demand
+DeviceIsFree p own sys d (Kind named) = ⊤
 DeviceIsFree p own sys d Leave = ⊤
 DeviceIsFree p own sys d (Parent (Price child number index step basis)) =
     (same_basis basis own ≡ true) × PriceWasSent sys d (price_message number index step)

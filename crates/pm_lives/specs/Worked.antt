@@ -10,6 +10,7 @@ use Rattle.pm_net_plan.specs.Places.{Numbering}
 use Rattle.pm_relay.specs.Relays.{RelayValue}
 use Rattle.pm_relay.specs.Roots.{RootValue}
 use Rattle.pm_frames.specs.declared.device.DeviceFrame.TheVariants.{Offer}
+use Rattle.pm_frames.specs.declared.form.OfferForm.TheVariants.{Array}
 use Rattle.pm_lives.specs.RelayLife.{nothing_stored}
 use Rattle.pm_lives.specs.Lives.{World, LifeStep, DeviceUp, Device, Live, IsNewWorld, no_root_stored, no_agent_stored}
 
@@ -36,7 +37,7 @@ new_world numbering basis' terms' root' relays' = record {
 
 -- device 1 comes up, offers, and of the answer the Resume alone is handled; it comes up again
 abbrev pub cut_life : List ℤ → List LifeStep
-cut_life demand = DeviceUp 1 0 ∷ Device 1 (Offer demand) 1 ∷ DeviceUp 1 1 ∷ []
+cut_life demand = DeviceUp 1 0 ∷ Device 1 (Offer Array demand) 1 ∷ DeviceUp 1 1 ∷ []
 
 -- the bid is handed out then, under the number that was stored
 pub record LifeGoesOn (lists : Lists) (p : Pricing) (numbering : Numbering) (start : World) (demand : List ℤ) : Type 0 where

@@ -7,7 +7,7 @@ use Rattle.pm_frames.specs.Stored.{IsNewestAccepted}
 use Rattle.pm_frames.specs.DeviceFrames.{device_framing, IsDeviceAccepted}
 use Rattle.pm_frames.specs.declared.place.NodePlace.{NodePlace}
 use Rattle.pm_frames.specs.declared.device.DeviceFrame.{DeviceFrame}
-use Rattle.pm_frames.specs.declared.device.DeviceFrame.TheVariants.{Hello, Offer, Leave, Parent, Resume}
+use Rattle.pm_frames.specs.declared.device.DeviceFrame.TheVariants.{Hello, Offer, Kind, Leave, Parent, Resume}
 use Rattle.pm_services.specs.DeviceAnswers.{DeviceServiceValue, AnswersDevice, IsDeviceStart}
 use Rattle.pm_services.specs.DeviceServiceFields.{IsSmall, HasSmallDemand}
 
@@ -17,7 +17,8 @@ newest_small number (Some demand) accepted = accepted_small (length demand) dema
 
 demand_small : (place : NodePlace) (frame : DeviceFrame) → IsDeviceAccepted place frame → HasSmallDemand frame
 demand_small place (Hello basis) accepted = tt
-demand_small place (Offer demand) accepted = accepted_small (length demand) demand accepted
+demand_small place (Offer form demand) accepted = accepted_small (length demand) demand accepted.1
+demand_small place (Kind named) accepted = tt
 demand_small place Leave accepted = tt
 demand_small place (Parent frame) accepted = tt
 demand_small place (Resume stored) accepted = newest_small stored.number stored.newest accepted.2

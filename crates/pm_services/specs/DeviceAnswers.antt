@@ -14,7 +14,7 @@ use Rattle.pm_frames.specs.declared.parent.ParentFrame.TheVariants.{Price, Old}
 use Rattle.pm_frames.specs.declared.place.NodePlace.{NodePlace}
 use Rattle.pm_frames.specs.declared.place.Stage.TheVariants.{Start}
 use Rattle.pm_frames.specs.declared.device.DeviceFrame.{DeviceFrame}
-use Rattle.pm_frames.specs.declared.device.DeviceFrame.TheVariants.{Hello, Offer, Leave, Parent, Resume}
+use Rattle.pm_frames.specs.declared.device.DeviceFrame.TheVariants.{Hello, Offer, Kind, Leave, Parent, Resume}
 
 -- an agent, and the basis of the market
 pub record OpenDevice : Type 0 where
@@ -97,11 +97,12 @@ old_reply child basis agent after =
     if nat_lt agent.number after.number then own_resume_bytes basis after ++ sent_again child after.number (newest_demand after)
     else []
 
--- ---- all frames
+-- ---- all frames: an offer is answered by its demand, however the control said it
 
 abbrev pub open_device_after : OpenDevice → DeviceFrame → OpenDevice
 open_device_after device (Hello basis) = device
-open_device_after device (Offer demand) = with_held_agent device (after_asking device.agent demand)
+open_device_after device (Offer form demand) = with_held_agent device (after_asking device.agent demand)
+open_device_after device (Kind named) = device
 open_device_after device Leave = with_held_agent device (after_asking_to_leave device.agent)
 open_device_after device (Parent (Price own number index step basis)) = after_price_of device (price_message number index step) basis
 open_device_after device (Parent (Old own kept)) = with_held_agent device (after_old device.agent kept)
@@ -109,7 +110,8 @@ open_device_after device (Resume stored) = with_held_agent device (agent_stored 
 
 abbrev pub device_reply : ℕ → OpenDevice → DeviceFrame → List ℕ
 device_reply child device (Hello basis) = []
-device_reply child device (Offer demand) = offer_reply child device.basis device.agent demand
+device_reply child device (Offer form demand) = offer_reply child device.basis device.agent demand
+device_reply child device (Kind named) = []
 device_reply child device Leave = leave_reply child device.basis device.agent
 device_reply child device (Parent (Price own number index step basis)) = price_reply_of device (price_message number index step) basis
 device_reply child device (Parent (Old own kept)) = old_reply child device.basis device.agent (after_old device.agent kept)

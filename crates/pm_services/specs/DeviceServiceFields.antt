@@ -5,7 +5,7 @@ use Rattle.pm_base.specs.Limits.{demand_limit}
 use Rattle.pm_bid.specs.Bids.{AllWithinLimit}
 use Rattle.pm_net.specs.Agents.{DeviceAgent}
 use Rattle.pm_frames.specs.declared.device.DeviceFrame.{DeviceFrame}
-use Rattle.pm_frames.specs.declared.device.DeviceFrame.TheVariants.{Hello, Offer, Leave, Parent, Resume}
+use Rattle.pm_frames.specs.declared.device.DeviceFrame.TheVariants.{Hello, Offer, Kind, Leave, Parent, Resume}
 use Rattle.pm_services.specs.DeviceAnswers.{DeviceServiceValue, OpenDevice}
 use Rattle.pm_services.specs.declared.device.DeviceService.TheInside.{Inside}
 use Rattle.pm_services.specs.declared.open_device.OpenDevice.TheInside as open_device
@@ -30,7 +30,8 @@ IsSmall newest = IfSome newest (λ demand. AllWithinLimit demand_limit demand)
 -- so does the demand of a frame that has one
 abbrev pub HasSmallDemand : DeviceFrame → Type 0
 HasSmallDemand (Hello basis) = ⊤
-HasSmallDemand (Offer demand) = AllWithinLimit demand_limit demand
+HasSmallDemand (Offer form demand) = AllWithinLimit demand_limit demand
+HasSmallDemand (Kind named) = ⊤
 HasSmallDemand Leave = ⊤
 HasSmallDemand (Parent frame) = ⊤
 HasSmallDemand (Resume stored) = IsSmall stored.newest

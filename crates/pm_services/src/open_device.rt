@@ -129,7 +129,7 @@ impl OpenDevice {
         ensures few { length out.new.items ≤ length out.old.items + device_reply_limit }
     {
         match frame {
-            DeviceFrame::Offer { demand } => self.offer(alloc, child, demand, out),
+            DeviceFrame::Offer { demand, .. } => self.offer(alloc, child, demand, out),
             DeviceFrame::Leave => {
                 self.leave(child, out);
                 Ok(())
@@ -156,8 +156,8 @@ impl OpenDevice {
                 self.take_old(child, *kept, out);
                 Ok(())
             }
-            // Hello stands first and only there.
-            DeviceFrame::Hello { .. } => Ok(()),
+            // Hello stands first and only there. A kind is for the reader of states.
+            DeviceFrame::Hello { .. } | DeviceFrame::Kind(_) => Ok(()),
         }
     }
 

@@ -1,9 +1,8 @@
 -- Of `write_agent_resume`: the room that `write_demands` requires; its clause `written`.
-use Rattle.std.proofs.Common.{◌≡◌, ◌∙◌, sym, ap, arith, ◌∷◌, ◌++◌, [], ℤ, List, Option}
+use Rattle.std.proofs.Common.{arith, ◌∷◌, []}
 use Rattle.std.proofs.lemmas.Grind.{common_steps}
 use Rattle.pm_wire.proofs.OneField.{length-demand_bytes}
 use Rattle.pm_frames.specs.Kinds.{resume_kind, resume_gone_kind}
-use Rattle.pm_frames.specs.Stored.{newest_bytes}
 use Rattle.pm_frames.proofs.Written.{five_written, four_written}
 use Rattle.pm_frames.proofs.answers.write_agent_resume.Goals as goal
 

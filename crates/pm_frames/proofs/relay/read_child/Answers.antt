@@ -1,5 +1,4 @@
 -- Of `read_child`: what it ensures.
-use Rattle.std.proofs.Common.{◌∙◌}
 use Rattle.pm_frames.proofs.ReadNodes.{child_refused, nothing_read, giver_refused, child_read, fails, passes}
 use Rattle.pm_frames.proofs.relay.read_child.Goals as goal
 
