@@ -9,6 +9,7 @@ from typing import Protocol
 
 from ..cluster import Basis
 from ..live.errors import BadMessage, LiveError
+from ..live.kinds import DeviceKind
 from .agent import Agent
 from .lines import Lines
 from .refusals import LineTooLong, NoLogin
@@ -59,6 +60,8 @@ class Connection:
         self._welcome = welcome
         self._basis = basis
         self._log = log
+        # What the agent named of its device, in this connection.
+        self._kind: DeviceKind | None = None
         self._agent: Agent | None = None
         self._lines: deque[bytes] = deque(maxlen=WAITING)
         self._told: bytes | None = None
@@ -131,11 +134,14 @@ class Connection:
     def _take(self, line: bytes) -> None:
         assert self._agent is not None
         try:
-            word = word_of(line, self._basis)
+            word = word_of(line, self._basis, self._kind)
         except BadMessage as error:
             self._tell_error(str(error), type(error))
             return
-        self._agent.offer(word.to_offer() if isinstance(word, BidUpdate) else LEAVE_OFFER)
+        if isinstance(word, DeviceKind):
+            self._kind = word
+        else:
+            self._agent.offer(word.to_offer() if isinstance(word, BidUpdate) else LEAVE_OFFER)
 
     # What the agent is told.
 

@@ -11,17 +11,19 @@ from typing import Any
 
 from ..cluster import Basis
 from ..live.errors import BadFrame, BadMessage
-from ..live.frames import MOST, require_demands
-from ..live.messages import object_of, require_reference
+from ..live.frames import Points, require_demands
+from ..live.kinds import DeviceKind
+from ..live.messages import object_of, require_reference, stated
 
-# The longest line or message, in bytes, and the most points of a bid.
-LONGEST, POINTS = 32_768, 64
+# The longest line or message, in bytes.
+LONGEST = 32_768
 # The longest text that an error line quotes of what came, in characters.
 QUOTED = 64
 
 SHAPES = (
     'write {"bidUpdate": {"bidNumber": 5, "demandArray": [WATTS, ..]}}, '
-    '{"bidUpdate": {"pricePoints": [{"price": 3, "demand": WATTS}, ..]}} or {"leave": true}'
+    '{"bidUpdate": {"pricePoints": [{"price": 3, "demand": WATTS}, ..]}}, {"device": {"kind": "battery", ..}}, '
+    '{"bidUpdate": {"state": NUMBER}} or {"leave": true}'
 )
 
 
@@ -44,15 +46,17 @@ class Login:
 
 @dataclass(frozen=True)
 class BidUpdate:
-    """A bid: the demand in watts at each step of the market, and the agent's own count of it, None without one."""
+    """A bid as a device's control offers it, and the agent's own count of it, None without one.
 
-    demands: tuple[int, ...]
+    told: the members of the offer: powers in watts, points, or a state with its kind
+    """
+
+    told: dict[str, Any]
     number: int | None = None
 
     def to_offer(self) -> bytes:
         """The bid as a device's control offers it."""
-        told: dict[str, Any] = {"power": self.demands}
-        return json.dumps(told if self.number is None else {**told, "reference": self.number}).encode()
+        return json.dumps(self.told if self.number is None else {**self.told, "reference": self.number}).encode()
 
 
 @dataclass(frozen=True)
@@ -63,64 +67,49 @@ class LeaveWord:
 LEAVE_OFFER = b'{"leave": true}'
 
 
-def word_of(data: bytes, basis: Basis) -> BidUpdate | LeaveWord:
-    """What an agent says after its login. Raises BadMessage."""
+def word_of(data: bytes, basis: Basis, kind: DeviceKind | None = None) -> BidUpdate | LeaveWord | DeviceKind:
+    """What an agent says after its login, whose device is of this kind, None as long as it named none. Raises BadMessage."""
     told = object_of(data, "the line")
     if told == {"leave": True}:
         return LeaveWord()
+    if len(told) == 1 and isinstance(device := told.get("device"), dict):
+        try:
+            return DeviceKind.of(device)
+        except BadFrame as error:
+            raise BadMessage(f"the device is not taken: {error}") from None
     bid = told.get("bidUpdate")
     if len(told) != 1 or not isinstance(bid, dict):
         raise BadMessage(f"the line is no bid and no leave: {SHAPES}")
     number = bid.pop("bidNumber", None)
     if number is not None:
         require_reference(number, "bidNumber")
-    if set(bid) == {"demandArray"}:
-        demands = tuple(_whole(it, "a demand", "watts") for it in _list(bid, "demandArray"))
-    elif set(bid) == {"pricePoints"}:
-        demands = demands_of(_points(_list(bid, "pricePoints"), basis), basis)
-    else:
-        raise BadMessage(f"a bid has a demandArray or pricePoints, and may have a bidNumber: {SHAPES}")
     try:
-        require_demands(demands, basis.steps)
+        return BidUpdate(_offer_of(bid, basis, kind), number)
     except BadFrame as error:
         raise BadMessage(f"the bid is not taken: {error}") from None
-    return BidUpdate(demands, number)
 
 
-def demands_of(points: list[tuple[int, int]], basis: Basis) -> tuple[int, ...]:
-    """The demand in watts at each step of the basis, by points of a price and a demand, as a cluster file has them.
-
-    Between two points the demand lies on the straight line, rounded down. Before the first point the first demand holds,
-    and after the last the last. At a price that several points share, the last of them holds.
-    """
-    found, before = [], 0
-    for step in range(basis.steps):
-        price = basis.price(step)
-        while before + 1 < len(points) and points[before + 1][0] <= price:
-            before += 1
-        (least, demand), after = points[before], points[before + 1 :]
-        if price > least and after:
-            # Floor division rounds down below zero too.
-            demand += (after[0][1] - demand) * (price - least) // (after[0][0] - least)
-        found.append(demand)
-    return tuple(found)
+def _offer_of(bid: dict[str, Any], basis: Basis, kind: DeviceKind | None) -> dict[str, Any]:
+    """The bid as members of an offer. Raises BadMessage and BadFrame."""
+    match list(bid):
+        case ["demandArray"]:
+            demands = tuple(_whole(it, "a demand", "watts") for it in _list(bid, "demandArray"))
+            require_demands(demands, basis.steps)
+            return {"power": demands}
+        case ["pricePoints"]:
+            points = Points.of(_points(_list(bid, "pricePoints")))
+            points.require_over(basis)
+            return {"points": points.points}
+        case ["state"]:
+            said = stated(_whole(bid["state"], "a state", "units of the kind"), kind)
+            return {**said.kind.members(), "state": said.state}
+    raise BadMessage(f"a bid has a demandArray, pricePoints or a state, and may have a bidNumber: {SHAPES}")
 
 
-def _points(told: list[Any], basis: Basis) -> list[tuple[int, int]]:
-    """Points that are right: 1 to 64, prices that never fall and lie within the basis, and demands that never rise."""
-    if not 1 <= len(told) <= POINTS:
-        raise BadMessage(f"the bid has {len(told)} pricePoints: give 1 to {POINTS}")
+def _points(told: list[Any]) -> list[tuple[int, int]]:
     if any(not isinstance(it, dict) or set(it) != {"price", "demand"} for it in told):
         raise BadMessage('a point is {"price": PRICE, "demand": WATTS}')
-    found = [(_whole(it["price"], "a price", "price units"), _whole(it["demand"], "a demand", "watts")) for it in told]
-    if any(not basis.min <= price <= basis.max for price, _ in found):
-        raise BadMessage(f"a price of a point is outside {basis.min} to {basis.max}")
-    if any(abs(demand) > MOST for _, demand in found):
-        raise BadMessage(f"a demand is outside ±{MOST} watts")
-    for before, after in zip(found, found[1:], strict=False):
-        if after[0] < before[0] or after[1] > before[1]:
-            raise BadMessage("a point has a lower price or a higher demand than the one before: sort them by price, demands fall")
-    return found
+    return [(_whole(it["price"], "a price", "price units"), _whole(it["demand"], "a demand", "watts")) for it in told]
 
 
 def _list(bid: dict[str, Any], name: str) -> list[Any]:

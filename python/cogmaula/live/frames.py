@@ -1,8 +1,8 @@
 """The frames of docs/RELAY.md, to and from bytes.
 
 Powers and demands are whole watts, prices are price units, and children count from 1. The last fields `least`, `greatest` and
-`steps` of a frame are the basis of its market. A `Splitter` cuts a stream of bytes into frames. `frame_of` reads bytes that are one frame. Which kinds may come is told by the frames that a node reads or writes:
-`READS` and `WRITES` have them by the sort of the node.
+`steps` of a frame are the basis of its market. A `Splitter` cuts a stream of bytes into frames. `frame_of` reads bytes that are one
+frame. Which kinds may come is told by the frames that a node reads or writes: `READS` and `WRITES` have them by the sort of the node.
 """
 
 from __future__ import annotations
@@ -10,88 +10,54 @@ from __future__ import annotations
 import struct
 from collections.abc import Callable, Iterator
 from dataclasses import dataclass
-from typing import ClassVar, Literal
+from typing import Literal
 
 from ..cluster import Basis
+from .control_frames import MOST_POINTS, Kind, Leave, Offer, Points, Setpoint, State, Stated, Wanted, frames_of
 from .errors import BadFrame
+from .frame import (
+    BASIS,
+    CHILDREN,
+    DEMANDS,
+    LAST_NUMBER,
+    MOST,
+    NUMBERS,
+    PAIRS,
+    POINTS,
+    Frame,
+    are_limits,
+    is_basis,
+    item,
+    require_basis,
+    require_child,
+    require_demands,
+    require_even,
+    require_limits,
+)
+
+# What is here by other modules.
+__all__ = [
+    "BASIS",
+    "CHILDREN",
+    "LAST_NUMBER",
+    "MOST",
+    "Frame",
+    "Kind",
+    "Leave",
+    "Offer",
+    "Points",
+    "Setpoint",
+    "State",
+    "Stated",
+    "Wanted",
+    "are_limits",
+    "frames_of",
+    "is_basis",
+    "require_demands",
+]
 
 Sort = Literal["relay", "auctioneer", "device"]
 SORTS: tuple[Sort, ...] = ("auctioneer", "relay", "device")
-
-# The most children of a node, the greatest demand in watts, and the greatest number and index.
-CHILDREN, MOST, LAST_NUMBER = 256, 1_000_000_000, 4_294_967_295
-# The formats of fields: a list of demands has one for each step, and a list of numbers one for each child.
-DEMANDS, NUMBERS = "demands", "numbers"
-# The format of the basis: the least price, the greatest price and the number of steps.
-BASIS = "iiH"
-
-
-@dataclass(frozen=True)
-class Frame:
-    """A frame. Its fields stand in the order of its bytes; only the last may be a list."""
-
-    # The first byte, the formats of the fields before a list, and what the list has, "" without a list.
-    KIND: ClassVar[int] = 0
-    FIELDS: ClassVar[str] = ""
-    LIST: ClassVar[str] = ""
-
-    def to_bytes(self) -> bytes:
-        """The bytes of the frame. Raises struct.error if a number does not fit into its field."""
-        # Not by astuple, which copies a list of demands one by one.
-        fields = tuple(vars(self).values())
-        listed = fields[-1] if self.LIST else ()
-        fixed = fields[:-1] if self.LIST else fields
-        return struct.pack(f">B{self.FIELDS}{len(listed)}{_item(self.LIST)}", self.KIND, *fixed, *listed)
-
-    def require_right(self, steps: int) -> None:
-        """Raises BadFrame if a field is none that a node takes, in a market of so many steps."""
-
-
-def _item(listed: str) -> str:
-    return "i" if listed == DEMANDS else "I"
-
-
-def require_demands(demands: tuple[int, ...], steps: int) -> None:
-    """Raises BadFrame if these are no demands of a bid: one a step, none above the one before, each within the limits."""
-    if len(demands) != steps:
-        raise BadFrame(f"{len(demands)} demands are there, and {steps} are due, one a step")
-    if any(abs(it) > MOST for it in demands):
-        raise BadFrame(f"a demand is outside ±{MOST} watts")
-    if any(after > before for before, after in zip(demands, demands[1:], strict=False)):
-        raise BadFrame("a demand is above the one of the step before")
-
-
-def is_basis(basis: Basis) -> bool:
-    """Whether Hello takes this basis: 2 to 1000 steps from one whole price to a greater one, with whole prices between."""
-    is_range = 2 <= basis.steps <= 1_000 and -MOST <= basis.min < basis.max <= MOST
-    return is_range and (basis.max - basis.min) % (basis.steps - 1) == 0
-
-
-def are_limits(floor: int, ceiling: int) -> bool:
-    """Whether a relay may have these limits in watts. A child may be bound by them too."""
-    return -MOST <= floor <= 0 <= ceiling <= MOST
-
-
-def _require_child(child: int, number: int = 1) -> None:
-    if not 1 <= child <= CHILDREN:
-        raise BadFrame(f"the child is {child}, and not 1 to {CHILDREN}")
-    if number < 1:
-        raise BadFrame("the number is 0")
-
-
-def _require_even(number: int) -> None:
-    if number < 1 or number % 2:
-        raise BadFrame(f"the number is {number}, and not 2, 4, 6, ..")
-
-
-def _require_limits(floor: int, ceiling: int) -> None:
-    if not are_limits(floor, ceiling):
-        raise BadFrame(f"{floor} to {ceiling} watts are no limits: they are -{MOST} to 0 and 0 to {MOST}")
-
-
-def _require_basis(basis: Basis) -> None:
-    if not is_basis(basis):
-        raise BadFrame(f"{basis} is no basis")
 
 
 @dataclass(frozen=True)
@@ -118,7 +84,7 @@ class Bid(Frame):
 
     def require_right(self, steps: int) -> None:
         """Raises BadFrame if no parent takes the bid."""
-        _require_child(self.child, self.number)
+        require_child(self.child, self.number)
         require_demands(self.demands, steps)
 
 
@@ -133,7 +99,7 @@ class Gone(Frame):
 
     def require_right(self, steps: int) -> None:
         """Raises BadFrame if no parent takes it."""
-        _require_child(self.child, self.number)
+        require_child(self.child, self.number)
 
 
 @dataclass(frozen=True)
@@ -164,8 +130,8 @@ class Price(Frame):
 
     def require_right(self, steps: int) -> None:
         """Raises BadFrame if no child takes it."""
-        _require_child(self.child, self.number)
-        _require_basis(self.basis)
+        require_child(self.child, self.number)
+        require_basis(self.basis)
         if self.step >= self.steps:
             raise BadFrame(f"the step is {self.step}, and there are {self.steps}, from 0 on")
 
@@ -188,7 +154,7 @@ class Old(Frame):
 
     def require_right(self, steps: int) -> None:
         """Raises BadFrame if no child takes it."""
-        _require_child(self.child)
+        require_child(self.child)
 
 
 @dataclass(frozen=True)
@@ -225,38 +191,6 @@ class Dropped(Frame):
 
 
 @dataclass(frozen=True)
-class Offer(Frame):
-    """The power in watts that a device would take at each step."""
-
-    KIND = 13
-    LIST = DEMANDS
-    demands: tuple[int, ...]
-
-    def require_right(self, steps: int) -> None:
-        """Raises BadFrame if no agent takes it."""
-        require_demands(self.demands, steps)
-
-
-@dataclass(frozen=True)
-class Leave(Frame):
-    """The device bids no more."""
-
-    KIND = 14
-
-
-@dataclass(frozen=True)
-class Setpoint(Frame):
-    """The device is to take this power in watts, by its offer of this number, the clearing of this index, and its step."""
-
-    KIND = 15
-    FIELDS = "IIHi"
-    number: int
-    index: int
-    step: int
-    power: int
-
-
-@dataclass(frozen=True)
 class NotCaughtUp(Frame):
     """Some child was not heard again since the restart."""
 
@@ -280,7 +214,7 @@ class Expire(Frame):
 
     def require_right(self, steps: int) -> None:
         """Raises BadFrame if no parent takes it."""
-        _require_child(self.child)
+        require_child(self.child)
 
 
 @dataclass(frozen=True)
@@ -295,8 +229,8 @@ class Limits(Frame):
 
     def require_right(self, steps: int) -> None:
         """Raises BadFrame if no relay takes them."""
-        _require_even(self.number)
-        _require_limits(self.floor, self.ceiling)
+        require_even(self.number)
+        require_limits(self.floor, self.ceiling)
 
 
 @dataclass(frozen=True)
@@ -311,8 +245,8 @@ class Bound(Frame):
 
     def require_right(self, steps: int) -> None:
         """Raises BadFrame if no parent takes it."""
-        _require_child(self.child)
-        _require_limits(self.least, self.greatest)
+        require_child(self.child)
+        require_limits(self.least, self.greatest)
 
 
 @dataclass(frozen=True)
@@ -390,9 +324,9 @@ class RelayResume(Resumed):
 
     def require_right(self, steps: int) -> None:
         """Raises BadFrame if no relay takes it."""
-        _require_basis(self.basis)
-        _require_limits(self.lowest, self.highest)
-        _require_limits(self.floor, self.ceiling)
+        require_basis(self.basis)
+        require_limits(self.lowest, self.highest)
+        require_limits(self.floor, self.ceiling)
         if self.answered > self.last:
             raise BadFrame(f"the number answered, {self.answered}, is above the last, {self.last}")
         if self.giver > CHILDREN:
@@ -419,7 +353,7 @@ class AuctioneerResume(Resumed):
 
     def require_right(self, steps: int) -> None:
         """Raises BadFrame if no auctioneer takes it."""
-        _require_basis(self.basis)
+        require_basis(self.basis)
 
 
 @dataclass(frozen=True)
@@ -438,8 +372,8 @@ class DeviceResume(Resumed):
 
     def require_right(self, steps: int) -> None:
         """Raises BadFrame if no agent takes it."""
-        _require_even(self.last)
-        _require_basis(self.basis)
+        require_even(self.last)
+        require_basis(self.basis)
         require_demands(self.demands, steps)
 
 
@@ -458,8 +392,8 @@ class ResumeGone(Resumed):
     def require_right(self, steps: int) -> None:
         """Raises BadFrame if no agent takes it."""
         if self.last:
-            _require_even(self.last)
-        _require_basis(self.basis)
+            require_even(self.last)
+        require_basis(self.basis)
 
 
 Resume = RelayResume | AuctioneerResume | DeviceResume | ResumeGone
@@ -475,7 +409,8 @@ def _by_kind(*kinds: type[Frame]) -> Kinds:
 READS: dict[Sort, Kinds] = {
     "relay": _by_kind(Hello, RelayResume, Bound, Limits, Bid, Gone, Expire, Send, Price, Old),
     "auctioneer": _by_kind(Hello, AuctioneerResume, Bound, Bid, Gone, Expire, Clear),
-    "device": _by_kind(Hello, DeviceResume, ResumeGone, Offer, Leave, Price, Old),
+    "device": _by_kind(Hello, DeviceResume, ResumeGone, Offer, Kind, State, Leave, Price, Old)
+    | dict.fromkeys(range(POINTS + 1, POINTS + MOST_POINTS + 1), Points),
 }
 _ANSWERS = (Price, Old, TooMuch, NotChanged, NotCaughtUp, OutOfNumbers, Fault)
 WRITES: dict[Sort, Kinds] = {
@@ -494,20 +429,21 @@ BIDS, PRICES = _by_kind(Bid, Gone), _by_kind(Price, Old)
 FIRST_FORM = (5, 12, 16)
 
 
-def _length(kind: type[Frame], steps: int) -> int:
+def _length(kind: type[Frame], steps: int, first: int) -> int:
     """How many items the list of a frame of this kind has."""
-    return {DEMANDS: steps, NUMBERS: CHILDREN}.get(kind.LIST, 0)
+    return {DEMANDS: steps, NUMBERS: CHILDREN, PAIRS: 2 * (first - POINTS)}.get(kind.LIST, 0)
 
 
-def size_of(kind: type[Frame], steps: int) -> int:
-    """How many bytes a frame of this kind has, in a market of so many steps."""
-    return struct.calcsize(f">B{kind.FIELDS}") + 4 * _length(kind, steps)
+def size_of(kind: type[Frame], steps: int, first: int = POINTS) -> int:
+    """How many bytes a frame of this kind, with this first byte, has in a market of so many steps."""
+    return struct.calcsize(f">B{kind.FIELDS}") + 4 * _length(kind, steps, first)
 
 
 def _made(kind: type[Frame], data: bytes, steps: int) -> Frame:
     """The frame of this kind that so many bytes are."""
-    fields = struct.unpack(f">B{kind.FIELDS}{_length(kind, steps)}{_item(kind.LIST)}", data)[1:]
-    fixed = len(fields) - _length(kind, steps)
+    length = _length(kind, steps, data[0])
+    fields = struct.unpack(f">B{kind.FIELDS}{length}{item(kind.LIST)}", data)[1:]
+    fixed = len(fields) - length
     # The fields of a kind are those of its formats, and a list behind them.
     make: Callable[..., Frame] = kind
     return make(*fields[:fixed], fields[fixed:]) if kind.LIST else make(*fields)
@@ -522,8 +458,8 @@ def frame_of(data: bytes, kinds: Kinds, steps: int) -> Frame:
         raise BadFrame("it is a frame of the first form: install this version at the node that wrote it")
     if kind is None:
         raise BadFrame(f"it begins with the byte {data[0]}, which is no kind that may come here")
-    if len(data) != size_of(kind, steps):
-        raise BadFrame(f"a {kind.__name__} has {size_of(kind, steps)} bytes in a market of {steps} steps, and not {len(data)}")
+    if len(data) != size_of(kind, steps, data[0]):
+        raise BadFrame(f"a {kind.__name__} has {size_of(kind, steps, data[0])} bytes in a market of {steps} steps, and not {len(data)}")
     frame = _made(kind, data, steps)
     frame.require_right(steps)
     return frame
@@ -545,7 +481,7 @@ class Splitter:
             kind = self.kinds.get(self.kept[0])
             if kind is None:
                 raise BadFrame(f"the byte {self.kept[0]} begins no frame that this node writes")
-            size = size_of(kind, self.steps)
+            size = size_of(kind, self.steps, self.kept[0])
             if len(self.kept) < size:
                 return
             data, self.kept = self.kept[:size], self.kept[size:]

@@ -8,7 +8,8 @@ from typing import Any, Literal
 
 from ..cluster import Basis
 from .errors import BadFrame, BadMessage, BadSettings
-from .frames import CHILDREN, SORTS, Leave, Offer, Setpoint, Sort
+from .frames import CHILDREN, SORTS, Leave, Offer, Points, Setpoint, Sort, Stated, Wanted
+from .kinds import DeviceKind
 from .sessions import Session, time_of
 from .times import Times
 
@@ -156,21 +157,26 @@ class StateMessage:
 
 @dataclass(frozen=True)
 class OfferMessage:
-    """What a device's control offers: a frame for the agent.
+    """What a device's control offers.
 
+    frame:     what it wants of the agent, None if it names its kind alone
     time:      when that was (RFC 3339), None if the control does not say
     reference: a number of the control's own for the offer, None without one
+    kind:      the kind of the device from now on, None if there is none
     """
 
-    frame: Offer | Leave
+    frame: Wanted | None
     time: str | None = None
     reference: int | None = None
+    kind: DeviceKind | None = None
 
     @staticmethod
-    def of(data: bytes, steps: int) -> OfferMessage:
-        """The offer that a message tells, `{"power": [WATTS, ..]}` or `{"leave": true}`, each also with `"time"`.
+    def of(data: bytes, basis: Basis, kind: DeviceKind | None = None) -> OfferMessage:
+        """The offer that a message tells over a basis, by a device of this kind, None as long as there is none.
 
-        An offer of powers may have a `"reference"`. Raises BadMessage.
+        It is `{"power": [WATTS, ..]}`, `{"points": [[PRICE, WATTS], ..]}`, `{"state": NUMBER}` or `{"leave": true}`, each also with
+        `"time"`. A message with `"kind"` and its parameters names the kind, and may have a state. All but a leave may have a
+        `"reference"`. Raises BadMessage.
         """
         what = "the offer"
         told = object_of(data, what)
@@ -178,21 +184,52 @@ class OfferMessage:
         if time is not None:
             time_of(_text({"time": time}, "time", what))
         if told == {"leave": True}:
-            return OfferMessage(Leave(), time)
+            return OfferMessage(Leave(), time, kind=kind)
         reference = told.pop("reference", None)
         if reference is not None:
             require_reference(reference, "the reference")
-        power = told.get("power")
-        if len(told) != 1 or not isinstance(power, list):
-            raise BadMessage('an offer is {"power": [WATTS, ..]} or {"leave": true}, and may have a "time"')
+        wanted: Wanted | None
+        try:
+            if "kind" in told:
+                kind = DeviceKind.of({name: it for name, it in told.items() if name != "state"})
+                wanted = stated(told["state"], kind) if "state" in told else None
+            else:
+                wanted = _wanted(told, basis, kind)
+        except BadFrame as error:
+            raise BadMessage(f"the offer is no bid: {error}") from None
+        return OfferMessage(wanted, time, reference, kind)
+
+
+_FORMS = '{"power": [WATTS, ..]}, {"points": [[PRICE, WATTS], ..]}, {"state": NUMBER} or {"leave": true}'
+
+
+def _wanted(told: dict[str, Any], basis: Basis, kind: DeviceKind | None) -> Wanted:
+    """What the one member of an offer says. Raises BadMessage and BadFrame."""
+    if len(told) == 1 and isinstance(power := told.get("power"), list):
         if any(type(it) is not int for it in power):
             raise BadMessage("a power is no whole number of watts")
         offer = Offer(tuple(power))
-        try:
-            offer.require_right(steps)
-        except BadFrame as error:
-            raise BadMessage(f"the offer is no bid: {error}") from None
-        return OfferMessage(offer, time, reference)
+        offer.require_right(basis.steps)
+        return offer
+    if len(told) == 1 and isinstance(pairs := told.get("points"), list):
+        if any(not isinstance(it, list) or [type(number) for number in it] != [int, int] for it in pairs):
+            raise BadMessage("a point is no [PRICE, WATTS] of two whole numbers")
+        points = Points.of([(price, power) for price, power in pairs])
+        points.require_over(basis)
+        return points
+    if len(told) == 1 and "state" in told:
+        return stated(told["state"], kind)
+    raise BadMessage(f'an offer is {_FORMS}, and may have a "time"')
+
+
+def stated(state: object, kind: DeviceKind | None) -> Stated:
+    """An offer by a state. Raises BadMessage if no kind was named or the state is no whole number, and BadFrame if no device may have it."""
+    if type(state) is not int:
+        raise BadMessage(f"the state is {state!r}: give a whole number in the unit of the kind")
+    if kind is None:
+        raise BadMessage('a state is told, and no kind: give the settings a table [device], or say {"kind": "battery", ..} before')
+    kind.require_state(state)
+    return Stated(kind, state)
 
 
 def require_reference(value: object, what: str) -> int:

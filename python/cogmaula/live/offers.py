@@ -5,8 +5,10 @@ from __future__ import annotations
 from collections.abc import Callable, Mapping
 from datetime import datetime, timezone
 
+from ..cluster import Basis
 from .errors import BadMessage
-from .frames import DeviceResume, Leave, Offer, ResumeGone
+from .frames import DeviceResume, Leave, Offer, Points, ResumeGone, Stated, Wanted
+from .kinds import DeviceKind
 from .messages import OfferMessage
 from .sessions import time_of
 
@@ -17,13 +19,19 @@ AGAIN = 1.0
 class Offers:
     """The newest offer of the control, until the agent has answered it, and how long it holds."""
 
-    def __init__(self, steps: int, validity: float | None, say: Callable[[str], None]) -> None:
-        """Takes the steps of the market, the seconds that an offer holds, None without an end, and a call for lines."""
-        self._steps = steps
+    def __init__(self, basis: Basis, validity: float | None, say: Callable[[str], None], kind: DeviceKind | None = None) -> None:
+        """Takes the basis of the market, the seconds that an offer holds, None without an end, a call for lines, and the device's kind.
+
+        The kind is None for a device whose control says no state, or names the kind itself.
+        """
+        self._basis = basis
         self._validity = validity
         self._say = say
-        self._wanted: Offer | Leave | None = None
-        self._asked: Offer | Leave | None = None
+        self._kind = kind
+        self._wanted: Wanted | None = None
+        self._asked: Wanted | None = None
+        # By which words the last offer was made, None if by its powers, or not in this run.
+        self._made: Wanted | None = None
         self._not_before = 0.0
         self._until: float | None = None
         self._last = 0
@@ -40,7 +48,7 @@ class Offers:
         """Goes by the Resume that the agent begins with, None for an agent that never offered, and the references kept with it."""
         self.references = dict(references or {})
         self._last = 0 if resume is None else resume.last
-        self.current = resume.demands if isinstance(resume, DeviceResume) else None
+        self.current, self._made = (resume.demands if isinstance(resume, DeviceResume) else None), None
         self._until = None if self._validity is None else now + self._validity
         self.forget()
 
@@ -51,9 +59,12 @@ class Offers:
     def take(self, data: bytes, now: float, expiry: int | None = None) -> None:
         """Takes a message of the control. `expiry` is for how many seconds the broker lets it hold."""
         try:
-            message = OfferMessage.of(data, self._steps)
+            message = OfferMessage.of(data, self._basis, self._kind)
         except BadMessage as error:
             self._say(f"an offer is not taken: {error}")
+            return
+        self._kind = message.kind
+        if message.frame is None:
             return
         until = self._end_of(message, now, expiry)
         if until is not None and until <= now:
@@ -62,7 +73,7 @@ class Offers:
         self._until = until
         self.want(message.frame, message.reference)
 
-    def want(self, frame: Offer | Leave, reference: int | None = None) -> None:
+    def want(self, frame: Wanted, reference: int | None = None) -> None:
         """Wants a frame, in place of one that was not yet asked. What the agent already does is not asked again.
 
         Then the reference is that of the offer which the agent has.
@@ -72,10 +83,12 @@ class Offers:
             self._wanted = frame
         if self._wanted is not None:
             self._reference = reference
-        elif isinstance(frame, Offer):
+        elif not isinstance(frame, Leave):
             self.references = _noted(self.references, self._last, reference)
 
-    def _standing(self) -> Offer | Leave:
+    def _standing(self) -> Wanted:
+        if self._made is not None:
+            return self._made
         return Leave() if self.current is None else Offer(self.current)
 
     def _end_of(self, message: OfferMessage, now: float, expiry: int | None) -> float | None:
@@ -92,8 +105,8 @@ class Offers:
         """Whether the device has no offer, and none is wanted."""
         return self.current is None and self._wanted is None
 
-    def due(self, now: float) -> Offer | Leave | None:
-        """The frame to feed to the agent now, or None. It counts as asked."""
+    def due(self, now: float) -> Wanted | None:
+        """What to ask the agent for now, or None. It counts as asked."""
         if self._until is not None and now > self._until and self.current is not None and not isinstance(self._wanted, Leave):
             self._say("the control was silent for longer than the validity of its offer: the device leaves")
             self._wanted = Leave()
@@ -124,6 +137,8 @@ class Offers:
     def resumed(self, resume: DeviceResume | ResumeGone) -> None:
         """Goes by a Resume that was stored. One with a greater number answers what was asked."""
         is_answer = resume.last > self._last and self._is_answer(resume)
+        if is_answer:
+            self._made = None if isinstance(self._asked, Offer | Leave) else self._asked
         self.references = self.references_with(resume)
         self._last = resume.last
         self.current = resume.demands if isinstance(resume, DeviceResume) else None
@@ -134,6 +149,9 @@ class Offers:
         """Whether a Resume with a greater number is of what was asked."""
         if isinstance(resume, ResumeGone):
             return isinstance(self._asked, Leave)
+        if isinstance(self._asked, Points | Stated):
+            # The agent has made the powers. An offer that it made anew has a number that is further on.
+            return resume.last == self._last + 2
         return self._asked == Offer(resume.demands)
 
     def refused(self, now: float) -> None:

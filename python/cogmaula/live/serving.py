@@ -41,6 +41,7 @@ from .frames import (
     Setpoint,
     TooMuch,
     WindowFull,
+    frames_of,
     size_of,
 )
 from .keeping import Keeping
@@ -80,7 +81,7 @@ class Serving:
         self._say = say
         self._notify = notify
         self.children = Children(settings.name, settings.topics, settings.basis.steps, link, say)
-        self.offers = Offers(settings.basis.steps, settings.offer_validity, say)
+        self.offers = Offers(settings.basis, settings.offer_validity, say, settings.device)
         self._asking = Asking(settings.period, settings.pause)
         self._recording = Recording(settings)
         self.keeping = Keeping(store, link)
@@ -242,8 +243,9 @@ class Serving:
         self._feed_old()
         self._feed_price()
         if self._settings.sort == "device":
-            frame = self.offers.due(now)
-            self._feed(b"" if frame is None else frame.to_bytes())
+            wanted = self.offers.due(now)
+            for data in [b""] if wanted is None else [it.to_bytes() for it in frames_of(wanted)]:
+                self._feed(data)
         elif not self._pending and self._asking.is_due(now):
             self._asking.asked(now)
             self._feed((Clear() if self._settings.sort == "auctioneer" else Send()).to_bytes())

@@ -11,8 +11,9 @@ from typing import Any, cast
 
 from ..cluster import Basis
 from ..program import live_command
-from .errors import BadSettings
+from .errors import BadFrame, BadSettings
 from .frames import CHILDREN, MOST, Sort, are_limits, is_basis
+from .kinds import DeviceKind
 from .page_settings import PageSettings
 from .times import Times
 from .topics import OF_CHILDREN, Topics, require_name, require_prefix
@@ -110,6 +111,7 @@ class Settings:
     giver:    the child number that is kept free for them
     validity, heartbeat, grace: the times of the market that an auctioneer tells, in seconds; None takes the default. See Times
     fallback: the power in watts that a device's control is told while the market is silent
+    device:   the kind of a device whose control says its state; None if it offers otherwise, or names the kind itself
     offer_validity: the seconds after which a device whose control is silent leaves; None keeps its bid
     children: of a parent, the bounds of children
     new_session: whether an auctioneer begins a new session
@@ -146,6 +148,7 @@ class Settings:
     broker: BrokerSettings = field(default_factory=BrokerSettings)
     page: PageSettings | None = None
     children: tuple[ChildSettings, ...] = ()
+    device: DeviceKind | None = None
 
     def __post_init__(self) -> None:
         """Raises BadSettings."""
@@ -157,6 +160,8 @@ class Settings:
         self._require_children()
         if (self.new_session and self.sort != "auctioneer") or (self.leave and self.sort != "device"):
             raise BadSettings("new_session is for an auctioneer, and leave for a device")
+        if self.device is not None and self.sort != "device":
+            raise BadSettings(f"the table device is for a device, and this is {self.name}, of sort {self.sort}: take it out")
         if self.record_size < LEAST_SIZE:
             raise BadSettings(f"record_size is {self.record_size}: give {LEAST_SIZE} bytes or more")
         if self.record_files is not None and self.record_files < 1:
@@ -258,7 +263,7 @@ class Settings:
 
 
 # The settings by the names of the tables of a TOML file.
-_TABLES = ("node", "basis", "broker", "page", "children")
+_TABLES = ("node", "basis", "broker", "page", "children", "device")
 
 
 def read_toml(path: str | os.PathLike[str], tables: Sequence[str] = _TABLES) -> dict[str, dict[str, Any]]:
@@ -275,16 +280,20 @@ def read_toml(path: str | os.PathLike[str], tables: Sequence[str] = _TABLES) -> 
 
 
 def settings_of(sort: Sort, tables: Mapping[str, Mapping[str, Any]]) -> Settings:
-    """The settings that the tables `node`, `basis`, `broker`, `page` and `children` tell. Raises BadSettings."""
+    """The settings that the tables `node`, `basis`, `broker`, `page`, `children` and `device` tell. Raises BadSettings."""
     node = dict(tables.get("node", {}))
     if "live" not in node:
         node["live"] = live_command()
     basis = value_of(Basis, tables.get("basis", {}), "basis")
     broker = value_of(BrokerSettings, tables.get("broker", {}), "broker")
     page = value_of(PageSettings, tables["page"], "page") if "page" in tables else None
-    if {"sort", "basis", "broker", "page", "children"} & node.keys():
-        raise BadSettings("node has a member sort, basis, broker, page or children: the command says the sort, and the others are tables")
+    if {"sort", "basis", "broker", "page", "children", "device"} & node.keys():
+        raise BadSettings("node has a member sort, basis, broker, page, children or device: the command says the sort, and the others are tables")
     parts = {"sort": sort, "basis": basis, "broker": broker, "page": page, "children": children_of(tables.get("children", {}))}
+    try:
+        parts["device"] = DeviceKind.of(tables["device"]) if "device" in tables else None
+    except BadFrame as error:
+        raise BadSettings(f"device: {error}") from None
     return cast(Settings, value_of(Settings, {**node, **parts}, "node"))
 
 

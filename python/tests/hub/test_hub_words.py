@@ -5,12 +5,12 @@ from __future__ import annotations
 import json
 
 import pytest
-from hypothesis import given
-from hypothesis import strategies as st
 
 from cogmaula.cluster import Basis
-from cogmaula.hub.words import Cluster, LeaveWord, Login, demands_of, error_line, update_of, quoted, welcome, word_of
+from cogmaula.hub.words import Cluster, LeaveWord, Login, error_line, update_of, quoted, welcome, word_of
 from cogmaula.live import BadMessage
+from cogmaula.live.frames import Points, Stated
+from cogmaula.live.kinds import DeviceKind
 from cogmaula.live.messages import OfferMessage
 
 BASIS = Basis(0, 9, 10)
@@ -36,8 +36,8 @@ def test_no_login(line):
 
 def test_a_bid_of_demands():
     found = word_of(bid(bidNumber=5, demandArray=FALLING), BASIS)
-    assert (found.number, found.demands) == (5, tuple(FALLING))
-    assert OfferMessage.of(found.to_offer(), 10) == OfferMessage(OfferMessage.of(bid_offer(FALLING), 10).frame, None, 5)
+    assert (found.number, found.told) == (5, {"power": tuple(FALLING)})
+    assert OfferMessage.of(found.to_offer(), BASIS) == OfferMessage(OfferMessage.of(bid_offer(FALLING), BASIS).frame, None, 5)
 
 
 def bid_offer(demands):
@@ -52,69 +52,20 @@ def test_a_bid_without_a_number():
 
 def test_whole_numbers_may_be_written_with_a_point():
     found = word_of(b'{"bidUpdate": {"demandArray": [2.0, 2e0, 1, 1, 1, 1, 1, 1, 1, -1.0]}}', BASIS)
-    assert found.demands == (2, 2, *[1] * 7, -1)
+    assert found.told == {"power": (2, 2, *[1] * 7, -1)}
 
 
-@pytest.mark.parametrize(
-    ("points", "demands"),
-    [
-        # The rows of docs/CLUSTER_FILE.md are for its own bases; these are worked out by hand.
-        ([(0, 300), (9, -150)], [300, 250, 200, 150, 100, 50, 0, -50, -100, -150]),
-        ([(0, 10), (3, 0)], [10, 6, 3, 0, 0, 0, 0, 0, 0, 0]),
-        ([(3, 200), (7, 0)], [200, 200, 200, 200, 150, 100, 50, 0, 0, 0]),
-        ([(5, 7)], [7] * 10),
-        ([(4, 0), (4, -150)], [0] * 4 + [-150] * 6),
-        ([(0, 0), (2, -3), (2, -4), (9, -4)], [0, -2, *[-4] * 8]),
-        ([(9, 5), (9, 1)], [5] * 9 + [1]),
-        ([(0, 5), (0, 1)], [1] * 10),
-    ],
-)
-def test_a_bid_of_points(points, demands):
-    told = [{"price": price, "demand": demand} for price, demand in points]
-    assert word_of(bid(pricePoints=told), BASIS).demands == tuple(demands)
+def test_a_bid_of_points():
+    found = word_of(bid(bidNumber=5, pricePoints=[{"price": 0, "demand": 300}, {"price": 9.0, "demand": -150}]), BASIS)
+    assert json.loads(found.to_offer()) == {"points": [[0, 300], [9, -150]], "reference": 5}
+    assert OfferMessage.of(found.to_offer(), BASIS).frame == Points.of([(0, 300), (9, -150)])
 
 
-def test_the_rows_of_the_page_of_cluster_files():
-    assert demands_of([(20, 600), (80, 0)], Basis(0, 100, 101))[40] == 400
-    assert demands_of([(0, 10), (3, 0)], BASIS)[1] == 6
-
-
-@st.composite
-def drawn_points(draw):
-    """A basis, and points that are right for it."""
-    steps, apart, least = draw(st.integers(2, 60)), draw(st.integers(1, 9)), draw(st.integers(-50, 50))
-    basis = Basis(least, least + apart * (steps - 1), steps)
-    count = draw(st.integers(1, 64))
-    prices = sorted(draw(st.lists(st.integers(basis.min, basis.max), min_size=count, max_size=count)))
-    demands = sorted(draw(st.lists(st.integers(-1_000_000_000, 1_000_000_000), min_size=count, max_size=count)), reverse=True)
-    return basis, list(zip(prices, demands, strict=True))
-
-
-@given(drawn_points())
-def test_a_bid_of_points_never_rises_and_ends_right(drawn):
-    """And it is the bid that the plain auction of the checks has for a cluster file's `points`."""
-    from checks.oracle.auction import demand_at
-
-    basis, points = drawn
-    found = demands_of(points, basis)
-    assert len(found) == basis.steps
-    assert all(after <= before for before, after in zip(found, found[1:], strict=False))
-    at_least = [demand for price, demand in points if price == basis.min]
-    assert found[0] == (at_least[-1] if at_least else points[0][1])
-    assert found[-1] == points[-1][1]
-    assert list(found) == [demand_at(points, price) for price in basis.prices]
-    told = [{"price": price, "demand": demand} for price, demand in points]
-    assert word_of(bid(pricePoints=told), basis).demands == found
-
-
-@pytest.mark.parametrize("points", [[(0, 300), (9, -150)], [(0, 10), (3, 0)], [(4, 0), (4, -150), (7, -155)]])
-def test_a_bid_of_points_is_that_of_the_program(program, points):
-    from cogmaula import Cluster as ClusterFile
-    from cogmaula import Manual
-    from cogmaula.report.flexibility import demands_after
-
-    cluster = ClusterFile(BASIS, [Manual("flex", points=[list(it) for it in points])])
-    assert demands_after(cluster.with_phases(cluster.join_all()), program) == list(demands_of(points, BASIS))
+def test_a_bid_of_a_state():
+    kind = word_of(b'{"device": {"kind": "battery", "capacity": 1000, "charge": 300, "discharge": 300, "spread": 0}}', BASIS)
+    assert kind == DeviceKind("battery", (1000, 300, 300, 0))
+    found = word_of(bid(state=400), BASIS, kind)
+    assert OfferMessage.of(found.to_offer(), BASIS).frame == Stated(kind, 400)
 
 
 POINT = {"price": 0, "demand": 0}
@@ -127,9 +78,12 @@ POINT = {"price": 0, "demand": 0}
         (b'{"bidUpdate": 5}', "no bid and no leave"),
         (b'{"leave": false}', "no bid and no leave"),
         (b'{"leave": true, "bidUpdate": {}}', "no bid and no leave"),
-        (bid(), "has a demandArray or pricePoints"),
-        (bid(demandArray=FALLING, pricePoints=[]), "has a demandArray or pricePoints"),
-        (bid(demandArray=FALLING, more=1), "has a demandArray or pricePoints"),
+        (bid(), "has a demandArray, pricePoints or a state"),
+        (bid(demandArray=FALLING, pricePoints=[]), "has a demandArray, pricePoints or a state"),
+        (bid(demandArray=FALLING, more=1), "has a demandArray, pricePoints or a state"),
+        (bid(state=5), "a state is told, and no kind"),
+        (bid(state="warm"), "a state is 'warm': give whole units of the kind"),
+        (b'{"device": {"kind": "oven"}}', "the device is not taken: kind is 'oven': give one of freezer"),
         (bid(bidNumber=1.5, demandArray=FALLING), "bidNumber is no whole number from 0"),
         (bid(bidNumber=-1, demandArray=FALLING), "bidNumber is no whole number from 0"),
         (bid(demandArray=5), "demandArray is no list"),
@@ -141,14 +95,14 @@ POINT = {"price": 0, "demand": 0}
         (bid(demandArray=["x" * 100] + [0] * 9), r"x\.\.: give whole watts"),
         (b'{"bidUpdate": {"demandArray": [1e999, 0, 0, 0, 0, 0, 0, 0, 0, 0]}}', "a demand is inf"),
         (b'{"bidUpdate": {"demandArray": [1e300, 0, 0, 0, 0, 0, 0, 0, 0, 0]}}', "outside ±1000000000"),
-        (bid(pricePoints=[]), "0 pricePoints: give 1 to 64"),
-        (bid(pricePoints=[POINT] * 65), "65 pricePoints"),
+        (bid(pricePoints=[]), "0 points are there: give 1 to 64"),
+        (bid(pricePoints=[POINT] * 65), "65 points are there"),
         (bid(pricePoints=[[0, 0]]), "a point is"),
         (bid(pricePoints=[{"price": 0}]), "a point is"),
-        (bid(pricePoints=[{"price": 10, "demand": 0}]), "outside 0 to 9"),
+        (bid(pricePoints=[{"price": 10, "demand": 0}]), "outside the basis, 0 to 9"),
         (bid(pricePoints=[{"price": 0.5, "demand": 0}]), "a price is 0.5"),
-        (bid(pricePoints=[POINT, {"price": 1, "demand": 1}]), "lower price or a higher demand"),
-        (bid(pricePoints=[{"price": 1, "demand": 0}, POINT]), "lower price or a higher demand"),
+        (bid(pricePoints=[POINT, {"price": 1, "demand": 1}]), "the power 1 of point 1 is above 0"),
+        (bid(pricePoints=[{"price": 1, "demand": 0}, POINT]), "the price 0 of point 1 is below 1"),
         (bid(pricePoints=[{"price": 0, "demand": 1_000_000_001}]), "outside ±1000000000"),
     ],
 )

@@ -7,6 +7,7 @@ from hypothesis import given
 from hypothesis import strategies as st
 
 from cogmaula.live.errors import BadFrame
+from cogmaula.live.kinds import DeviceKind
 from cogmaula.live.frames import (
     BIDS,
     CHILDREN,
@@ -26,6 +27,7 @@ from cogmaula.live.frames import (
     Fault,
     Gone,
     Hello,
+    Kind,
     Leave,
     Limits,
     NotCaughtUp,
@@ -35,11 +37,13 @@ from cogmaula.live.frames import (
     OtherBasis,
     OutOfLimits,
     OutOfNumbers,
+    Points,
     Price,
     RelayResume,
     ResumeGone,
     Send,
     Setpoint,
+    State,
     Splitter,
     TooMuch,
     WindowFull,
@@ -82,6 +86,9 @@ EXAMPLES = [
     (TooMuch(2, 4), "16 0002 00000004"),
     (OtherBasis(1, 7), "18 00000001 00000007"),
     (OutOfLimits(1), "1B 00000001"),
+    (Kind.of(DeviceKind("battery", (1000, 300, 300, 0))), "1D 03 000003E8 0000012C 0000012C 00000000 00000000"),
+    (State(400), "1E 00000190"),
+    (Points.of([(0, 500), (9, -300)]), "82 00000000 000001F4 00000009 FFFFFED4"),
 ]
 
 
@@ -89,8 +96,8 @@ EXAMPLES = [
 def test_the_bytes_of_the_page(frame, text):
     data = bytes.fromhex(text)
     assert frame.to_bytes() == data
-    assert size_of(type(frame), 2) == len(data)
-    assert frame_of(data, {frame.KIND: type(frame)}, 2) == frame
+    assert size_of(type(frame), 2, data[0]) == len(data)
+    assert frame_of(data, {data[0]: type(frame)}, 2) == frame
 
 
 def test_a_resume_has_the_sizes_of_the_page():
@@ -99,7 +106,7 @@ def test_a_resume_has_the_sizes_of_the_page():
 
 def test_each_node_reads_and_writes_what_the_page_says():
     names = {sort: {it.__name__ for it in kinds.values()} for sort, kinds in READS.items()}
-    assert names["device"] == {"Hello", "DeviceResume", "ResumeGone", "Offer", "Leave", "Price", "Old"}
+    assert names["device"] == {"Hello", "DeviceResume", "ResumeGone", "Offer", "Points", "Kind", "State", "Leave", "Price", "Old"}
     assert names["relay"] == {"Hello", "RelayResume", "Bound", "Limits", "Bid", "Gone", "Expire", "Send", "Price", "Old"}
     assert names["auctioneer"] == {"Hello", "AuctioneerResume", "Bound", "Bid", "Gone", "Expire", "Clear"}
     assert set(WRITES["device"]) == {2, 3, 8, 10, 11, 15, 18, 24, 25, 26}

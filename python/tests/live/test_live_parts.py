@@ -14,7 +14,8 @@ from pretended import BASIS, LATER, MOMENT, SESSION, device_resume, resume_gone
 from cogmaula.live.asking import Asking
 from cogmaula.live.control import StandardControl
 from cogmaula.live.errors import BadMessage
-from cogmaula.live.frames import Leave, Offer, Setpoint
+from cogmaula.live.frames import Leave, Offer, Points, Setpoint, Stated, frames_of
+from cogmaula.live.kinds import DeviceKind
 from cogmaula.live.messages import BasisMessage, OfferMessage, SetpointMessage, StateMessage, setpoint_bytes
 from cogmaula.live.offers import Offers
 from cogmaula.live.sessions import Session, new_session, time_of, time_text
@@ -73,9 +74,9 @@ def test_a_service_that_starts_anew_is_asked_again():
 # Offers.
 
 
-def offers(validity=None):
+def offers(validity=None, kind=None):
     said = []
-    one = Offers(2, validity, said.append)
+    one = Offers(BASIS, validity, said.append, kind)
     one.begin(None, 0)
     return one, said
 
@@ -216,6 +217,41 @@ def test_without_numbers_an_offer_is_let_go():
     assert one.due(5) is None
 
 
+LOAD = DeviceKind("load")
+BATTERY = DeviceKind("battery", (1000, 300, 300, 0))
+
+
+def test_points_and_states_are_asked_once():
+    """The agent makes the powers: an offer that it made of what was asked has the next number."""
+    one, said = offers()
+    one.take(b'{"points": [[0, 500], [9, -300]], "reference": 7}', 0)
+    assert one.due(0) == Points.of([(0, 500), (9, -300)])
+    one.resumed(device_resume(2, 0, (500, -300)))
+    assert one.references == {2: 7}
+    one.take(b'{"points": [[0, 500], [9, -300]]}', 1)
+    assert one.due(1) is None, "it stands"
+    one.take(b'{"state": 400}', 2)
+    assert (one.due(2), len(said)) == (None, 1), "no kind was named"
+    one.take(json.dumps(BATTERY.members()).encode(), 3)
+    assert one.due(3) is None, "a kind is no offer"
+    one.take(b'{"state": 400}', 4)
+    assert one.due(4) == Stated(BATTERY, 400)
+    one.resumed(device_resume(6, 0, (500, -300)))
+    assert one.due(5) is None, "the offer before was made anew: what was asked is not answered"
+    one.resumed(device_resume(8, 0, (0, -300)))
+    assert one.due(6) is None
+    one.take(b'{"power": [0, -300]}', 7)
+    assert one.due(7) == Offer((0, -300))
+
+
+def test_a_state_is_two_frames():
+    assert b"".join(it.to_bytes() for it in frames_of(Stated(BATTERY, 400))).hex() == "1d03000003e80000012c0000012c00000000000000001e00000190"
+    one, _ = offers(kind=LOAD)
+    one.take(b'{"state": 9}', 0)
+    assert one.due(0) == Stated(LOAD, 9)
+    assert OfferMessage.of(b'{"kind": "solar", "state": 9}', BASIS, LOAD).frame == Stated(DeviceKind("solar"), 9)
+
+
 # Messages.
 
 WRONG_OFFERS = [
@@ -232,6 +268,20 @@ WRONG_OFFERS = [
     (b'{"power": [0, 1]}', "above the one of the step before"),
     (b'{"power": [1000000001, 0]}', "outside"),
     (b'{"power": [1, 0], "time": 7}', "the offer has no text time"),
+    (b'{"points": []}', "0 points are there: give 1 to 64"),
+    (b'{"points": [[0, 1, 2]]}', "a point is no"),
+    (b'{"points": [[0, 1.5]]}', "a point is no"),
+    (b'{"points": [[4, 0], [3, 0]]}', "the price 3 of point 1 is below 4, the one before"),
+    (b'{"points": [[3, 0], [4, 1]]}', "the power 1 of point 1 is above 0, the one before"),
+    (b'{"points": [[10, 0]]}', "the price 10 of point 0 is outside the basis, 0 to 9"),
+    (b'{"points": [[0, 1000000001]]}', "1000000001 of point 0 is outside"),
+    (b'{"state": 1.5}', "the state is 1.5: give a whole number"),
+    (b'{"state": -1}', "the state of a load is -1: give 0 to 1000000000 watts"),
+    (b'{"kind": "oven"}', "kind is 'oven': give one of freezer, heat_pump, cogeneration, battery, solar, load"),
+    (b'{"kind": "solar", "power": 5}', "power is no parameter of a solar: none may be given"),
+    (b'{"kind": "battery", "capacity": 0}', "capacity of a battery is 0: give a whole number from 1 to 1000000000"),
+    (b'{"kind": "freezer", "low": 5, "high": 5, "power": 1, "warm": 1, "cool": 1}', "give a low below the high"),
+    (b'{"kind": "solar", "state": 5, "leave": true}', "leave is no parameter of a solar"),
     (b'{"power": [1, 0], "time": "today"}', "is no time"),
     (b'{"power": [1, 0], "time": "2026-01-31T06:30:00"}', "has no zone"),
 ]
@@ -240,7 +290,7 @@ WRONG_OFFERS = [
 @pytest.mark.parametrize(("data", "why"), WRONG_OFFERS)
 def test_a_message_that_is_no_offer(data, why):
     with pytest.raises(BadMessage, match=why):
-        OfferMessage.of(data, 2)
+        OfferMessage.of(data, BASIS, LOAD)
     one, said = offers()
     one.take(data, 0)
     assert one.due(0) is None
@@ -254,7 +304,7 @@ def test_messages_come_back():
     assert StateMessage.of(state.to_bytes()) == state
     placed = StateMessage("up", "0" * 16, MOMENT, SESSION.id, MOMENT, "", "relay", "auctioneer", 3, -1000, None)
     assert StateMessage.of(placed.to_bytes()) == placed
-    assert OfferMessage.of(b'{"leave": true, "time": "2026-01-31T06:30:00Z"}', 2) == OfferMessage(Leave(), "2026-01-31T06:30:00Z")
+    assert OfferMessage.of(b'{"leave": true, "time": "2026-01-31T06:30:00Z"}', BASIS) == OfferMessage(Leave(), "2026-01-31T06:30:00Z")
 
 
 @pytest.mark.parametrize(

@@ -25,18 +25,18 @@ def offer(demands, reference=None):
 
 @pytest.mark.parametrize("reference", [0, 17, LAST_REFERENCE])
 def test_an_offer_may_have_a_reference(reference):
-    assert OfferMessage.of(offer(HIGH, reference), 2) == OfferMessage(Offer(HIGH), None, reference)
+    assert OfferMessage.of(offer(HIGH, reference), BASIS) == OfferMessage(Offer(HIGH), None, reference)
 
 
 @pytest.mark.parametrize("reference", [-1, LAST_REFERENCE + 1, 1.0, True, "17", [17]])
 def test_a_reference_that_is_none(reference):
     with pytest.raises(BadMessage, match="the reference is no whole number from 0 to 9007199254740991"):
-        OfferMessage.of(offer(HIGH, reference), 2)
+        OfferMessage.of(offer(HIGH, reference), BASIS)
 
 
 def test_a_leave_has_none():
     with pytest.raises(BadMessage, match="an offer is"):
-        OfferMessage.of(b'{"leave": true, "reference": 1}', 2)
+        OfferMessage.of(b'{"leave": true, "reference": 1}', BASIS)
 
 
 def test_a_setpoint_gets_the_reference_of_its_own_offer_alone():
@@ -50,7 +50,7 @@ class Made:
     """Offers of a market of two steps, which the test asks and answers."""
 
     def __init__(self):
-        self.offers = Offers(2, None, lambda _: None)
+        self.offers = Offers(BASIS, None, lambda _: None)
         self.offers.begin(None, 0.0)
 
     def takes(self, demands, reference=None):

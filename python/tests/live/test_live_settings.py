@@ -10,6 +10,7 @@ from pretended import BASIS, settings
 
 from cogmaula.cli import main
 from cogmaula.commands import node as command
+from cogmaula.live.kinds import DeviceKind
 from cogmaula.live import BadSettings, BadStore, BrokerSettings, NodeRefused, Settings, make_node, read_toml, settings_of
 from cogmaula.live.topics import Topics
 
@@ -78,6 +79,16 @@ def test_the_password_is_of_a_file_or_of_the_environment(tmp_path, monkeypatch):
     assert BrokerSettings().password() is None
 
 
+def test_the_kind_of_a_device(tmp_path):
+    tables = {"node": {"name": "house", "parent": "street", "child": 2, "state": "x"}, "basis": {"min": 0, "max": 9, "steps": 2}}
+    battery = {"kind": "battery", "capacity": 1000, "charge": 300, "discharge": 300, "spread": 0}
+    assert settings_of("device", {**tables, "device": battery}).device == DeviceKind("battery", (1000, 300, 300, 0))
+    with pytest.raises(BadSettings, match="device: spread of a battery is 1001: give a whole number from 0 to 1000"):
+        settings_of("device", {**tables, "device": {**battery, "spread": 1001}})
+    with pytest.raises(BadSettings, match="the table device is for a device"):
+        settings("relay", tmp_path, device=DeviceKind("load"))
+
+
 def test_no_option_takes_a_password():
     assert not any("password" in member and member != "password_file" for _, member, *_ in command._OPTIONS)
 
@@ -102,7 +113,7 @@ MISTAKES = [
     ("limits_from = true", "", "limits_from is for a relay"),
     ("giver = 257", "", "giver is 257: give 1 to 256"),
     ("fallback = 1000000001", "", "fallback is 1000000001"),
-    ('sort = "relay"', "", "node has a member sort, basis, broker, page or children"),
+    ('sort = "relay"', "", "node has a member sort, basis, broker, page, children or device"),
     ("", "steps = 1", "give 2 to 1000 steps"),
     ("", "max = 0", "from min to a greater max"),
     ("", "min = 1\nsteps = 4", "max - min has to be a multiple of steps - 1"),
