@@ -18,8 +18,9 @@ HELP = "runs a node of a market across machines, joined to an MQTT broker"
 MORE = (
     "The settings come from the file of --config, and options go before them; docs/LIVE.md has the file. A device reads offers at"
     ' standard input, {"power": [WATTS, ..]} with a number for each step or {"leave": true}, a line each, and writes its setpoints at'
-    " standard output. The exit status is 0 after SIGTERM or SIGINT, 2 for settings that are wrong, 5 if a person has to look before"
-    " the node may go on, as if another process runs as it, and 6 if its Resume is of other limits, another basis or an older form."
+    " standard output. The exit status is 0 after SIGTERM or SIGINT, 2 for settings that are wrong or name a missing file, 5 if a person"
+    " has to look before the node may go on, as if another process runs as it, and 6 if its Resume is of other limits, another basis or"
+    " another version."
 )
 # The exit status if the node's terms are not those of its Resume.
 OTHER_TERMS = 6
@@ -35,6 +36,7 @@ _OPTIONS: list[tuple[str, str, type, str, str]] = [
     ("node", "ceiling", int, "WATTS", "the greatest power that a relay announces, 0 or above"),
     ("node", "period", float, "SECONDS", "clears or sends by the clock; without it after news"),
     ("node", "pause", float, "SECONDS", "after news, not faster than this; default 1"),
+    ("node", "child_pause", float, "SECONDS", "a parent's: from one bid of a child that counts to the next; default 0"),
     ("node", "validity", float, "SECONDS", "an auctioneer's: setpoints hold so long without a heartbeat; default 120"),
     ("node", "heartbeat", float, "SECONDS", "an auctioneer's: from one heartbeat to the next; default a quarter of validity"),
     ("node", "grace", float, "SECONDS", "an auctioneer's: a device that is silent for so long is let go; default 1.25 times validity"),
@@ -98,15 +100,20 @@ def main(arguments: argparse.Namespace) -> int:
 
     try:
         settings = settings_of(arguments.sort, _tables_of(arguments))
+        settings.require_files()
     except BadSettings as error:
         print(f"cogmaula: {error}", file=sys.stderr)
         return 2
-    node = make_node(settings)
-    for number in (signal.SIGTERM, signal.SIGINT):
-        signal.signal(number, lambda *_: node.stop())
     try:
+        node = make_node(settings)
+        for number in (signal.SIGTERM, signal.SIGINT):
+            signal.signal(number, lambda *_: node.stop())
         node.run()
     except NodeRefused as error:
         print(f"cogmaula: {error}", file=sys.stderr)
         return OTHER_TERMS if isinstance(error, OtherTerms) else cli.REFUSED
+    except OSError as error:
+        where = "" if error.filename is None else f"{error.filename}: "
+        print(f"cogmaula: node {settings.name}: {where}{error.strerror or error}", file=sys.stderr)
+        return cli.FAILED
     return 0

@@ -54,7 +54,7 @@ class Exchange:
     def join(self, link: ExchangeLink, topics: Sequence[str]) -> None:
         """Lets a link read these topics, and hands it what is retained of them."""
         with self._lock:
-            fresh = [it for it in topics if link not in self._readers.get(it, [])]
+            fresh = {it: True for it in topics if link not in self._readers.get(it, [])}
             for topic in fresh:
                 self._readers.setdefault(topic, []).append(link)
             for topic, message in self._retained.items():
@@ -102,7 +102,7 @@ class ExchangeLink:
         self._inbox: dict[str, Message] = {}
 
     def start(
-        self, topics: Sequence[str], will: Publication, marker: Callable[[], Publication], written: Sequence[str] = ()
+        self, topics: Sequence[str], will: Callable[[], Publication], marker: Callable[[], Publication], written: Sequence[str] = ()
     ) -> None:
         """See Link. The last will is never due: a node of this process always closes its link."""
         self._exchange.join(self, [*topics, *written])
@@ -142,6 +142,14 @@ class ExchangeLink:
         with self._lock:
             found, self._inbox = list(self._inbox.values()), {}
         return found
+
+    @property
+    def has_lost(self) -> bool:
+        """See Link. The newest message of each topic is there."""
+        return False
+
+    def read_again(self) -> None:
+        """See Link. There is nothing that did not come."""
 
     def tick(self) -> None:
         """See Link. There is nothing to say: what is published always comes back."""

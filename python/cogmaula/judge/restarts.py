@@ -60,7 +60,9 @@ class Keeping:
         return ""
 
     def writes(self, resume: Resume | None) -> str:
-        """The node handles a Resume, or a frame that is none."""
+        """The node handles a Resume, or a frame that is none. One with another price alone need not be stored."""
+        if self._waits is not None and self._stored is not None and _exact(self._waits) == _exact(self._stored):
+            self._waits = None
         if self._waits is not None:
             return f"it is handled before the {words_of(self._waits)} is stored"
         if resume is not None:

@@ -2,14 +2,15 @@
 
 from __future__ import annotations
 
+import json
 from collections.abc import Callable, Mapping
 from dataclasses import dataclass, replace
 
 from .broker import Message
-from .children import SESSION, TIME
+from .children import BIDS_OF_SUM, FORM, RELAYS, SESSION, TIME
 from .errors import BadFrame, BadMessage, NodeRefused, OtherTerms
 from .frames import BIDS, FIRST_FORM, RESUMES, AuctioneerResume, Bid, DeviceResume, Gone, RelayResume, Resume, ResumeGone, frame_of
-from .messages import VERSION, BasisMessage, StateMessage, is_setpoint
+from .messages import VERSION, BasisMessage, StateMessage, is_same_setpoint, is_setpoint, without_until
 from .sessions import Session, new_session, now_text
 from .settings import Settings
 from .store import Store, Stored
@@ -55,7 +56,7 @@ class Beginning:
             return self._new(newest)
         if VERSION not in [it.version for it in (stored, told) if it is not None and it.session == newest]:
             raise OtherTerms(
-                f"session {newest.id} is of the first form of this market: stop all nodes, install this version, and begin a new session "
+                f"session {newest.id} is of another version of this market: stop all nodes, install this version, and begin a new session "
                 "by --new-session"
             )
         if stored is not None and stored.session != newest:
@@ -97,16 +98,28 @@ class Beginning:
         if found is None:
             self._require_no_bid(told.session)
             found = Stored(told.session, told.basis, b"", now_text())
+            if newest is not None:
+                # How long an offer holds does not depend on the session.
+                found = replace(found, offer=newest.offer, until=newest.until)
         if found.basis != told.basis:
             raise NodeRefused(f"{self.store.path(told.session)} is of another basis, {found.basis}: bring back that of this market")
         self._require_terms(found)
-        return found
+        return self._with_newest_setpoint(found)
+
+    def _with_newest_setpoint(self, found: Stored) -> Stored:
+        """The same with the broker's setpoint, if it is that of the disk after a later clearing."""
+        told = self._setpoint(found.session) if found.setpoint else ""
+        if not told or not is_same_setpoint(*(without_until(it) for it in (found.setpoint, told))):
+            return found
+        indices = [json.loads(it).get("clearing") for it in (found.setpoint, told)]
+        is_later = all(type(it) is int for it in indices) and indices[1] > indices[0]
+        return replace(found, setpoint=without_until(told)) if is_later else found
 
     def _require_terms(self, found: Stored) -> None:
         """Raises OtherTerms if a Resume was made under other terms than the node's: its service would refuse it."""
         session, settings = found.session.id, self.settings
         if found.version != VERSION:
-            raise self._first_form(str(self.store.path(found.session)), found.session)
+            raise self._other_version(str(self.store.path(found.session)), found.session)
         try:
             resume = resume_of(settings, found.frame)
         except BadFrame as error:
@@ -124,9 +137,9 @@ class Beginning:
                 "back, or begin a new session at the auctioneer by --new-session"
             )
 
-    def _first_form(self, where: str, session: Session) -> OtherTerms:
+    def _other_version(self, where: str, session: Session) -> OtherTerms:
         return OtherTerms(
-            f"{where} has a Resume of the first form, in session {session.id}: give the node another child number, or begin a new session at "
+            f"{where} has a Resume of another version, in session {session.id}: give the node another child number, or begin a new session at "
             "the auctioneer by --new-session"
         )
 
@@ -135,16 +148,16 @@ class Beginning:
         if told.basis != self.settings.basis:
             raise NodeRefused(f"the market's basis is {told.basis}, and this node has {self.settings.basis}: give it the market's")
 
-    def require_alone(self, session: Session, run: str, started: str, own: int) -> None:
-        """Raises NodeRefused if another process goes on as this node.
+    def require_alone(self, session: Session, run: str, starts: int, own: int) -> None:
+        """Raises NodeRefused if another process goes on as this node. One that has ended by itself does not.
 
-        session:      the session that the node is in
-        run, started: those of this process
-        own:          the last number of the newest Resume of this process
+        session:     the session that the node is in
+        run, starts: those of this process
+        own:         the last number of the newest Resume of this process
         """
         settings = self.settings
-        other = self._state()
-        if other is not None and other.run != run and other.started > started:
+        other = self.state()
+        if other is not None and other.may_live and other.run != run and (other.starts, other.run) > (starts, run):
             topic = settings.topics.of(settings.name, "state")
             raise NodeRefused(
                 f"another process runs as {settings.name} since {other.started}: end one of the two, since a node runs once. "
@@ -158,7 +171,7 @@ class Beginning:
                 f"{settings.name}, or {self.store.path(session)} is an old copy"
             )
 
-    def _state(self) -> StateMessage | None:
+    def state(self) -> StateMessage | None:
         """The state of this node that the broker retains, or None."""
         message = self.seen.get(self.settings.topics.of(self.settings.name, "state"))
         try:
@@ -177,14 +190,19 @@ class Beginning:
         message = self.seen.get(topic)
         if message is None or not message.payload or message.properties.get(SESSION) != session.id:
             return None
-        if message.payload[0] in FIRST_FORM:
-            raise self._first_form(topic, session)
+        if message.payload[0] in FIRST_FORM or message.properties.get(FORM) != str(VERSION):
+            raise self._other_version(topic, session)
         try:
             resume = resume_of(self.settings, message.payload)
         except BadFrame as error:
             self.say(f"{topic} is not taken: {error}")
             return None
         return None if resume is None else (message, resume)
+
+    def bids_of_sum(self, session: Session, frame: bytes) -> str:
+        """Of the bids in a Resume, what the broker's copy of just this Resume tells."""
+        found = self._resume_at_broker(session)
+        return found[0].properties.get(BIDS_OF_SUM, "") if found is not None and found[0].payload == frame else ""
 
     def _newer(self, session: Session, stored: Stored | None) -> Stored | None:
         """The newer of the Resume on disk and the one at the broker; the one on disk if they are of one number."""
@@ -204,7 +222,7 @@ class Beginning:
         setpoint = self._setpoint(session) if isinstance(resume, DeviceResume) else ""
         time = message.properties.get(TIME, now_text())
         # Who is a relay is told with the Resume. What the disk has of children that were let go, and of limits, is not older than it.
-        relays = tuple(int(it) for it in message.properties.get("relays", "").split() if it.isdecimal())
+        relays = tuple(int(it) for it in message.properties.get(RELAYS, "").split() if it.isdecimal())
         known = Stored(session, self.settings.basis, b"", time) if stored is None else stored
         all_relays = tuple(sorted({*relays, *known.relays}))
         return replace(known, basis=self.settings.basis, frame=message.payload, time=time, setpoint=setpoint, relays=all_relays)

@@ -8,8 +8,8 @@ from collections.abc import Callable, Iterable
 from .broker import Message
 from .sessions import now_text
 
-# The most topics that are kept.
-MOST_TOPICS = 100_000
+# The most topics that are kept, and the most bytes of their messages together.
+MOST_TOPICS, MOST_BYTES = 100_000, 67_108_864
 
 
 class Board:
@@ -18,10 +18,12 @@ class Board:
     After a connection was lost, what is there stays. Once the broker has told all that it retains, what it no longer has goes.
     """
 
-    def __init__(self, say: Callable[[str], None], most: int = MOST_TOPICS) -> None:
-        """Takes a call for lines, and the most topics that are kept."""
+    def __init__(self, say: Callable[[str], None], most: int = MOST_TOPICS, bytes_at_most: int = MOST_BYTES) -> None:
+        """Takes a call for lines, the most topics that are kept, and the most bytes."""
         self._say = say
         self._most = most
+        self._bytes_at_most = bytes_at_most
+        self._bytes = 0
         self._lock = threading.Lock()
         # Of each topic the message, and how many connections had been lost when it came.
         self._kept: dict[str, tuple[Message, int]] = {}
@@ -36,15 +38,19 @@ class Board:
         is_full = False
         with self._lock:
             for it in messages:
+                before = self._kept.get(it.topic)
+                more = _size(it) - (_size(before[0]) if before is not None else 0)
                 if not it.payload:
-                    self._kept.pop(it.topic, None)
-                elif it.topic in self._kept or len(self._kept) < self._most:
+                    if self._kept.pop(it.topic, None) is not None:
+                        self._bytes += more - _size(it)
+                elif self._bytes + more <= self._bytes_at_most and (before is not None or len(self._kept) < self._most):
                     self._kept[it.topic] = it, self._losses
+                    self._bytes += more
                 else:
                     is_full = True
             is_news, self._is_full_told = is_full and not self._is_full_told, is_full or self._is_full_told
         if is_news:
-            self._say(f"the page keeps {self._most} topics, and shows no further ones")
+            self._say(f"the page keeps {self._most} topics and {self._bytes_at_most} bytes, and shows no further ones")
         self.on_change()
 
     def lost(self) -> None:
@@ -63,9 +69,15 @@ class Board:
                 return
             self._lost_since = None
             self._kept = {topic: it for topic, it in self._kept.items() if it[1] == self._losses}
+            self._bytes = sum(_size(it) for it, _ in self._kept.values())
         self.on_change()
 
     def copy(self) -> tuple[dict[str, Message], str | None]:
         """The messages, and since when there is no connection, None if one is there."""
         with self._lock:
             return {topic: it for topic, (it, _) in self._kept.items()}, self._lost_since
+
+
+def _size(message: Message) -> int:
+    """The bytes of a message."""
+    return len(message.topic) + len(message.payload) + sum(len(name) + len(it) for name, it in message.properties.items())

@@ -22,16 +22,24 @@ from .connection import (
     new_client,
     paho,
     properties_of,
+    user_properties_of,
     words_of,
     words_of_end,
     words_of_refusal,
 )
 from .settings import BrokerSettings
+from .topics import Topics
 
 # The seconds after which a message that did not come back is told.
 PATIENCE = 10.0
 # The most topics of which messages wait.
 WAITING = 2_048
+# The messages a second of one topic behind which it is read no more, and the seconds after which its newest message is read again.
+FLOOD, REST = 200, 1.0
+# The seconds without a flood after which the next one is told again.
+CALM = 60.0
+# The most topics whose wrong messages are told.
+WRONG = 16
 
 
 @dataclass(frozen=True)
@@ -80,9 +88,9 @@ class Link(Protocol):
     """What a node needs of its connection. All calls are of the node's one thread."""
 
     def start(
-        self, topics: Sequence[str], will: Publication, marker: Callable[[], Publication], written: Sequence[str] = ()
+        self, topics: Sequence[str], will: Callable[[], Publication], marker: Callable[[], Publication], written: Sequence[str] = ()
     ) -> None:
-        """Connects, now and again, with this last will, and reads these topics. The marker is told anew for each connection.
+        """Connects, now and again, and reads these topics. The last will and the marker are made anew for each connection.
 
         written: topics, each with + at its end, that this node alone writes. They are read too: what the broker retains, and then
                  at least up to the first message that comes back, which shows that the node may write them
@@ -109,6 +117,13 @@ class Link(Protocol):
 
     def taken(self) -> list[Message]:
         """The messages that came, the newest alone of each topic, in the order in which they came."""
+
+    @property
+    def has_lost(self) -> bool:
+        """Whether a message was dropped since this was asked last."""
+
+    def read_again(self) -> None:
+        """Lets all that is retained come again, but for what this node alone writes."""
 
     def tick(self) -> None:
         """Says what did not come back for long. To be called a few times a second."""
@@ -150,10 +165,19 @@ class Broker:
         self._properties: Any = None
         self._properties_of: tuple[tuple[str, str], ...] = ()
         self._told: set[str] = set()
+        # The topics whose floods are told, and when each was read no more last.
+        self._floods: dict[str, float] = {}
+        self._counted_at = 0.0
+        self._topics_of_market = Topics(settings.prefix)
         # Of both threads; the locks are never held in a call of paho.
         self._lock = threading.Lock()
         self._inbox: dict[str, Message] = {}
         self._confirms: set[tuple[object, int]] = set()
+        self._has_lost = self._was_lost = self._was_settled = False
+        # How many messages of each topic came since the last count, and those that are read no more for a while, with who sent them.
+        self._counts: dict[str, int] = {}
+        self._rested: dict[str, tuple[float, str]] = {}
+        self._wrong: set[str] = set()
         self._client: Any = None
         self._settled: Any = None
         self._marked: Publication | None = None
@@ -162,7 +186,7 @@ class Broker:
     # The calls of a Link.
 
     def start(
-        self, topics: Sequence[str], will: Publication, marker: Callable[[], Publication], written: Sequence[str] = ()
+        self, topics: Sequence[str], will: Callable[[], Publication], marker: Callable[[], Publication], written: Sequence[str] = ()
     ) -> None:
         """See Link."""
         self._topics, self._will, self._marker = [*topics, *written], will, marker
@@ -200,6 +224,9 @@ class Broker:
         self._sent.clear()
         self._echoes.clear()
         self._told.clear()
+        with self._lock:
+            # A new connection reads all topics.
+            self._rested.clear()
         if client is not None:
             for publication in list(self._newest.values()):
                 self._send(client, publication)
@@ -225,15 +252,33 @@ class Broker:
                     self._read_no_more()
         return found
 
+    @property
+    def has_lost(self) -> bool:
+        """See Link."""
+        found, self._has_lost = self._has_lost, False
+        return found
+
+    def read_again(self) -> None:
+        """See Link."""
+        client = self._settled
+        if client is not None:
+            with self._lock:
+                topics = [it for it in self._topics if it not in self._written and it not in self._rested]
+            self._subscribe(client, topics)
+
     def tick(self) -> None:
         """See Link."""
         self._take_confirms()
         now = time.monotonic()
+        self._take_floods(now)
         if self._client is not None and self._settled is None and now > self._marked_at + self._patience:
-            self._say_no_echo(self._will.topic)
+            self._say_no_echo(self._will().topic)
             self._mark(self._client)
         for topic, since in list(self._echoes.items()):
-            if now > since + self._patience:
+            if self._rested:
+                # What comes back waits behind the flood.
+                self._echoes[topic] = now
+            elif now > since + self._patience:
                 del self._echoes[topic]
                 self._say_no_echo(topic)
 
@@ -249,6 +294,38 @@ class Broker:
         if client is not None:
             client.disconnect()
             self._thread.join(max(0.0, end - time.monotonic()))
+
+    # Floods.
+
+    def _take_floods(self, now: float) -> None:
+        """Tells who floods, and lets the newest message of a topic come that was read no more for a while."""
+        with self._lock:
+            if now > self._counted_at + 1.0:
+                self._counts, self._counted_at = {}, now
+            rested = dict(self._rested)
+            due = [topic for topic, (since, _) in rested.items() if now >= since + REST]
+            for topic in due:
+                del self._rested[topic]
+                self._counts[topic] = 0
+        for topic, (_, sender) in rested.items():
+            if now > self._floods.get(topic, -CALM) + CALM:
+                self._say(f"{topic}: more than {FLOOD} messages a second come{sender and f' from {sender}'}: it is read once a second")
+            self._floods[topic] = now
+        if due and self._settled is not None:
+            self._subscribe(self._settled, due)
+
+    def _is_flood(self, client: Any, found: Message) -> bool:
+        """Counts a message, and reads its topic no more for a while if there are too many. What this node writes is not counted."""
+        topic = found.topic
+        with self._lock:
+            if topic in self._rested:
+                return True
+            count = self._counts[topic] = self._counts.get(topic, 0) + 1
+            if count <= FLOOD or topic in self._newest or topic not in self._topics:
+                return False
+            self._rested[topic] = time.monotonic(), found.properties.get("node", "")[:64]
+        client.unsubscribe(topic)
+        return False
 
     # Publishing.
 
@@ -314,6 +391,7 @@ class Broker:
             return self._worked_connection()
         finally:
             self._client = self._settled = None
+            self._was_lost = True
 
     def _worked_connection(self) -> tuple[bool, str]:
         ended = threading.Event()
@@ -331,7 +409,8 @@ class Broker:
     def _made(self, ended: threading.Event, words: list[str]) -> Any:
         """A client of paho. Raises OSError if a file cannot be read."""
         client = new_client(self.settings, self._client_id, ended, words)
-        client.will_set(self._will.topic, self._will.payload, 1, True)
+        will = self._will()
+        client.will_set(will.topic, will.payload, 1, True)
         client.on_connect = lambda it, _data, _flags, code, _more: self._on_connect(it, code, words)
         client.on_subscribe = lambda it, _data, mid, codes, _more: self._on_subscribe(it, mid, codes)
         client.on_message = lambda it, _data, message: self._on_message(it, message)
@@ -362,21 +441,37 @@ class Broker:
                 self._say(f"{self.settings.address} does not let {self.settings.user or 'this node'} read {topic} ({code})")
 
     def _on_message(self, client: Any, message: Any) -> None:
-        properties = dict(getattr(message.properties, "UserProperty", []))
+        if len(message.payload) > self._topics_of_market.longest(message.topic):
+            self._say_wrong(message.topic, len(message.payload))
+            return
         expiry = getattr(message.properties, "MessageExpiryInterval", None)
-        found = Message(message.topic, bytes(message.payload), properties, bool(message.retain), expiry)
+        found = Message(message.topic, bytes(message.payload), user_properties_of(message), bool(message.retain), expiry)
         marked = self._marked
         if marked is not None and (found.topic, found.payload) == (marked.topic, marked.payload) and self._settled is None:
             self._settled = client
+            if self._was_lost:
+                self._was_lost = False
+                self._say(f"{self.settings.address}: connected{' again' if self._was_settled else ''}")
+            self._was_settled = True
             self._notify(Settled())
+            return
+        if self._is_flood(client, found):
             return
         with self._lock:
             is_first = not self._inbox
             if found.topic in self._inbox or len(self._inbox) < WAITING:
                 self._inbox.pop(found.topic, None)
                 self._inbox[found.topic] = found
+            else:
+                self._has_lost = True
         if is_first:
             self._notify(Arrived())
+
+    def _say_wrong(self, topic: str, count: int) -> None:
+        """Says once that a message of a topic is none of a market."""
+        if topic not in self._wrong and len(self._wrong) < WRONG:
+            self._wrong.add(topic)
+            self._say(f"{topic[:200]}: a message of {count} bytes is not taken: it is no topic of a market, or too long for it")
 
     def _on_publish(self, client: Any, mid: int) -> None:
         with self._lock:

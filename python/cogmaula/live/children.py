@@ -2,8 +2,10 @@
 
 from __future__ import annotations
 
-from collections.abc import Callable, Collection
-from dataclasses import dataclass
+import hashlib
+from collections.abc import Callable, Collection, Iterable
+from dataclasses import dataclass, field
+from functools import cached_property
 
 from .broker import Link, Message, Publication
 from .errors import BadFrame
@@ -14,22 +16,29 @@ from .topics import Topics
 # The user properties of MQTT 5 that frames have: the session, the time, the version of their form. A bid also has the sort and the name
 # of the node that sent it, and that of a device for how many seconds it holds.
 SESSION, TIME, FORM, SORT, NODE, VALID = "session", "time", "version", "sort", "node", "valid"
+# Those of a parent's Resume: which children are relays, and which bids are in its newest sum.
+RELAYS, BIDS_OF_SUM = "relays", "bids"
 
 
 @dataclass(frozen=True)
 class Heard:
     """A Bid or a Gone of a child.
 
-    is_new: whether it is another one than the newest before
     sort:   what the child is, and `node` its name, "" if it does not say
     valid:  for how many seconds it holds, 0 if it does not say
+    is_new: whether it is another one than the newest before
     """
 
     frame: Bid | Gone
-    is_new: bool
     sort: str
     node: str
     valid: float
+    is_new: bool = field(default=True, compare=False)
+
+    @cached_property
+    def digest(self) -> str:
+        """16 hexadecimal digits that no other bid has."""
+        return digest_of(self.frame)
 
 
 class Children:
@@ -43,25 +52,50 @@ class Children:
         self._link = link
         self._say = say
         self._session = ""
-        self._newest: dict[int, Bid | Gone] = {}
+        self._newest: dict[int, Heard] = {}
         # Of each child the one before, which counts again if the newest is too much.
-        self._before: dict[int, Bid | Gone] = {}
+        self._before: dict[int, Heard] = {}
+        # Of each child the one with the greatest number, also if it is too much: no other one has this number, or one below.
+        self._last: dict[int, Bid | Gone] = {}
+        # What the service had been fed when it was asked for the sum that it makes now.
+        self.asked: dict[int, Heard] = {}
         # The topics of the prices for the children that were heard: they are looked at after each confirmation.
         self._price_topics: dict[int, str] = {}
         self._told: set[tuple[int, str]] = set()
+        # Of each child the number and the digest of the bid that was in the newest sum, if the broker alone has it.
+        self._known: dict[int, tuple[int, str]] = {}
 
-    def begin(self, session: str) -> None:
-        """Forgets all of an earlier session."""
+    def begin(self, session: str, kept: Iterable[Heard] = (), known: str = "") -> None:
+        """Forgets all of an earlier session, and goes by what the disk has of this one.
+
+        known: what `words_of_asked` gave of the newest sum
+        """
         self._session = session
-        self._newest.clear()
+        self._known = _known_of(known)
         self._before.clear()
         self._price_topics.clear()
         self._told.clear()
+        self._newest = {it.frame.child: it for it in kept}
+        self._last = {child: it.frame for child, it in self._newest.items()}
+        self.asked = dict(self._newest)
+        for child in self._newest:
+            self._price_topics[child] = self._topics.price(self._node, child)
 
     @property
     def newest(self) -> list[Bid | Gone]:
-        """The newest Bid or Gone of each child, in the order of the children."""
-        return [self._newest[it] for it in sorted(self._newest)]
+        """The newest Bid or Gone of each child that counts, in the order of the children."""
+        return [self._newest[it].frame for it in sorted(self._newest)]
+
+    @property
+    def words_of_asked(self) -> str:
+        """Of each child in the sum its number, that of its bid, and the digest of that. With these a relay that goes on elsewhere knows
+        the bids of its sum, though their children alone have them."""
+        told = {**self._known, **{child: (it.frame.number, it.digest) for child, it in self.asked.items()}}
+        return " ".join(f"{child}:{number}:{digest}" for child, (number, digest) in sorted(told.items()))
+
+    def asks(self) -> None:
+        """Notes that the service is asked for a sum, of what it was fed."""
+        self.asked = dict(self._newest)
 
     @property
     def price_topics(self) -> Collection[str]:
@@ -70,7 +104,10 @@ class Children:
 
     def number(self, child: int) -> int:
         """The newest number that was heard of a child, 0 without one."""
-        return self._newest[child].number if child in self._newest else 0
+        return self._newest[child].frame.number if child in self._newest else 0
+
+    def _is_gone(self, child: int) -> bool:
+        return child in self._newest and isinstance(self._newest[child].frame, Gone)
 
     def taken(self, child: int, message: Message) -> Heard | None:
         """What a message on the topic of a child's bids tells, or None if it is not to be taken."""
@@ -78,40 +115,55 @@ class Children:
             return None
         session = message.properties.get(SESSION, "")
         if session != self._session:
-            self._say_once(child, f"is of session {session or '(none)'} and not {self._session}: it is not taken")
+            self._say_once(child, "session", f"is of session {session or '(none)'} and not {self._session}: it is not taken")
             return None
         if message.properties.get(FORM) != str(VERSION):
-            self._say_once(child, "comes from a node of another version: it is not taken. Install this version there")
+            self._say_once(child, "version", "comes from a node of another version: it is not taken. Install this version there")
             return None
         try:
             frame = frame_of(message.payload, BIDS, self._steps)
         except BadFrame as error:
-            self._say_once(child, f"is no bid, and is not taken: {error}")
+            self._say_once(child, "frame", f"is no bid, and is not taken: {error}")
             return None
         if not isinstance(frame, Bid | Gone):
             return None
         if frame.child != child:
-            self._say_once(child, f"names child {frame.child}, and is not taken")
+            self._say_once(child, "child", f"names child {frame.child}, and is not taken")
             return None
-        heard: Bid | Gone = frame
-        before = self._newest.get(child)
-        if before is not None and frame.number < before.number:
-            self._say_once(child, f"has number {frame.number}, below its last, {before.number}: the child came back with an older Resume")
+        return self._numbered(child, frame, message)
+
+    def _numbered(self, child: int, frame: Bid | Gone, message: Message) -> Heard | None:
+        """The Bid or Gone of a message, or None if its number is not to be taken: a number is of one bid alone, and rises."""
+        last = self._last.get(child)
+        newest, digest = self._known.get(child, (0, "")) if last is None else (last.number, "")
+        if frame.number < newest:
+            told = f"has number {frame.number}, below its last, {newest}: the child came back with an older Resume"
+            self._say_once(child, "below", told)
             return None
-        if before is not None and heard != before:
-            self._before[child] = before
-        self._newest[child] = heard
+        if frame.number == newest and (frame != last if last is not None else digest_of(frame) != digest):
+            self._say_once(child, "again", f"has number {frame.number} once more with another bid: it is not taken, and the first counts")
+            return None
+        heard = Heard(frame, *_sender(message), is_new=frame != last)
+        if heard.is_new:
+            if child in self._newest:
+                self._before[child] = self._newest[child]
+            self._newest[child] = heard
+            self._last[child] = frame
         self._price_topics.setdefault(child, self._topics.price(self._node, child))
-        if isinstance(heard, Gone):
+        if isinstance(frame, Gone):
             self.clear(child)
-        return Heard(heard, heard != before, *_sender(message))
+        return heard
 
     def too_much(self, child: int, number: int) -> None:
         """Notes that the service did not take the child's bid of this number: the one before it counts."""
-        if self.number(child) == number:
-            del self._newest[child]
-            if child in self._before:
-                self._newest[child] = self._before.pop(child)
+        before = self._before.pop(child, None)
+        if before is not None and before.frame.number == number:
+            before = None
+        for bids in (self._newest, self.asked):
+            if child in bids and bids[child].frame.number == number:
+                del bids[child]
+                if before is not None:
+                    bids[child] = before
 
     def lacking(self, numbers: tuple[int, ...]) -> list[int]:
         """The children that were not heard up to these numbers, those of the newest Resume."""
@@ -125,7 +177,7 @@ class Children:
         topic = self._topics.price(self._node, price.child)
         kept = self._link.kept(topic)
         is_newer = isinstance(price, Price) and kept is not None and self._is_newer(kept, price)
-        if not isinstance(self._newest.get(price.child), Gone) and not is_newer:
+        if not self._is_gone(price.child) and not is_newer:
             self._link.publish(Publication(topic, price.to_bytes(), ((TIME, time), (SESSION, self._session), (FORM, str(VERSION)))))
 
     def keep_price(self, child: int, message: Message) -> None:
@@ -136,7 +188,7 @@ class Children:
         topic = self._topics.price(self._node, child)
         if not message.payload or self._link.kept(topic) is not None:
             return
-        if isinstance(self._newest.get(child), Gone) or message.properties.get(SESSION) != self._session:
+        if self._is_gone(child) or message.properties.get(SESSION) != self._session:
             self._link.publish(Publication(topic, b""))
         else:
             self._link.publish(Publication(topic, message.payload, tuple(message.properties.items())))
@@ -157,12 +209,26 @@ class Children:
         if kept is None or kept.payload:
             self._link.publish(Publication(topic, b""))
 
-    def _say_once(self, child: int, why: str) -> None:
+    def _say_once(self, child: int, cause: str, why: str) -> None:
         """Says what is wrong with a child's message, once in a session for each cause."""
-        cause = why.split(" ", 2)[1] if why.startswith("is ") else why.split(" ", 1)[0]
         if (child, cause) not in self._told:
             self._told.add((child, cause))
             self._say(f"{self._topics.bid(self._node, child)} {why}")
+
+
+def digest_of(frame: Bid | Gone) -> str:
+    """16 hexadecimal digits that no other bid has."""
+    return hashlib.sha256(frame.to_bytes()).hexdigest()[:16]
+
+
+def _known_of(words: str) -> dict[int, tuple[int, str]]:
+    """Of each child the number and the digest that some words tell, which this node wrote."""
+    found = {}
+    for word in words.split():
+        parts = word.split(":")
+        if len(parts) == 3 and parts[0].isdecimal() and parts[1].isdecimal():
+            found[int(parts[0])] = int(parts[1]), parts[2]
+    return found
 
 
 def _sender(message: Message) -> tuple[str, str, float]:

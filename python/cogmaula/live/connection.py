@@ -2,7 +2,9 @@
 
 from __future__ import annotations
 
+import socket
 import ssl
+import sys
 import threading
 from collections.abc import Callable
 from typing import Any
@@ -14,6 +16,8 @@ from .settings import BrokerSettings
 FIRST_PAUSE, LONGEST_PAUSE = 1.0, 60.0
 # The longest message taken, in bytes.
 LONGEST = 32_768
+# The most bytes of the user properties of a message: the numbers and digests of 256 bids, and some words.
+LONGEST_PROPERTIES = 12_288
 REFUSED = 128
 NO_LOGIN = {134, 135, 138, 140}
 
@@ -23,7 +27,9 @@ def paho() -> Any:
     try:
         import paho.mqtt.client
     except ImportError:
-        raise NoPackage("a node needs the package paho-mqtt (Debian: python3-paho-mqtt)") from None
+        raise NoPackage(
+            f"a node needs the package paho-mqtt, which {sys.executable} does not have. Debian's python3-paho-mqtt is for /usr/bin/python3"
+        ) from None
     return paho.mqtt.client
 
 
@@ -36,6 +42,12 @@ def properties_of(kind: str, **members: object) -> Any:
     for name, value in members.items():
         setattr(found, name, value)
     return found
+
+
+def user_properties_of(message: Any) -> dict[str, str]:
+    """The user properties of MQTT 5 that a message has. None if they are longer than those of any node."""
+    found = getattr(message.properties, "UserProperty", [])
+    return dict(found) if sum(len(name) + len(value) for name, value in found) <= LONGEST_PROPERTIES else {}
 
 
 def new_client(settings: BrokerSettings, client_id: str, ended: threading.Event, words: list[str]) -> Any:
@@ -67,6 +79,8 @@ def connect(client: Any, settings: BrokerSettings) -> None:
         clean_start=True,
         properties=properties_of("CONNECT", MaximumPacketSize=LONGEST),
     )
+    # A small message goes out at once, and does not wait until the one before is acknowledged.
+    client.socket().setsockopt(socket.IPPROTO_TCP, socket.TCP_NODELAY, 1)
 
 
 def _ending(loop: Callable[..., Any], settings: BrokerSettings, ended: threading.Event, words: list[str]) -> Callable[..., Any]:

@@ -7,9 +7,9 @@ from collections.abc import Callable
 from .control import Control
 from .frames import Setpoint
 from .keeping import Keeping
-from .messages import SilentMessage, back_bytes, setpoint_bytes, with_reference, with_until
+from .messages import SilentMessage, back_bytes, is_same_setpoint, session_bytes, setpoint_bytes, with_reference, with_until
 from .offers import Offers
-from .sessions import now_text
+from .sessions import Session, now_text
 from .settings import Settings
 from .silence import Silence
 
@@ -44,14 +44,24 @@ class Controlling:
     def setpoint(self, setpoint: Setpoint, moment: str, now: float, has_bid: bool) -> None:
         """Stores a setpoint and then tells it, so that after a restart the control is told none that is older.
 
+        One of the same offer and step is only noted: the control is to take just what it was told before.
+
         moment: when the market cleared
         """
         reference = self._offers.references.get(setpoint.number)
         told = setpoint_bytes(setpoint, self._settings.basis, moment, reference)
         self._offers.forget_before(setpoint.number)
-        self._keeping.change(setpoint=told.decode(), references=self._offers.references)
+        stored = self._keeping.stored
+        is_same = stored is not None and is_same_setpoint(stored.setpoint, told.decode())
+        (self._keeping.note if is_same else self._keeping.change)(setpoint=told.decode(), references=self._offers.references)
         self._silence.counts(setpoint.number)
         self.tick(now, has_bid)
+
+    def tell_session(self, session: Session) -> None:
+        """Tells the control that a session has begun: its setpoint of before comes no more."""
+        told = session_bytes(session)
+        self._write(told)
+        self._keeping.publish(self._settings.own_topic("setpoint"), told, now_text())
 
     def keep_references(self, last: int) -> None:
         """Stores the reference of the last offer, which the control made again."""

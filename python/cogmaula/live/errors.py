@@ -30,4 +30,4 @@ class NodeRefused(LiveError):
 
 
 class OtherTerms(NodeRefused):
-    """The stored Resume is of other limits, another place of limits or another basis than the node's settings, or of the first form."""
+    """The stored Resume is of other limits, another place of limits or another basis than the node's settings, or of another version."""

@@ -10,7 +10,7 @@ from .broker import Message
 from .children import SESSION, TIME
 from .errors import BadFrame, BadMessage
 from .frames import BIDS, PRICES, Bid, Gone, Kinds, Old, Price, frame_of
-from .messages import BasisMessage, LapseMessage, SetpointMessage, SilentMessage, StateMessage
+from .messages import BasisMessage, LapseMessage, SetpointMessage, SilentMessage, StateMessage, control_message_of
 from .sessions import time_of
 from .topics import Topics
 
@@ -93,7 +93,7 @@ class Heard:
         elif word == "state":
             self.states[node] = self._read_as(message, StateMessage.of)
         elif word == "setpoint" and self._is_of_session(message):
-            setpoint = self._read_as(message, lambda data: SilentMessage.of(data) or SetpointMessage.of(data))
+            setpoint = self._read_as(message, control_message_of)
             if isinstance(setpoint, SilentMessage):
                 self.silent[node] = setpoint
             elif isinstance(setpoint, SetpointMessage):

@@ -21,16 +21,29 @@ class Keeping:
         # What is stored, None between sessions.
         self.stored: Stored | None = None
         self._session = ""
+        self._is_safe = True
 
     def begin(self, stored: Stored) -> None:
         """Goes by what is stored of a session."""
-        self.stored, self._session = stored, stored.session.id
+        self.stored, self._session, self._is_safe = stored, stored.session.id, True
 
     def change(self, **members: Any) -> None:
         """Stores other members of `Stored`, safely. Raises OSError, and then the node has to end."""
         assert self.stored is not None
+        self.note(**members)
+        self.make_safe()
+
+    def note(self, **members: Any) -> None:
+        """Notes other members of `Stored`, which are stored with the next change: those that may be lost with the process."""
+        assert self.stored is not None
         self.stored = replace(self.stored, **members)
-        self._store.save(self.stored)
+        self._is_safe = False
+
+    def make_safe(self) -> None:
+        """Stores what was noted. Raises OSError, and then the node has to end."""
+        if self.stored is not None and not self._is_safe:
+            self._store.save(self.stored)
+            self._is_safe = True
 
     def publish(self, topic: str, payload: bytes, moment: str, more: tuple[tuple[str, str], ...] = ()) -> None:
         """Publishes what is of the session, or of the one before."""

@@ -54,6 +54,11 @@ class Lapses:
         self._missed.pop(child, None)
         self._children[child] = _Child(node, max(valid, self._times.grace), now)
 
+    def lives(self, child: int, now: float) -> None:
+        """Notes a message of a child whose bid is known."""
+        if child in self._children:
+            self._children[child].heard = now
+
     def forget(self, child: int) -> None:
         """Notes that a child has left, was let go, or is no device."""
         self._children.pop(child, None)

@@ -3,10 +3,10 @@
 from __future__ import annotations
 
 import json
-from collections.abc import Callable
+from collections.abc import Callable, Iterable
 
 from .broker import Link, Message
-from .children import Children
+from .children import Children, Heard
 from .errors import BadMessage, BadSettings
 from .frames import AuctioneerResume, Bound, Expire, Gone, Old, RelayResume, TooMuch
 from .keeping import Keeping
@@ -16,6 +16,9 @@ from .sessions import now_text
 from .settings import Settings
 from .times import Times
 from .topics import require_name
+
+# The most names of nodes that are taken of one child: their states are read.
+NAMES = 4
 
 
 class Letting:
@@ -42,12 +45,22 @@ class Letting:
         self.lapses = Lapses()
         self._numbers: tuple[int, ...] = ()
         self._are_missed = False
+        self._of_child = {it.child: it for it in settings.children}
+        # Of each child the newest message that came before its pause was over, and when that is.
+        self._waiting: dict[int, Message] = {}
+        # The names that each child gave its node.
+        self._names: dict[int, set[str]] = {}
+        self._not_before: dict[int, float] = {}
 
-    def begin(self, resume: RelayResume | AuctioneerResume | None, times: Times) -> None:
-        """Begins a session with its Resume."""
+    def begin(self, resume: RelayResume | AuctioneerResume | None, kept: Iterable[Heard], times: Times, now: float) -> None:
+        """Begins a session with its Resume, and the bids that the disk has of its children: they count as if they were heard now."""
         self.lapses.begin(times)
+        self._waiting.clear()
+        self._not_before.clear()
         self._numbers = () if resume is None else resume.numbers
         self._are_missed = resume is not None
+        for heard in kept:
+            self._note_sender(heard, now)
 
     def resumed(self, resume: RelayResume | AuctioneerResume) -> None:
         """Goes by a newer Resume."""
@@ -60,8 +73,10 @@ class Letting:
 
     def _is_device(self, child: int) -> bool:
         """Whether a child may be let go: it is no relay, and not the place in which limits are given."""
-        stored = self._keeping.stored
-        return stored is not None and child not in stored.relays and child != self._settings.place_of_limits
+        stored, known = self._keeping.stored, self._of_child.get(child)
+        if stored is None or child == self._settings.place_of_limits:
+            return False
+        return child not in stored.relays if known is None or known.sort is None else known.sort == "device"
 
     @property
     def bounds(self) -> list[bytes]:
@@ -80,10 +95,14 @@ class Letting:
         if child == self._settings.place_of_limits:
             self._say(f"{message.topic} is not taken: child {child} is the place in which limits are given")
             return
-        heard = self._children.taken(child, message)
-        if heard is None:
+        if now < self._not_before.get(child, now):
+            self._waiting[child] = message
+            self.lapses.lives(child, now)
             return
-        self._note_sender(child, heard.sort, heard.node, heard.valid, isinstance(heard.frame, Gone), now)
+        heard = self._children.taken(child, message)
+        if heard is None or (message.retained and not heard.is_new):
+            return
+        self._note_sender(heard, now)
         lapsed = self._lapsed.get(child, 0)
         if lapsed and heard.frame.number > lapsed:
             self._comes_back(child)
@@ -91,20 +110,33 @@ class Letting:
             return
         elif lapsed:
             self.lapses.forget(child)
+        if heard.is_new:
+            self._not_before[child] = now + self._pause_of(child)
         self._clear("refused", child)
         self._has_news()
         self._feed(heard.frame.to_bytes())
 
-    def _note_sender(self, child: int, sort: str, node: str, valid: float, is_gone: bool, now: float) -> None:
-        stored = self._keeping.stored
+    def _pause_of(self, child: int) -> float:
+        """The seconds that have to pass between two bids of a child that count."""
+        known = self._of_child.get(child)
+        return self._settings.child_pause if known is None or known.pause is None else known.pause
+
+    def _note_sender(self, heard: Heard, now: float) -> None:
+        child, stored = heard.frame.child, self._keeping.stored
+        known = self._of_child.get(child)
+        sort = heard.sort if known is None or known.sort is None else known.sort
         if sort == "relay" and stored is not None and child not in stored.relays:
             self._keeping.change(relays=tuple(sorted({*stored.relays, child})))
-        if sort != "device" or is_gone:
+        if sort != "device" or isinstance(heard.frame, Gone):
             self.lapses.forget(child)
             return
-        self.lapses.heard(child, node, valid, now)
+        self.lapses.heard(child, heard.node, heard.valid, now)
+        names = self._names.setdefault(child, set())
+        if heard.node in names or len(names) >= NAMES:
+            return
+        names.add(heard.node)
         try:
-            self._link.also_read(self._settings.topics.of(require_name(node, "node"), "state"))
+            self._link.also_read(self._settings.topics.of(require_name(heard.node, "node"), "state"))
         except BadSettings:
             self._say(f"child {child} does not say a name: its last will is not seen")
 
@@ -157,6 +189,8 @@ class Letting:
         if self._keeping.stored is None:
             return
         self.lapses.connected(is_connected, now)
+        for child in [it for it in self._waiting if now >= self._not_before[it]]:
+            self.take_bid(child, self._waiting.pop(child), now)
         if self._are_missed:
             lacking = self._children.lacking(self._numbers)
             missed = [it for it in lacking if self._is_device(it) and it not in self._lapsed]

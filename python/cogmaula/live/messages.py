@@ -14,7 +14,12 @@ from .sessions import Session, time_of
 from .times import Times
 
 # The form of all messages and frames. Nodes of another version do not take part.
-VERSION = 2
+VERSION = 3
+
+# What a control is told first in a later session.
+NEW_SESSION = "new session"
+# Why a node is down, as its last will says.
+LOST = "the connection was lost"
 
 # The greatest reference: each reader of JSON takes whole numbers up to it exactly.
 LAST_REFERENCE = 9_007_199_254_740_991
@@ -81,7 +86,7 @@ class BasisMessage:
         session = Session(_text(told, "session", what), _text(told, "begun", what))
         version = version_of(told)
         if version != VERSION:
-            # The first form has no times.
+            # Earlier versions may have other members.
             return BasisMessage(basis, session, version=version)
         try:
             times = Times(*(_seconds(told, it, what) for it in ("validity", "heartbeat", "grace")))
@@ -101,6 +106,7 @@ class StateMessage:
     """Whether a node's process is up.
 
     run:     16 hexadecimal digits that each start of the process draws anew
+    starts:  how often the node has started, a count that rises from start to start whatever the clock says
     started: when the process started (RFC 3339, UTC)
     session: the id of the auctioneer's session that the node is in, "" before it knows one
     time:    when the state was told; of a last will, when the connection was made
@@ -126,7 +132,13 @@ class StateMessage:
     ceiling: int | None = None
     alarm: str = ""
     silent: str | None = None
+    starts: int = 0
     version: int = VERSION
+
+    @property
+    def may_live(self) -> bool:
+        """Whether the process may be there: it is up, or only its connection was lost."""
+        return self.state == "up" or self.why == LOST
 
     def to_bytes(self) -> bytes:
         """The message."""
@@ -151,7 +163,8 @@ class StateMessage:
             raise BadMessage(f"the state has the child {child}, and not 1 to {CHILDREN}")
         alarm = _text(told, "alarm", what) if "alarm" in told else ""
         silent = None if told.get("silent") is None else _text(told, "silent", what)
-        more = (sort, parent, child, floor, ceiling, alarm, silent, version_of(told))
+        starts = _whole(told, "starts", what) if "starts" in told else 0
+        more = (sort, parent, child, floor, ceiling, alarm, silent, starts, version_of(told))
         return StateMessage(told["state"], run, started, session, time, why, *more)
 
 
@@ -315,6 +328,18 @@ class LapseMessage:
         return LapseMessage(_whole(told, "number", what), _text(told, "why", what), _text(told, "time", what))
 
 
+def control_message_of(data: bytes) -> SetpointMessage | SilentMessage | None:
+    """What a control is told at the topic of its setpoint, None for a new session without a setpoint. Raises BadMessage."""
+    if object_of(data, "the setpoint").get("market") == NEW_SESSION:
+        return None
+    return SilentMessage.of(data) or SetpointMessage.of(data)
+
+
+def session_bytes(session: Session) -> bytes:
+    """What a control is told once a new session has begun: the setpoint before holds until it says, and none of it comes again."""
+    return json.dumps({"market": NEW_SESSION, "session": session.id, "begun": session.begun}).encode()
+
+
 def back_bytes(since: str) -> bytes:
     """What a control is told once the market is back. `since` is when its heartbeat was."""
     return json.dumps({"market": "live", "since": since}).encode()
@@ -341,6 +366,17 @@ def setpoint_bytes(setpoint: Setpoint, basis: Basis, time: str, reference: int |
         "time": time,
     }
     return json.dumps(told if reference is None else {**told, "reference": reference}).encode()
+
+
+def without_until(setpoint: str) -> str:
+    """A setpoint as the control reads it, as it is stored."""
+    return json.dumps({name: it for name, it in json.loads(setpoint).items() if name != "until"})
+
+
+def is_same_setpoint(setpoint: str, other: str) -> bool:
+    """Whether two setpoints are of one offer at one step, with one reference: what the control takes is the same."""
+    told = [{name: it for name, it in json.loads(one).items() if name not in ("clearing", "time")} for one in (setpoint or "{}", other)]
+    return told[0] == told[1]
 
 
 def with_until(setpoint: str, until: str) -> bytes:

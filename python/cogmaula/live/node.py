@@ -5,6 +5,7 @@ One thread does all the work, event by event. This file has the node's connectio
 
 from __future__ import annotations
 
+import hashlib
 import queue
 import secrets
 import sys
@@ -17,8 +18,8 @@ from .broker import Arrived, Broker, Confirmed, Event, Link, Message, Publicatio
 from .children import SESSION, TIME
 from .control import Control, StandardControl
 from .errors import BadFrame, BadMessage, LiveError, NodeRefused
-from .frames import MOST, PRICES, Leave, Old, Price, frame_of
-from .messages import VERSION, BasisMessage, StateMessage, object_of
+from .frames import CHILDREN, MOST, PRICES, Leave, Old, Price, frame_of
+from .messages import LOST, VERSION, BasisMessage, StateMessage, object_of
 from .service import Came, Ended
 from .serving import LAST_SECONDS, Serving
 from .sessions import Session, now_text
@@ -28,6 +29,9 @@ from .store import Store
 
 # The seconds between looks at the clock, if nothing else happens.
 TICK = 0.05
+# The seconds from one reading of all that the broker retains to the next, of a parent and of a device, those without a look at the clock
+# after which it is read sooner, and those to wait then, so that what is queued has come.
+READ_AGAIN, READ_AGAIN_DEVICE, GAP, SOON = 120.0, 600.0, 2.0, 1.0
 
 
 class _Stop:
@@ -69,12 +73,18 @@ class Node:
         self._seen: dict[str, Message] = {}
         self.session: Session | None = None
         self._state_told = self._said = self._parent_state = ""
-        self._offer_at_topic = b""
+        self._begun = ""
+        # When the node looked last, and when it reads again what the broker retains.
+        self._looked = time.monotonic()
+        self._between = READ_AGAIN_DEVICE if settings.sort == "device" else READ_AGAIN
+        # Nodes that start together do not read together.
+        self._read_at = self._looked + self._between * (0.5 + secrets.randbelow(500) / 1_000)
         if control is None and settings.sort == "device" and not settings.leave:
             control = StandardControl()
         self._control = control
         self._link: Link = (make_link or self._broker)(self._events.put, self._say)
         self._store = Store(settings.state, settings.name, settings.sort)
+        self._starts, self._is_first = self._store.next_start(), True
         self.showing = Showing(settings, self._say)
         self.serving = Serving(settings, self._store, self._link, control, self._say, self._events.put)
 
@@ -94,7 +104,7 @@ class Node:
         """
         why = "it failed"
         try:
-            self._link.start(self._subscriptions(), self._state("down", "the connection was lost"), self._marker, self._written())
+            self._link.start(self._subscriptions(), lambda: self._state("down", LOST), self._marker, self._written())
             self.showing.start()
             if self._control is not None:
                 self._control.start(lambda data: self._events.put(_Offered(data)), self._say)
@@ -104,10 +114,14 @@ class Node:
                     break
                 self._take(event)
                 self._link.tick()
+                self._read_again(time.monotonic())
                 self.showing.tick(self._link.is_settled)
                 self.serving.tick(time.monotonic())
                 self._tell_state()
             why = "stopped"
+            if self.settings.leave and self.serving.has_left:
+                why = f"it has left: child {self.settings.child} of {self.settings.parent} is gone as of number {self.serving.last}"
+                self._say(why)
         except (LiveError, OSError) as error:
             why = str(error)
             raise
@@ -129,6 +143,15 @@ class Node:
         except queue.Empty:
             return None
 
+    def _read_again(self, now: float) -> None:
+        """Reads what the broker retains again: now and then, and after a pause in which it may have dropped messages for this node."""
+        if now > self._looked + GAP or self._link.has_lost:
+            self._read_at = min(self._read_at, now + SOON)
+        self._looked = now
+        if now >= self._read_at:
+            self._read_at = now + self._between
+            self._link.read_again()
+
     def _take(self, event: Event | Came | Ended | _Offered | _Stop | None) -> None:
         match event:
             case Settled():
@@ -148,9 +171,10 @@ class Node:
         settings, topics = self.settings, self.settings.topics
         found = [topics.basis, settings.own_topic("state"), settings.own_topic("resume")]
         if settings.sort == "device":
-            found += [settings.own_topic(it) for it in ("offer", "setpoint", "lapsed")]
+            found += [settings.own_topic(it) for it in ("offer", "answer", "setpoint", "lapsed")]
         else:
-            found += [topics.at(settings.name, it, "+") for it in ("bid", "drop", "lapsed", "refused")]
+            found += [topics.bid(settings.name, it) for it in range(1, CHILDREN + 1) if it != settings.place_of_limits]
+            found += [topics.at(settings.name, it, "+") for it in ("drop", "lapsed", "refused")]
             found.append(settings.own_topic("heartbeat"))
         if settings.limits_from:
             found += [settings.own_topic("limits"), settings.own_topic("limits/state")]
@@ -179,7 +203,7 @@ class Node:
         limits = (floor if floor > -MOST else None, ceiling if ceiling < MOST else None)
         life = (self.serving.alarm, self.serving.silent_since(time.monotonic()))
         more = (settings.sort, settings.parent, settings.child, *limits, *life)
-        message = StateMessage(state, self._run_id, self._started, session, now_text(), why, *more)
+        message = StateMessage(state, self._run_id, self._started, session, now_text(), why, *more, starts=self._starts)
         return Publication(settings.own_topic("state"), message.to_bytes())
 
     def _marker(self) -> Publication:
@@ -191,7 +215,7 @@ class Node:
         """Publishes the state if it changed."""
         serving = self.serving
         limits, silent = serving.limiting.given.newest, serving.silent_since(time.monotonic())
-        state = f"{self.session} {serving.why_down} {limits} {serving.alarm} {silent}"
+        state = f"{self.session} {self._starts} {serving.why_down} {limits} {serving.alarm} {silent}"
         if state != self._state_told:
             self._state_told = state
             self._link.publish(self._marker())
@@ -199,7 +223,7 @@ class Node:
     # Messages of the broker.
 
     def _take_messages(self) -> None:
-        found = self._link.taken()
+        found = [it for it in self._link.taken() if not self._is_known(it)]
         self.showing.take(found)
         self._seen.update({it.topic: it for it in found})
         if self.session is not None:
@@ -207,6 +231,12 @@ class Node:
                 self._take_message(message)
         elif self._link.is_settled and any(it.topic == self.settings.topics.basis for it in found):
             self._begin()
+
+    def _is_known(self, message: Message) -> bool:
+        """Whether the broker tells again what it had kept and told before."""
+        known = self._seen.get(message.topic)
+        is_same = known is not None and (known.payload, known.properties) == (message.payload, message.properties)
+        return is_same and message.retained and message.topic != self.settings.topics.basis
 
     def _take_message(self, message: Message) -> None:
         """Takes a message of a node that is in a session."""
@@ -284,11 +314,15 @@ class Node:
             self._say(f"{self.settings.parent} does not take bid {number}: it is {why}. The one before counts")
 
     def _take_offer(self, message: Message) -> None:
-        """Takes an offer of the topic. If the broker sends a kept one again, that does not say that the control lives."""
-        is_again = message.retained and message.expiry is None and message.payload == self._offer_at_topic
-        self._offer_at_topic = message.payload
-        if message.payload and not is_again and not self.settings.leave:
-            self.serving.offers.take(message.payload, time.monotonic(), message.expiry)
+        """Takes an offer of the topic. One that was known before, and that the broker kept, does not say that the control lives."""
+        if not message.payload or self.settings.leave:
+            return
+        offers, digest = self.serving.offers, hashlib.sha256(message.payload).hexdigest()
+        if not message.retained or message.expiry is not None or digest != offers.digest:
+            offers.digest = digest
+            offers.take(message.payload, time.monotonic(), message.expiry)
+        elif self.serving.resume is None and not offers.has_offered:
+            offers.take_kept(message.payload, time.monotonic())
 
     def _take_parent_state(self, message: Message) -> None:
         try:
@@ -323,33 +357,54 @@ class Node:
         self._take_basis()
         self._link.publish_all()
 
+    def _count_start(self) -> None:
+        """Lets this start count more than each that the broker knows of, once in a process: the disk may be another one."""
+        known = self._beginning.state()
+        if self._is_first and known is not None and known.run != self._run_id and known.starts >= self._starts:
+            self._starts = self._store.next_start(known.starts)
+        self._is_first = False
+
     def _require_alone(self) -> None:
         if self.session is not None:
-            self._beginning.require_alone(self.session, self._run_id, self._started, self.serving.last)
+            self._beginning.require_alone(self.session, self._run_id, self._starts, self.serving.last)
 
     def _begin(self) -> None:
         """Enters a session, if the broker and the disk tell one."""
+        self._count_start()
         beginning = self._beginning
         stored = beginning.of_auctioneer() if self.settings.sort == "auctioneer" else beginning.of_other()
         if stored is None:
             return
         resume = resume_of(self.settings, stored.frame)
-        beginning.require_alone(stored.session, self._run_id, self._started, 0 if resume is None else resume.last)
+        beginning.require_alone(stored.session, self._run_id, self._starts, 0 if resume is None else resume.last)
+        if self.settings.leave and resume is None:
+            raise NodeRefused(
+                f"{self.settings.name} has nothing to leave: no Resume of it in session {stored.session.id} is on this disk or at the broker. "
+                f"If {self.settings.parent} counts it still: cogmaula market drop {self.settings.parent} {self.settings.child}"
+            )
         if self.settings.sort == "auctioneer" or stored.frame:
             self._store.save(stored)
+        is_later, self._begun = self._session_before() not in ("", stored.session.id), stored.session.id
         self.session = stored.session
         self._tell_basis()
         told = beginning.basis()
         times = self.settings.times if self.settings.sort == "auctioneer" or told is None else told.times
-        self.serving.begin(stored, resume, times, time.monotonic())
+        self.serving.begin(stored, resume, times, time.monotonic(), beginning.bids_of_sum(stored.session, stored.frame))
         if self.settings.leave:
             self.serving.offers.want(Leave())
+        elif is_later and self.settings.sort == "device":
+            self.serving.controlling.tell_session(stored.session)
         # Whether the market lives, and counts this device, is known before the control is told anything.
         first = [f"/{it}" for it in ("heartbeat", "lapsed/" + str(self.settings.child))]
         messages = sorted(self._seen.values(), key=lambda it: not it.topic.endswith(tuple(first)))
         self._take_all([it for it in messages if it.topic.endswith(tuple(first))])
         self.serving.start(time.monotonic())
         self._take_all([it for it in messages if not it.topic.endswith(tuple(first))])
+
+    def _session_before(self) -> str:
+        """The id of the session before, in this process or on disk, "" without one."""
+        newest = None if self._begun else self._store.newest()
+        return self._begun if newest is None else newest.session.id
 
     def _take_all(self, messages: list[Message]) -> None:
         for message in messages:

@@ -3,14 +3,14 @@
 from __future__ import annotations
 
 from collections.abc import Callable, Mapping
-from datetime import datetime, timezone
+from datetime import datetime, timedelta, timezone
 
 from ..cluster import Basis
 from .errors import BadMessage
 from .frames import DeviceResume, Leave, Offer, Points, ResumeGone, Stated, Wanted
 from .kinds import DeviceKind
 from .messages import OfferMessage
-from .sessions import time_of
+from .sessions import time_of, time_text
 
 # The seconds after which an offer is made again that the full window did not let through.
 AGAIN = 1.0
@@ -19,15 +19,29 @@ AGAIN = 1.0
 class Offers:
     """The newest offer of the control, until the agent has answered it, and how long it holds."""
 
-    def __init__(self, basis: Basis, validity: float | None, say: Callable[[str], None], kind: DeviceKind | None = None) -> None:
+    def __init__(
+        self,
+        basis: Basis,
+        validity: float | None,
+        say: Callable[[str], None],
+        kind: DeviceKind | None = None,
+        answer: Callable[[str], None] = lambda why: None,
+    ) -> None:
         """Takes the basis of the market, the seconds that an offer holds, None without an end, a call for lines, and the device's kind.
 
         The kind is None for a device whose control says no state, or names the kind itself.
+
+        answer: takes why an offer was dropped, "" for one that was taken
         """
         self._basis = basis
         self._validity = validity
         self._say = say
         self._kind = kind
+        self._answer = answer
+        # The digest of the newest offer at the topic, and what the control offered last, with its reference.
+        self.digest = ""
+        self._offered: tuple[Wanted, int | None] | None = None
+        self._has_begun = False
         self._wanted: Wanted | None = None
         self._asked: Wanted | None = None
         # By which words the last offer was made, None if by its powers, or not in this run.
@@ -44,13 +58,45 @@ class Offers:
         self.current: tuple[int, ...] | None = None
         self.since: float | None = None
 
-    def begin(self, resume: DeviceResume | ResumeGone | None, now: float, references: Mapping[int, int] | None = None) -> None:
-        """Goes by the Resume that the agent begins with, None for an agent that never offered, and the references kept with it."""
+    def begin(
+        self, resume: DeviceResume | ResumeGone | None, now: float, references: Mapping[int, int] | None = None, until: str = ""
+    ) -> None:
+        """Goes by the Resume that the agent begins with, None for an agent that never offered, and what was kept with it.
+
+        until: until when its offer holds (RFC 3339), "" if that is not known
+
+        What the control offered before in this process, in a session that is over, is offered again while it holds.
+        """
+        before, held = self._offered, self._until
         self.references = dict(references or {})
         self._last = 0 if resume is None else resume.last
         self.current, self._made = (resume.demands if isinstance(resume, DeviceResume) else None), None
-        self._until = None if self._validity is None else now + self._validity
+        self._wanted = self._wanted if isinstance(self._wanted, Leave) else None
+        self._offered = None
+        self._until = held if self._has_begun and resume is None else self._left(now, until)
+        self._has_begun = True
         self.forget()
+        if before is not None and (held is None or held > now):
+            self._until = held
+            self._want_offer(*before)
+
+    def _left(self, now: float, until: str) -> float | None:
+        """When an offer ends that was made before this process."""
+        ends = [] if self._validity is None else [now + self._validity]
+        if until:
+            ends.append(now + (time_of(until) - datetime.now(timezone.utc)).total_seconds())
+        return min(ends, default=None)
+
+    def ends_at(self, now: float) -> str:
+        """Until when the newest offer holds (RFC 3339), "" without an end."""
+        return "" if self._until is None else time_text(datetime.now(timezone.utc) + timedelta(seconds=self._until - now))
+
+    def has_later_end(self, stored: str, now: float) -> bool:
+        """Whether the newest offer holds for much longer than is stored."""
+        if self._until is None or self._validity is None or self.current is None or not stored:
+            return False
+        left = (time_of(stored) - datetime.now(timezone.utc)).total_seconds()
+        return self._until - now - left > self._validity / 4
 
     def forget(self) -> None:
         """Notes that the service starts anew: what it was asked and did not answer is asked again."""
@@ -61,17 +107,44 @@ class Offers:
         try:
             message = OfferMessage.of(data, self._basis, self._kind)
         except BadMessage as error:
-            self._say(f"an offer is not taken: {error}")
+            self._drop(str(error))
             return
         self._kind = message.kind
         if message.frame is None:
             return
         until = self._end_of(message, now, expiry)
         if until is not None and until <= now:
-            self._say(f"an offer of {message.time} is not taken: it is older than its validity")
+            self._drop(f"that of {message.time} is older than its validity")
             return
         self._until = until
-        self.want(message.frame, message.reference)
+        self._answer("")
+        if isinstance(message.frame, Leave):
+            self._offered = None
+            self.want(message.frame)
+        else:
+            self._want_offer(message.frame, message.reference)
+
+    @property
+    def has_offered(self) -> bool:
+        """Whether the control has offered in this process, and what it offered holds."""
+        return self._offered is not None
+
+    def take_kept(self, data: bytes, now: float) -> None:
+        """Takes an offer that the broker had kept and that was known before: it holds as long as it did then."""
+        until = self._until
+        if until is None or until > now:
+            self.take(data, now, None if until is None else max(0, int(until - now)))
+            self._until = until
+        else:
+            self._drop("it was known before, and its validity has ended")
+
+    def _drop(self, why: str) -> None:
+        self._say(f"an offer is not taken: {why}")
+        self._answer(why)
+
+    def _want_offer(self, frame: Wanted, reference: int | None) -> None:
+        self._offered = frame, reference
+        self.want(frame, reference)
 
     def want(self, frame: Wanted, reference: int | None = None) -> None:
         """Wants a frame, in place of one that was not yet asked. What the agent already does is not asked again.
@@ -109,7 +182,7 @@ class Offers:
         """What to ask the agent for now, or None. It counts as asked."""
         if self._until is not None and now > self._until and self.current is not None and not isinstance(self._wanted, Leave):
             self._say("the control was silent for longer than the validity of its offer: the device leaves")
-            self._wanted = Leave()
+            self._wanted, self._offered = Leave(), None
         if self._wanted is None or self._asked is not None or now < self._not_before:
             return None
         if isinstance(self._wanted, Leave) and self.current is None:

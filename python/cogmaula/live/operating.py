@@ -9,7 +9,7 @@ from collections.abc import Callable
 from typing import Any
 
 from .children import SORT
-from .connection import REFUSED, connect, new_client, paho, words_of, words_of_refusal
+from .connection import REFUSED, connect, new_client, paho, user_properties_of, words_of, words_of_refusal
 from .errors import BadMessage, LiveError
 from .given import LimitsMessage
 from .messages import LapseMessage, StateMessage, object_of
@@ -66,7 +66,7 @@ class Words:
         self._is_there = True
 
     def _on_message(self, message: Any) -> None:
-        properties = dict(getattr(message.properties, "UserProperty", []))
+        properties = user_properties_of(message)
         with self._lock:
             self._newest[message.topic] = bytes(message.payload), properties, bool(message.retain)
         self._came = time.monotonic()

@@ -8,7 +8,7 @@ from collections.abc import Callable
 from typing import Any
 
 from .board import Board
-from .broker import Message
+from .broker import FLOOD, Message
 from .connection import (
     FIRST_PAUSE,
     LONGEST_PAUSE,
@@ -17,15 +17,19 @@ from .connection import (
     keep_connected,
     new_client,
     paho,
+    user_properties_of,
     words_of,
     words_of_end,
     words_of_refusal,
 )
 from .settings import BrokerSettings
+from .topics import Topics
 
 # The seconds without a retained message after which the broker has told all that it retains of a topic.
 QUIET = 0.3
 TICK = 0.05
+# The seconds for which the topics of one word are read no more after a flood of one of them.
+REST = 60.0
 
 
 class Reader:
@@ -42,13 +46,17 @@ class Reader:
         """Takes the settings with the login that reads, the board, and a call for lines. Raises NoPackage if paho is missing."""
         self._options = paho().SubscribeOptions(qos=1)
         self.settings = settings
+        self._topics_of_market = Topics(settings.prefix)
         self._client_id = client_id
         self._board = board
         self._say = say
         self._pauses = pauses
         self._closing = threading.Event()
         self._is_there = False
-        self._came_at = 0.0
+        self._came_at = self._counted_at = 0.0
+        # How many messages of each topic came within a second, and since when topics are read no more for a while.
+        self._counts: dict[str, int] = {}
+        self._rested: dict[str, float] = {}
         self._thread = threading.Thread(target=self._run, daemon=True)
 
     def start(self) -> None:
@@ -78,7 +86,7 @@ class Reader:
             client = new_client(self.settings, self._client_id, ended, words)
             client.on_connect = lambda _it, _data, _flags, code, _more: self._on_connect(code, words)
             client.on_subscribe = lambda _it, _data, _mid, codes, _more: self._on_subscribe(codes)
-            client.on_message = lambda _it, _data, message: self._on_message(message)
+            client.on_message = lambda it, _data, message: self._on_message(it, message)
             client.on_disconnect = lambda _it, _data, code, _more: self._on_disconnect(code, ended, words)
             connect(client, self.settings)
         except (OSError, ValueError) as error:
@@ -92,7 +100,11 @@ class Reader:
     def _read(self, client: Any, ended: threading.Event) -> None:
         """Reads one topic after the other, and then all that comes, until the connection ends or is to end."""
         waiting, is_settled = self.topics, False
+        self._rested.clear()
         while not ended.wait(TICK):
+            for topic in [it for it, since in list(self._rested.items()) if time.monotonic() > since + REST]:
+                del self._rested[topic]
+                client.subscribe([(topic, self._options)])
             if self._closing.is_set():
                 client.disconnect()
                 ended.wait(1)
@@ -118,11 +130,28 @@ class Reader:
             if code.value >= REFUSED:
                 self._say(f"{self.settings.address} does not let {self.settings.user or 'the page'} read {self.settings.prefix}/# ({code})")
 
-    def _on_message(self, message: Any) -> None:
+    def _on_message(self, client: Any, message: Any) -> None:
         if message.retain:
             self._came_at = time.monotonic()
-        properties = dict(getattr(message.properties, "UserProperty", []))
-        self._board.take([Message(message.topic, bytes(message.payload), properties, bool(message.retain))])
+        else:
+            self._count(client, message.topic)
+        if len(message.payload) <= self._topics_of_market.longest(message.topic):
+            self._board.take([Message(message.topic, bytes(message.payload), user_properties_of(message), bool(message.retain))])
+
+    def _count(self, client: Any, topic: str) -> None:
+        """Counts a message, and reads all topics of its word no more for a while if one of them is flooded."""
+        now = time.monotonic()
+        if now > self._counted_at + 1.0:
+            self._counts, self._counted_at = {}, now
+        self._counts[topic] = self._counts.get(topic, 0) + 1
+        parts = self._topics_of_market.parts_of(topic)
+        if self._counts[topic] <= FLOOD or parts is None:
+            return
+        word = f"{self.settings.prefix}/+/{parts[1]}" + ("" if parts[2] is None else "/+")
+        if word not in self._rested:
+            self._rested[word] = now
+            self._say(f"{topic}: more than {FLOOD} messages a second come: {word} is not read for {REST:g} s")
+            client.unsubscribe(word)
 
     def _on_disconnect(self, code: Any, ended: threading.Event, words: list[str]) -> None:
         if not words:

@@ -7,14 +7,17 @@ recorded is recorded first: a frame before it is fed or handled, and all on disk
 
 from __future__ import annotations
 
+import json
 import time
 from collections import deque
 from collections.abc import Callable, Collection
+from dataclasses import replace
 
 from .asking import Asking
 from .beating import Beating
+from .bids import BidLog
 from .broker import Link, Publication
-from .children import NODE, SORT, VALID, Children
+from .children import BIDS_OF_SUM, NODE, RELAYS, SORT, VALID, Children
 from .control import Control
 from .controlling import Controlling
 from .errors import LiveError, OtherTerms
@@ -81,10 +84,11 @@ class Serving:
         self._say = say
         self._notify = notify
         self.children = Children(settings.name, settings.topics, settings.basis.steps, link, say)
-        self.offers = Offers(settings.basis, settings.offer_validity, say, settings.device)
+        self.offers = Offers(settings.basis, settings.offer_validity, say, settings.device, self._answer)
         self._asking = Asking(settings.period, settings.pause)
         self._recording = Recording(settings)
         self.keeping = Keeping(store, link)
+        self._bids = BidLog(store.folder, settings.basis.steps)
         self.beating = Beating(settings, self.keeping, link)
         self.controlling = Controlling(settings, self.keeping, self.offers, self.beating.silence, control, say)
         self.letting = Letting(settings, self.keeping, link, self.children, say, self._feed, self._asking.has_news)
@@ -99,6 +103,8 @@ class Serving:
         # An Old that says that the device was let go, and whether the service has still to be fed it.
         self._old: Old | None = None
         self._is_old_due = False
+        # The children that are awaited, and since when.
+        self._lacking: list[int] = []
         # The number of the Bid or Gone that was published last, and how many prices were of another basis.
         self._bid = self.other_basis = 0
         self._times: dict[int, str] = {}
@@ -107,16 +113,21 @@ class Serving:
 
     # From a session's begin to its end.
 
-    def begin(self, stored: Stored, resume: Resume | None, times: Times, now: float) -> None:
-        """Begins a session with what is stored of it, and the times of the market."""
+    def begin(self, stored: Stored, resume: Resume | None, times: Times, now: float, known: str = "") -> None:
+        """Begins a session with what is stored of it, and the times of the market.
+
+        known: of the bids in the Resume, what the broker's copy of it tells
+        """
         self.keeping.begin(stored)
         self.resume = resume
-        self.children.begin(stored.session.id)
         self.beating.begin(times, now)
-        self.offers.begin(resume if isinstance(resume, DeviceResume | ResumeGone) else None, now, stored.references)
+        self.offers.begin(resume if isinstance(resume, DeviceResume | ResumeGone) else None, now, stored.references, stored.until)
+        self.offers.digest = self.offers.digest or stored.offer
         self.controlling.begin()
         if self._settings.sort != "device":
-            self.letting.begin(resume if isinstance(resume, RelayResume | AuctioneerResume) else None, times)
+            kept = self._bids.begin(stored.session)
+            self.children.begin(stored.session.id, kept, known)
+            self.letting.begin(resume if isinstance(resume, RelayResume | AuctioneerResume) else None, kept, times, now)
         if self._settings.sort == "relay":
             self.limiting.begin(resume if isinstance(resume, RelayResume) else None)
         if stored.frame:
@@ -133,9 +144,14 @@ class Serving:
 
     @property
     def alarm(self) -> str:
-        """What is wrong with a relay's limits or with the basis of its prices, "" if nothing is."""
+        """What is wrong with a relay's limits or the basis of its prices, and whom a parent waits for; "" if nothing is."""
         basis = f"{self.other_basis} prices were of another basis" if self.other_basis else ""
-        return "; ".join(it for it in (self.limiting.alarm, basis) if it)
+        return "; ".join(it for it in (self._words_of_lacking, self.limiting.alarm, basis) if it)
+
+    @property
+    def _words_of_lacking(self) -> str:
+        children = ", ".join(map(str, self._lacking))
+        return f"waits for the bids of children {children}, which were in the newest sum" if children else ""
 
     def silent_since(self, now: float) -> str | None:
         """Since when the node hears no heartbeat, or is let go (RFC 3339), None if neither is so."""
@@ -153,6 +169,14 @@ class Serving:
         service, self.service = self.service, None
         if service is not None:
             service.close(LAST_SECONDS)
+        try:
+            self.keeping.make_safe()
+        finally:
+            self._forget(why)
+
+    def _forget(self, why: str) -> None:
+        self._bids.close()
+        self._lacking = []
         self.keeping.stored = self.resume = self._price = self._old = None
         self._is_price_due = self._is_old_due = False
         self.why_down = why
@@ -203,6 +227,8 @@ class Serving:
         self._times[price.index] = moment
         while len(self._times) > TIMES:
             del self._times[min(self._times)]
+        if price == self._price and not self._is_price_due:
+            return
         self._price, self._is_price_due = price, True
         self._feed_price()
 
@@ -233,8 +259,8 @@ class Serving:
     def tick(self, now: float) -> None:
         """Starts the service anew, asks it, and ends one that does not answer. To be called after each event, and by a clock."""
         self.work()
-        if self.stored is not None and self.offers.references != self.stored.references:
-            self.controlling.keep_references(self.last)
+        if self.stored is not None and self._settings.sort == "device":
+            self._keep_offer(now)
         if self.stored is not None and self.service is None and now >= self._restart_at:
             self._start(now)
         self._tell_life(now)
@@ -248,12 +274,35 @@ class Serving:
                 self._feed(data)
         elif not self._pending and self._asking.is_due(now):
             self._asking.asked(now)
+            self.children.asks()
             self._feed((Clear() if self._settings.sort == "auctioneer" else Send()).to_bytes())
         since = self.offers.since if self._settings.sort == "device" else self._asking.since
         if since is not None and now > max(since, self._came_at) + PATIENCE and not self._pending:
             self._say(f"the service has not answered for {PATIENCE:g} s: it is ended")
             self._came_at = now
             self.service.kill()
+
+    def _keep_offer(self, now: float) -> None:
+        """Stores what changed of the device's offer without a new number: its reference, and until when it holds."""
+        assert self.stored is not None
+        if self.offers.references != self.stored.references:
+            self.controlling.keep_references(self.last)
+        if self.offers.has_later_end(self.stored.until, now):
+            self.keeping.change(**self._offer(now))
+
+    def _offer(self, now: float) -> dict[str, str]:
+        """What is stored of the newest offer."""
+        return {"offer": self.offers.digest, "until": self.offers.ends_at(now)}
+
+    def _answer(self, why: str) -> None:
+        """Tells a control at its topic why its offer was dropped; "" for one that was taken."""
+        topic = self._settings.own_topic("answer")
+        if why:
+            self.keeping.publish(topic, json.dumps({"why": why, "time": now_text()}).encode(), now_text())
+        else:
+            kept = self._link.kept(topic)
+            if kept is not None and kept.payload:
+                self.keeping.clear(topic)
 
     def _tell_life(self, now: float) -> None:
         """Tells below that the market lives, and lets go of children that do not."""
@@ -344,8 +393,10 @@ class Serving:
                 self._say(f"the price of clearing {frame.index} is of another basis, and is not taken: give {self._settings.parent} this basis")
             case NotChanged():
                 self._asking.answered()
+                self._lacking = []
             case WindowFull():
                 self._asking.answered(again=True)
+                self._lacking = []
                 self.offers.refused(time.monotonic())
             case NotCaughtUp():
                 self._asking.answered(again=True)
@@ -370,15 +421,28 @@ class Serving:
         return who if settings.sort == "relay" else (*who, (VALID, f"{self.beating.silence.times.grace:g}"))
 
     def _keep(self, resume: Resume) -> None:
-        """Stores a Resume, before any frame behind it is handled. Raises OSError, and then the node has to end."""
+        """Stores a Resume, before any frame behind it is handled. Raises OSError, and then the node has to end.
+
+        The bids of the children that are in it are safe on disk before. One of a device with another price alone is noted, and stored
+        with the next change: a device may come back with an older price.
+        """
         assert self.stored is not None
-        setpoint = "" if isinstance(resume, ResumeGone) else self.stored.setpoint
-        references = self.offers.references_with(resume) if isinstance(resume, DeviceResume | ResumeGone) else {}
+        before, self.resume = self.resume, resume
+        noted: dict[str, object] = {"basis": self._settings.basis, "frame": resume.to_bytes(), "time": now_text()}
+        if isinstance(before, DeviceResume) and isinstance(resume, DeviceResume) and is_of_another_price(before, resume):
+            self.keeping.note(**noted)
+            self.offers.resumed(resume)
+            return
+        if isinstance(resume, DeviceResume | ResumeGone):
+            references = self.offers.references_with(resume)
+            setpoint = "" if isinstance(resume, ResumeGone) else self.stored.setpoint
+            noted |= {"setpoint": setpoint, "references": references, **self._offer(time.monotonic())}
         self._recording.make_safe()
-        basis = self._settings.basis
-        self.keeping.change(basis=basis, frame=resume.to_bytes(), time=now_text(), setpoint=setpoint, references=references)
+        if isinstance(resume, RelayResume | AuctioneerResume):
+            self._bids.make_safe(self.children.asked)
+        self.keeping.change(**noted)
         self._recording.stored()
-        self.resume = resume
+        self._lacking = []
         self._publish_resume(self.stored)
         match resume:
             case DeviceResume() | ResumeGone():
@@ -391,9 +455,11 @@ class Serving:
                 self.limiting.resumed(resume)
 
     def _publish_resume(self, stored: Stored) -> None:
-        """Hands a copy of the Resume to the broker, with the children that are relays."""
-        more = (("relays", " ".join(map(str, stored.relays))),) if stored.relays else ()
-        self.keeping.publish(self._settings.own_topic("resume"), stored.frame, stored.time, more)
+        """Hands a copy of the Resume to the broker, with the children that are relays, and of the bids in it the digests."""
+        more = ((RELAYS, " ".join(map(str, stored.relays))),) if stored.relays else ()
+        words = self.children.words_of_asked
+        bids = ((BIDS_OF_SUM, words),) if words else ()
+        self.keeping.publish(self._settings.own_topic("resume"), stored.frame, stored.time, more + bids)
 
     def _time_of(self, index: int) -> str:
         """When the clearing of this index was, "" if that was not told."""
@@ -403,10 +469,16 @@ class Serving:
         return self._times.get(index, "")
 
     def _say_lacking(self) -> None:
-        """Says which children are awaited, not more often than once in a while."""
+        """Notes which children are awaited, and says so, not more often than once in a while."""
         now = time.monotonic()
-        if now < self._lines_from or not isinstance(self.resume, RelayResume | AuctioneerResume):
+        if not isinstance(self.resume, RelayResume | AuctioneerResume):
             return
-        self._lines_from = now + BETWEEN_LINES
-        children = ", ".join(map(str, self.children.lacking(self.resume.numbers)))
-        self._say(f"waits for the bids of children {children}, which were in the newest sum: are their nodes up?")
+        self._lacking = self.children.lacking(self.resume.numbers)
+        if now >= self._lines_from:
+            self._lines_from = now + BETWEEN_LINES
+            self._say(f"{self._words_of_lacking}: are their nodes up?")
+
+
+def is_of_another_price(before: DeviceResume, now: DeviceResume) -> bool:
+    """Whether two Resumes of a device differ at most in the price that was taken."""
+    return replace(before, index=0) == replace(now, index=0)

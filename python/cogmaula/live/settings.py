@@ -3,6 +3,7 @@
 from __future__ import annotations
 
 import os
+import shutil
 import tomllib
 from collections.abc import Mapping, Sequence
 from dataclasses import dataclass, field, fields
@@ -78,16 +79,32 @@ class BrokerSettings:
         return os.environ.get(PASSWORD_VARIABLE)
 
 
+def _require_child_pause(pause: float | None, what: str) -> None:
+    if pause is not None and not 0 <= pause <= 1e9:
+        raise BadSettings(f"{what} {pause}: give 0 seconds or more")
+
+
 @dataclass(frozen=True)
 class ChildSettings:
-    """What a parent's file says of one child: its number, and the least and the greatest power in watts that it may bid."""
+    """What a parent's file says of one child.
+
+    child:    its number
+    least:    the least power in watts that it may bid, and `greatest` the greatest
+    sort:     what it is, device or relay; None goes by what it says itself. A relay is never let go
+    pause:    the seconds between two bids of it that count; None takes child_pause of the node
+    """
 
     child: int
     least: int = -MOST
     greatest: int = MOST
+    sort: str | None = None
+    pause: float | None = None
 
     def __post_init__(self) -> None:
         """Raises BadSettings."""
+        if self.sort not in (None, "device", "relay"):
+            raise BadSettings(f"child {self.child} is a {self.sort!r}: give device or relay")
+        _require_child_pause(self.pause, f"child {self.child} has a pause of")
         if not 1 <= self.child <= CHILDREN:
             raise BadSettings(f"children has the child {self.child}: give 1 to {CHILDREN}")
         if not are_limits(self.least, self.greatest):
@@ -107,6 +124,7 @@ class Settings:
     floor:    the least power that a relay announces, in watts, at most 0; ceiling the greatest, at least 0
     period:   the seconds from one Clear or Send to the next, by the clock; None asks after news
     pause:    the least seconds between two of them if they come after news
+    child_pause: of a parent, the least seconds between two bids of one child that count
     limits_from: whether a relay takes limits that are given while the market lives, as of a grid operator
     giver:    the child number that is kept free for them
     validity, heartbeat, grace: the times of the market that an auctioneer tells, in seconds; None takes the default. See Times
@@ -133,6 +151,7 @@ class Settings:
     ceiling: int = MOST
     period: float | None = None
     pause: float = 1.0
+    child_pause: float = 0.0
     limits_from: bool = False
     giver: int = CHILDREN
     validity: float | None = None
@@ -158,6 +177,7 @@ class Settings:
         self._require_basis()
         self._require_limits()
         self._require_children()
+        self._require_page_login()
         if (self.new_session and self.sort != "auctioneer") or (self.leave and self.sort != "device"):
             raise BadSettings("new_session is for an auctioneer, and leave for a device")
         if self.device is not None and self.sort != "device":
@@ -202,6 +222,26 @@ class Settings:
             if child == self.place_of_limits:
                 raise BadSettings(f"child {child} is the place in which limits are given: give another giver")
 
+    def _require_page_login(self) -> None:
+        """Raises BadSettings if the page reads by the node's own login: a broker lets each login have one connection."""
+        if self.page is not None and self.page.whole and self.broker.user is not None and self.page.user in (None, self.broker.user):
+            raise BadSettings("page.whole reads by a connection of its own: give page.user and page.password_file, a login of its own")
+
+    def require_files(self) -> None:
+        """Raises BadSettings if a file that the node needs is missing or cannot be read: the program live, the CA, the password, the key."""
+        if shutil.which(self.live) is None:
+            raise BadSettings(f"node.live is {self.live!r}, and there is no such program: give the program live by --live")
+        broker = self.broker
+        files = {"ca": broker.ca, "certificate": broker.certificate, "key": broker.key, "password_file": broker.password_file}
+        for name, path in files.items():
+            if path is None:
+                continue
+            try:
+                with open(path, "rb"):
+                    pass
+            except OSError as error:
+                raise BadSettings(f"broker.{name} is {path}, which cannot be read: {error.strerror}") from None
+
     def _require_place(self) -> None:
         if self.sort == "auctioneer":
             if self.parent is not None or self.child is not None:
@@ -218,6 +258,9 @@ class Settings:
         for name, value in (("period", self.period), ("pause", self.pause), ("offer_validity", self.offer_validity)):
             if value is not None and not 0.01 <= value <= 1e9:
                 raise BadSettings(f"{name} is {value}: give 0.01 seconds or more")
+        _require_child_pause(self.child_pause, "child_pause is")
+        if self.sort == "device" and self.child_pause:
+            raise BadSettings("a device has no children: take child_pause out")
         if self.sort == "device" and self.validity is not None:
             raise BadSettings("validity of a device is offer_validity now: write that. The market's own validity is the auctioneer's")
         if self.sort != "auctioneer" and (self.validity, self.heartbeat, self.grace) != (None, None, None):

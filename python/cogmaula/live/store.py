@@ -1,9 +1,9 @@
 """A node's Resume on disk: one file for each session of the auctioneer, replaced as a whole, checked when it is read.
 
-A file has a line that says what it is, the SHA-256 of all behind it, a line of JSON, and the bytes of the Resume or ResumeGone.
+A file has a line that says what it is, the SHA-256 of that and of all behind it, a line of JSON, and the bytes of the Resume or ResumeGone.
 The JSON has the node, its sort, the session and the basis that the Resume is of, the time it was stored, the frame's length in
-bytes, of a device the newest setpoint and the references of its offers, and of a parent which children are relays, which were let
-go, and the limits that it was given last.
+bytes, of a device the newest setpoint, the references of its offers and until when the newest offer holds, and of a parent which
+children are relays, which were let go, and the limits that it was given last. Beside them is the count of the node's starts.
 """
 
 from __future__ import annotations
@@ -20,11 +20,14 @@ from ..cluster import Basis
 from .errors import BadMessage, BadStore
 from .frames import Sort
 from .messages import VERSION
-from .sessions import Session
+from .safely import replace_safely, with_path
+from .sessions import Session, time_of
 
 # The first line of a file, by the version of the form that its Resume has.
-FIRST_LINES = {1: b"cogmaula resume 1", VERSION: b"cogmaula resume 2"}
+FIRST_LINES = {it: f"cogmaula resume {it}".encode() for it in range(1, VERSION + 1)}
 SUFFIX = ".resume"
+# The digits of a count of starts, at most.
+LONGEST_COUNT = 16
 
 
 @dataclass(frozen=True)
@@ -55,6 +58,8 @@ class Stored:
     lapsed:     of a parent, the number under which each child that was let go counts as gone
     relays:     of a parent, the children that are relays
     given:      of a relay, the limits that it was given last, None if it was given none in this session
+    offer:      of a device, the digest of the newest offer at its topic, "" without one
+    until:      of a device, until when its newest offer holds (RFC 3339), "" without an end
     version:    of the form of the Resume
     """
 
@@ -67,6 +72,8 @@ class Stored:
     lapsed: Mapping[int, int] = field(default_factory=dict)
     relays: tuple[int, ...] = ()
     given: Given | None = None
+    offer: str = ""
+    until: str = ""
     version: int = VERSION
 
 
@@ -96,17 +103,16 @@ class Store:
 
     def save(self, stored: Stored) -> None:
         """Replaces the session's file, safely: once this returns, a crash of the machine leaves the new Resume. Raises OSError."""
-        fresh = self.folder / "fresh"
-        with open(fresh, "wb") as file:
-            file.write(self._bytes_of(stored))
-            file.flush()
-            os.fsync(file.fileno())
-        os.replace(fresh, self.path(stored.session))
-        folder = os.open(self.folder, os.O_RDONLY | os.O_DIRECTORY)
-        try:
-            os.fsync(folder)
-        finally:
-            os.close(folder)
+        replace_safely(self.path(stored.session), self._bytes_of(stored))
+
+    def next_start(self, known: int = 0) -> int:
+        """The count of the node's starts from now on, above those that are stored and known elsewhere. It is stored. Raises OSError."""
+        path = self.folder / "starts"
+        with with_path(path):
+            text = path.read_bytes() if path.exists() else b""
+        starts = max(known, int(text) if text.isdigit() and len(text) < LONGEST_COUNT else 0) + 1
+        replace_safely(path, str(starts).encode())
+        return starts
 
     def load(self, session: Session) -> Stored | None:
         """The Resume of a session, or None if there is no file. Raises BadStore if it is damaged, and OSError."""
@@ -133,30 +139,38 @@ class Store:
             "lapsed": dict(stored.lapsed),
             "relays": stored.relays,
             "given": None if stored.given is None else vars(stored.given),
+            "offer": stored.offer,
+            "until": stored.until,
         }
         behind = json.dumps(told).encode() + b"\n" + stored.frame
-        return FIRST_LINES[VERSION] + b"\n" + hashlib.sha256(behind).hexdigest().encode() + b"\n" + behind
+        first = FIRST_LINES[VERSION] + b"\n"
+        return first + hashlib.sha256(first + behind).hexdigest().encode() + b"\n" + behind
 
     def _read(self, path: Path) -> Stored:
         first, checksum, behind = (path.read_bytes().split(b"\n", 2) + [b"", b""])[:3]
         line, _, frame = behind.partition(b"\n")
         damaged = BadStore(f"{path} is damaged: bring it back as it was, or move it away, and the broker's copy counts")
         version = {line: it for it, line in FIRST_LINES.items()}.get(first)
-        if version is None or checksum != hashlib.sha256(behind).hexdigest().encode():
+        # The checksum of earlier versions is of what is behind it alone.
+        summed = first + b"\n" + behind if version == VERSION else behind
+        if version is None or checksum != hashlib.sha256(summed).hexdigest().encode():
             raise damaged
         try:
             told = json.loads(line)
             session = Session(str(told["session"]), str(told["begun"]))
             basis = Basis(int(told["min"]), int(told["max"]), int(told["steps"]))
             length, node, sort, time, setpoint = (told[it] for it in ("length", "node", "sort", "time", "setpoint"))
-            # Files of the first form lack some.
+            # Files of earlier versions lack some.
             references, lapsed = ({int(number): int(it) for number, it in told.get(name, {}).items()} for name in ("references", "lapsed"))
             relays = tuple(int(it) for it in told.get("relays", ()))
             given = None if told.get("given") is None else Given(**told["given"])
+            offer, until = str(told.get("offer", "")), str(told.get("until", ""))
+            if until:
+                time_of(until)
         except (ValueError, KeyError, IndexError, TypeError, AttributeError, BadMessage):
             raise damaged from None
         if length != len(frame):
             raise damaged
         if (node, sort) != (self.node, self.sort):
             raise BadStore(f"{path} is of the {sort} {node}, and this is the {self.sort} {self.node}: give another folder")
-        return Stored(session, basis, frame, str(time), str(setpoint), references, lapsed, relays, given, version)
+        return Stored(session, basis, frame, str(time), str(setpoint), references, lapsed, relays, given, offer, until, version)

@@ -14,6 +14,23 @@ _CHILD = re.compile(r"[1-9][0-9]{0,2}")
 OF_CHILDREN = ("bid", "price", "lapsed", "refused", "drop")
 # Names that stand for something else in a topic.
 _TAKEN = {"basis"}
+# The most bytes of a message, by the word of its topic: a bid has 1,000 steps at most, and an offer tells each of them in JSON.
+_LONGEST = {
+    "state": 4_096,
+    "resume": 4_096,
+    "heartbeat": 256,
+    "limits": 2_048,
+    "limits/state": 2_048,
+    "offer": 16_384,
+    "answer": 1_024,
+    "setpoint": 1_024,
+    "bid": 4_096,
+    "price": 64,
+    "lapsed": 1_024,
+    "refused": 1_024,
+    "drop": 256,
+}
+_LONGEST_BASIS = 1_024
 
 
 def require_name(text: str, what: str) -> str:
@@ -56,6 +73,15 @@ class Topics:
     def price(self, parent: str, child: int | str) -> str:
         """The newest Price for a child, of its parent."""
         return self.at(parent, "price", child)
+
+    def longest(self, topic: str) -> int:
+        """The most bytes that a message of a topic may have, 0 for a topic that no market has."""
+        if topic == self.basis:
+            return _LONGEST_BASIS
+        parts = self.parts_of(topic)
+        if parts is not None:
+            return _LONGEST.get(parts[1], 0)
+        return _LONGEST["limits/state"] if topic.endswith("/limits/state") and topic.startswith(f"{self.prefix}/") else 0
 
     def parts_of(self, topic: str) -> tuple[str, str, int | None] | None:
         """The node of a topic, its word such as `state` or `bid`, and of a topic of a child its number. None if it is no such topic."""

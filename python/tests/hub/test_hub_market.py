@@ -300,7 +300,7 @@ def test_an_agent_whose_folder_is_lost_does_not_count_anew(live, tmp_path):
     with HubInThread(tmp_path, live, tokens=hub.tokens) as hub:
         hub.agent("store").waits_for_error("the node of store does not start").waits_for_end()
         assert any("store: child 2 has bid in this session" in it for it in hub.said)
-        wait_until(lambda: any("waits for the bids of children 2" in it for it in hub.said), "the auctioneer waits")
+        hub.agent("house").bids(falls_at(6, 200, 100), 2).waits_for(step=6, power=100)
     (tmp_path / "lost").rename(folder)
     with HubInThread(tmp_path, live, tokens=hub.tokens) as hub:
         hub.agent("store").bids(falls_at(6, 0, -150), 2).waits_for(step=6, power=-150, bidNumber=2)

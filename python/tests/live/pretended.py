@@ -5,6 +5,7 @@ from __future__ import annotations
 import time
 
 from cogmaula.cluster import Basis
+from cogmaula.live import messages
 from cogmaula.live.broker import Arrived, Confirmed, Message, Settled
 from cogmaula.live.frames import AuctioneerResume, Bid, DeviceResume, Gone, Price, RelayResume, ResumeGone
 from cogmaula.live.messages import BasisMessage, StateMessage
@@ -18,7 +19,8 @@ BASIS, BASIS_TOPIC = Basis(0, 9, steps=2), "market/basis"
 SESSION = Session("0123456789abcdef", "2026-01-31T06:00:00.000Z")
 LATER = Session("fedcba9876543210", "2026-01-31T07:00:00.000Z")
 MOMENT = "2026-01-31T06:30:00.000Z"
-MARKED = (("time", MOMENT), ("session", SESSION.id), ("version", "2"))
+VERSION = str(messages.VERSION)
+MARKED = (("time", MOMENT), ("session", SESSION.id), ("version", VERSION))
 
 
 def settings(sort, folder, **more):
@@ -37,7 +39,8 @@ class PretendedLink:
     def __init__(self, notify, say):
         self.notify, self.say = notify, say
         self.sent, self.newest, self.held, self.inbox = [], {}, set(), {}
-        self.is_settled = self.confirms = False
+        self.is_settled = self.confirms = self.has_lost = False
+        self.readings = 0
         self.closed = self.will = self.topics = None
 
     def start(self, topics, will, marker, written=()):
@@ -66,6 +69,9 @@ class PretendedLink:
     def taken(self):
         found, self.inbox = list(self.inbox.values()), {}
         return found
+
+    def read_again(self):
+        self.readings += 1
 
     def tick(self):
         pass

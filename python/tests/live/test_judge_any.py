@@ -82,7 +82,9 @@ def exact(data):
 
 
 def comes_back_with_newest(lives):
-    """Whether each start comes back with what was stored last, or written since; and nothing is written before it is stored."""
+    """Whether each start comes back with what was stored last, or written since; and nothing is written before it is stored.
+
+    What differs from the stored in the price alone need not be stored."""
     stored, waits, prices = b"", None, {b"", bytes(4), bytes(8)}
     for life in lives:
         begin = bytes.fromhex(life[0]["resume"] or "")
@@ -92,8 +94,9 @@ def comes_back_with_newest(lives):
         for it in life[1:]:
             if it["what"] == "out":
                 data = bytes.fromhex(it["frame"])
-                if waits is not None:
+                if waits is not None and exact(waits)[0] != exact(stored)[0]:
                     return False
+                waits = None
                 if data[0] in (RESUME, RESUME_GONE):
                     waits = data
                     prices.add(exact(data)[1])

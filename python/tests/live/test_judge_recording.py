@@ -10,7 +10,7 @@ import re
 
 import pytest
 from markets import falls_at
-from pretended import BASIS_TOPIC, LATER, SESSION, auctioneer_resume, basis_payload, bid, numbers, price, relay_resume, saved
+from pretended import BASIS_TOPIC, LATER, SESSION, VERSION, auctioneer_resume, basis_payload, bid, numbers, price, relay_resume, saved
 from recorded import Lines, RecordedMarket, contents_of, files_of
 
 from cogmaula.judge import judge
@@ -109,7 +109,7 @@ class Noted:
 def test_all_is_safe_before_a_resume_is_stored_and_recorded_before_it_is_published(joined, tmp_path, monkeypatch):
     one = joined("auctioneer", record=str(tmp_path / "recordings")).begun()
     noted = Noted(one, monkeypatch)
-    one.link.comes("market/auctioneer/bid/3", bid(3, 1, 21, -3).to_bytes(), [("session", one.node.session.id), ("version", "2")])
+    one.link.comes("market/auctioneer/bid/3", bid(3, 1, 21, -3).to_bytes(), [("session", one.node.session.id), ("version", VERSION)])
     one.turned()
     one.writes(auctioneer_resume(1, numbers((3, 1))), price(3, 1, 1, 1))
     assert noted.done == [
@@ -155,7 +155,7 @@ def fails_at(monkeypatch, name, count):
 def test_a_full_disk_ends_the_node_before_anything_is_sent(joined, tmp_path, monkeypatch):
     folder = tmp_path / "recordings"
     one = joined("auctioneer", record=str(folder)).begun()
-    one.link.comes("market/auctioneer/bid/3", bid(3, 1, 21, -3).to_bytes(), [("session", one.node.session.id), ("version", "2")])
+    one.link.comes("market/auctioneer/bid/3", bid(3, 1, 21, -3).to_bytes(), [("session", one.node.session.id), ("version", VERSION)])
     one.turned()
     count = len(one.link.sent)
     fails_at(monkeypatch, "write", 1)
@@ -196,7 +196,7 @@ def test_a_run_over_a_full_disk_ends_with_the_error_and_lets_go(tmp_path, live, 
 
 def test_a_file_ends_at_its_size_and_the_next_begins(tmp_path, live):
     market = RecordedMarket(tmp_path, live)
-    market.start("auctioneer", "street", "house", "store", record_size=4_096)
+    market.start("auctioneer", "street", record_size=4_096).start("house", "store", record_size=1_024)
     market.offers(house=[100] * 10)
     for step in range(1, 9):
         market.offers(store=falls_at(step, 0, -150))

@@ -2,6 +2,7 @@
 
 from __future__ import annotations
 
+import hashlib
 import json
 import threading
 import time
@@ -14,6 +15,7 @@ from pretended import (
     LATER,
     MOMENT,
     SESSION,
+    VERSION,
     PretendedControl,
     PretendedLink,
     auctioneer_resume,
@@ -32,13 +34,13 @@ from pretended import (
 from cogmaula.cluster import Basis
 from cogmaula.live import BadStore, NodeRefused, OtherTerms
 from cogmaula.live.frames import Fault
-from cogmaula.live.messages import BasisMessage
+from cogmaula.live.messages import LOST, BasisMessage
 from cogmaula.live.node import Node
 from cogmaula.live.store import Store
 
 OFFER = (5, -3)
-OF_SESSION = [("time", MOMENT), ("session", SESSION.id), ("version", "2")]
-OF_LATER = [("time", MOMENT), ("session", LATER.id), ("version", "2")]
+OF_SESSION = [("time", MOMENT), ("session", SESSION.id), ("version", VERSION)]
+OF_LATER = [("time", MOMENT), ("session", LATER.id), ("version", VERSION)]
 
 
 def told_basis(one):
@@ -299,8 +301,8 @@ def of_version_1(payload):
 
 def first_form(path):
     """Makes a stored Resume one of the first form."""
-    data = path.read_bytes()
-    path.write_bytes(data.replace(b"cogmaula resume 2", b"cogmaula resume 1", 1))
+    _, _, behind = path.read_bytes().split(b"\n", 2)
+    path.write_bytes(b"cogmaula resume 1\n" + hashlib.sha256(behind).hexdigest().encode() + b"\n" + behind)
 
 
 def test_an_auctioneer_with_a_resume_of_the_first_form_has_to_begin_a_new_session(joined, tmp_path):
@@ -308,7 +310,7 @@ def test_an_auctioneer_with_a_resume_of_the_first_form_has_to_begin_a_new_sessio
     first_form(tmp_path / "auctioneer" / f"{SESSION.id}.resume")
     one = joined("auctioneer")
     one.link.settles()
-    with pytest.raises(OtherTerms, match=f"session {SESSION.id} is of the first form .* begin a new session by --new-session"):
+    with pytest.raises(OtherTerms, match=f"session {SESSION.id} is of another version .* begin a new session by --new-session"):
         one.turned()
 
 
@@ -332,7 +334,7 @@ def test_a_node_waits_for_a_session_of_its_version(joined):
     one.link.settles()
     one.turned()
     assert one.service is None
-    assert f"waits: session {SESSION.id} is of version 1, and this node of 2" in one.said[-1]
+    assert f"waits: session {SESSION.id} is of version 1, and this node of 3" in one.said[-1]
     one.link.comes(BASIS_TOPIC, basis_payload(LATER))
     one.turned()
     assert one.node.session == LATER
@@ -348,13 +350,13 @@ def test_a_resume_of_the_first_form_in_this_session_is_refused(joined, tmp_path,
     if where == "broker":
         one.link.comes("market/house/resume", bytes.fromhex("0C 00000001 00000007 000001F4 FFFFFED4"), OF_SESSION)
     one.link.settles()
-    with pytest.raises(OtherTerms, match="has a Resume of the first form, in session 0123456789abcdef: give the node another child number"):
+    with pytest.raises(OtherTerms, match="has a Resume of another version, in session 0123456789abcdef: give the node another child number"):
         one.turned()
 
 
 def test_a_parent_of_another_version_is_told(joined):
     one = joined("device").begun(("market/street/state", of_version_1(state_payload("a" * 16, MOMENT))))
-    assert "street is of version 1, and this node of 2: install this version there" in one.said
+    assert "street is of version 1, and this node of 3: install this version there" in one.said
 
 
 def test_a_stored_frame_that_is_no_resume_is_refused(joined, tmp_path):
@@ -430,8 +432,8 @@ def test_after_a_lost_connection_the_newest_of_all_is_published_again(joined):
 
 
 TAKEN_OVER = [
-    ("market/house/state", state_payload("b" * 16, "2126-01-31T06:30:00.000Z"), "another process runs as house since 2126"),
-    ("market/house/state", state_payload("b" * 16, "2126-01-31T06:30:00.000Z", "down"), "another process runs as house"),
+    ("market/house/state", state_payload("b" * 16, MOMENT, starts=2), "another process runs as house since 2026"),
+    ("market/house/state", state_payload("b" * 16, MOMENT, "down", LOST, starts=2), "another process runs as house"),
     ("market/house/resume", device_resume(6, 2, OFFER).to_bytes(), "house has given number 6, and the newest Resume here has 4"),
     ("market/street/bid/2", gone(2, 6).to_bytes(), "house has given number 6"),
 ]
@@ -447,7 +449,8 @@ def test_the_older_of_two_processes_of_one_name_ends(joined, tmp_path, topic, pa
 
 
 HARMLESS = [
-    ("market/house/state", state_payload("b" * 16, MOMENT)),
+    ("market/house/state", state_payload("b" * 16, "2126-01-31T06:30:00.000Z")),
+    ("market/house/state", state_payload("b" * 16, MOMENT, "down", "stopped", starts=9)),
     ("market/house/state", b"nonsense"),
     ("market/house/state", b""),
     ("market/house/resume", device_resume(4, 2, OFFER).to_bytes()),
@@ -469,7 +472,7 @@ def test_what_the_node_itself_or_an_earlier_process_published_does_no_harm(joine
 
 
 def test_a_device_reads_what_is_for_it_and_its_own_topics(joined):
-    of_house = {"market/house/state", "market/house/resume", "market/house/offer", "market/house/setpoint"}
+    of_house = {"market/house/state", "market/house/resume", "market/house/offer", "market/house/answer", "market/house/setpoint"}
     of_street = {f"market/street/{it}" for it in ("bid/2", "price/2", "lapsed/2", "refused/2", "state", "heartbeat")}
     assert set(joined("device").link.topics) == {"market/basis"} | of_house | of_street
 
@@ -506,7 +509,7 @@ def test_run_ends_with_the_state_down_and_why(tmp_path, how):
     told = json.loads(links[0].closed.payload)
     assert told["state"] == "down"
     assert told["why"] == ("stopped" if how == "stopped" else str(raised[0]))
-    assert json.loads(links[0].will.payload)["why"] == "the connection was lost"
+    assert json.loads(links[0].will().payload)["why"] == "the connection was lost"
     Store(tmp_path, "house", "device").close()
 
 

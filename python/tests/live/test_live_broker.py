@@ -4,7 +4,6 @@ from __future__ import annotations
 
 import queue
 import ssl
-import subprocess
 import time
 
 import pytest
@@ -30,7 +29,7 @@ class Connected:
         self.events, self.said, self.marks = queue.Queue(), [], 0
         settings = BrokerSettings(port=port, **more)
         self.broker = Broker(settings, "cogmaula.market.house", self.events.put, self.said.append, pauses=(0.1, 0.4), patience=0.5)
-        self.broker.start(topics, WILL, self.mark, written)
+        self.broker.start(topics, lambda: WILL, self.mark, written)
 
     def mark(self):
         self.marks += 1
@@ -211,6 +210,7 @@ def test_a_broker_that_is_away_is_waited_for_with_growing_pauses(tmp_path):
             one.settled()
             wait_until(lambda: onlooker.payload("market/house/setpoint") == b"second", "the newest")
             assert (b"first" not in [it[1] for it in onlooker.all])
+            assert one.said[-1] == f"127.0.0.1:{port}: connected"
             broker.kill()
             one.says("the connection was lost")
             assert not one.broker.is_settled
@@ -218,6 +218,7 @@ def test_a_broker_that_is_away_is_waited_for_with_growing_pauses(tmp_path):
             broker.start()
             one.settled()
             wait_until(lambda: onlooker.payload("market/house/setpoint") == b"third", "the newest again")
+            assert one.said[-1] == f"127.0.0.1:{port}: connected again"
             wait_until(lambda: not one.broker.is_unconfirmed(["market/house/setpoint"]), "the confirmation")
 
 
@@ -372,15 +373,19 @@ def test_closing_takes_less_than_a_second(tmp_path):
 
 
 def test_a_flood_takes_no_memory(tmp_path):
-    with Mosquitto(tmp_path, "max_queued_messages 0") as broker, Connected(broker.port, [*TOPICS, "flood/+"]).settled() as one:
-        sizes = "x" * 30_000
-        subprocess.run(["mosquitto_pub", "-p", str(broker.port), "-t", "flood/long", "-m", 2 * sizes], check=True)
+    """Only topics of a market are taken, each with a message that is not too long, and so many of them."""
+    with Mosquitto(tmp_path, "max_queued_messages 0") as broker, Connected(broker.port, [*TOPICS, "market/#"]).settled() as one:
         with Onlooker(broker.port, "nothing") as other:
+            for it in ("flood/x", "house/state", "street/bid/300", "a b/state"):
+                other.publish(f"market/{it}", b"x" * 30_000)
             for number in range(3_000):
-                other.client.publish(f"flood/{number}", b"x", 1)
-            other.publish("flood/0", b"last")
+                other.client.publish(f"market/n{number}/state", b"x", 1)
+            other.publish("market/n0/state", b"last")
         wait_until(lambda: len(one.broker._inbox) == 2_048, "as many topics as may wait")
         time.sleep(0.3)
         found = one.broker.taken()
         assert len(found) == 2_048
-        assert not any(it.topic == "flood/long" for it in found)
+        assert {len(it.payload) for it in found} <= {1, 4}
+        assert one.broker.has_lost
+        assert not one.broker.has_lost
+        assert len([it for it in one.said if "it is no topic of a market, or too long for it" in it]) == 4

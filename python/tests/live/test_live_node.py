@@ -13,6 +13,7 @@ from pretended import (
     MARKED,
     MOMENT,
     SESSION,
+    VERSION,
     auctioneer_resume,
     basis_payload,
     bid,
@@ -94,10 +95,10 @@ def test_a_relays_resume_waits_until_the_broker_has_the_prices_before_it(joined)
 def test_a_devices_resume_waits_until_the_broker_has_the_setpoint_before_it(joined):
     one = joined("device").begun()
     one.writes(device_resume(1, 0, (500, -300)), bid(2, 1, 500, -300), Setpoint(1, 7, 1, -300), device_resume(1, 7, (500, -300)))
-    assert one.stored() == device_resume(1, 0, (500, -300)).to_bytes()
+    assert one.node.serving.stored.frame == device_resume(1, 0, (500, -300)).to_bytes()
     one.link.confirm()
     one.turned()
-    assert one.stored() == device_resume(1, 7, (500, -300)).to_bytes()
+    assert one.node.serving.stored.frame == device_resume(1, 7, (500, -300)).to_bytes()
 
 
 def test_prices_that_come_meanwhile_are_passed_over_for_the_newest(joined):
@@ -232,7 +233,7 @@ def test_a_service_that_cannot_be_started_is_told(joined, monkeypatch):
 def test_a_service_that_does_not_answer_is_ended(joined, monkeypatch, sort):
     one = joined(sort).begun()
     if sort == "auctioneer":
-        one.link.comes("market/auctioneer/bid/1", bid(1, 1, 5, -3).to_bytes(), [("session", one.node.session.id), ("version", "2")])
+        one.link.comes("market/auctioneer/bid/1", bid(1, 1, 5, -3).to_bytes(), [("session", one.node.session.id), ("version", VERSION)])
     else:
         one.control.offer(b'{"power": [5, -3]}')
     one.turned()
@@ -271,7 +272,7 @@ def test_which_topics_need_not_all_be_read_back(joined, sort, due, page, are_all
 def test_an_auctioneer_clears_after_news_and_tells_prices_with_time_and_session(joined):
     one = joined("auctioneer").begun()
     session = one.node.session
-    own = [("session", session.id), ("version", "2")]
+    own = [("session", session.id), ("version", VERSION)]
     one.link.comes("market/auctioneer/bid/3", bid(3, 1, 21, -3).to_bytes(), own)
     one.turned()
     assert one.service.read == [b"", bid(3, 1, 21, -3).to_bytes(), Clear().to_bytes()]
@@ -279,7 +280,7 @@ def test_an_auctioneer_clears_after_news_and_tells_prices_with_time_and_session(
     one.writes(resume, price(3, 1, 1, 1))
     told = one.link.newest["market/auctioneer/price/3"]
     assert told.payload == price(3, 1, 1, 1).to_bytes()
-    assert dict(told.properties) == {"time": one.node._store.load(session).time, "session": session.id, "version": "2"}
+    assert dict(told.properties) == {"time": one.node._store.load(session).time, "session": session.id, "version": VERSION}
     assert one.stored(session) == resume.to_bytes()
 
 

@@ -344,7 +344,7 @@ def test_what_the_broker_no_longer_has_goes_with_the_next_connection():
     assert len(changes) == 6
     board.take(Told(basis=None).put("d/state", b"1").put("e/state", b"1").put("f/state", b"1").put("g/state", b"1").messages.values())
     assert len(board.copy()[0]) == 4
-    assert said == ["the page keeps 4 topics, and shows no further ones"]
+    assert said == ["the page keeps 4 topics and 67108864 bytes, and shows no further ones"]
 
 
 # Settings.

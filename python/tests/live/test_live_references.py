@@ -169,7 +169,7 @@ def test_a_file_of_before_has_none(joined):
     told = json.loads(line)
     assert told.pop("references") == {"1": 17}
     behind = json.dumps(told).encode() + b"\n" + frame
-    path.write_bytes(first + b"\n" + hashlib.sha256(behind).hexdigest().encode() + b"\n" + behind)
+    path.write_bytes(first + b"\n" + hashlib.sha256(first + b"\n" + behind).hexdigest().encode() + b"\n" + behind)
     found = one.node._store.newest()
     assert (found.references, found.basis, found.frame) == ({}, BASIS, frame)
 
@@ -182,5 +182,5 @@ def test_the_resume_and_the_reference_are_stored_in_one_piece(joined, monkeypatc
     monkeypatch.setattr(one.node._store, "save", saved.append)
     one.control.offer(offer(HIGH, 17))
     one.turned().writes(device_resume(1, 0, HIGH), Setpoint(1, 7, 1, -300), device_resume(1, 7, HIGH))
-    assert [it.references for it in saved] == [{1: 17}] * 3
+    assert [it.references for it in saved] == [{1: 17}] * 2
     assert saved[0].frame == device_resume(1, 0, HIGH).to_bytes()

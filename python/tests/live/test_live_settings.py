@@ -212,7 +212,8 @@ def noted(monkeypatch):
 
 def test_options_go_before_the_file_and_a_signal_ends_the_node(tmp_path, noted):
     file = str(written(tmp_path, WHOLE))
-    words = ["node", "device", "--config", file, "--child", "7", "--steps", "10", "--host", "other", "--tls", "--leave"]
+    files = ["--live", sys.executable, "--ca", file, "--password-file", file]
+    words = ["node", "device", "--config", file, "--child", "7", "--steps", "10", "--host", "other", "--tls", "--leave", *files]
     assert main(words) == 0
     made = noted.made
     assert (made.child, made.basis.steps, made.broker.host, made.broker.tls, made.leave) == (7, 10, "other", True, True)
@@ -220,19 +221,24 @@ def test_options_go_before_the_file_and_a_signal_ends_the_node(tmp_path, noted):
 
 
 def test_options_alone(noted, monkeypatch):
-    monkeypatch.setenv("COGMAULA_LIVE", "/opt/live")
+    monkeypatch.setenv("COGMAULA_LIVE", sys.executable)
     words = "node auctioneer --name root --state there --min 0 --max 9 --steps 10 --period 60".split()
     assert main(words) == 0
-    assert (noted.made.live, noted.made.period) == ("/opt/live", 60.0)
+    assert (noted.made.live, noted.made.period) == (sys.executable, 60.0)
 
 
 @pytest.mark.parametrize(
-    ("raised", "status"), [(NodeRefused("look first"), 5), (BadStore("damaged"), 1), (OSError(28, "No space left on device"), 1)]
+    ("raised", "status", "line"),
+    [
+        (NodeRefused("look first"), 5, "look first"),
+        (BadStore("damaged"), 1, "damaged"),
+        (OSError(28, "No space left on device", "there/fresh"), 1, "node root: there/fresh: No space left on device"),
+    ],
 )
-def test_each_error_has_its_status_and_a_line(noted, monkeypatch, capsys, raised, status):
+def test_each_error_has_its_status_and_a_line(noted, monkeypatch, capsys, raised, status, line):
     monkeypatch.setattr(noted, "comes", raised)
-    assert main("node auctioneer --name root --state there --min 0 --max 9 --steps 10".split()) == status
-    assert capsys.readouterr().err == f"cogmaula: {raised}\n"
+    assert main(f"node auctioneer --name root --state there --min 0 --max 9 --steps 10 --live {sys.executable}".split()) == status
+    assert capsys.readouterr().err == f"cogmaula: {line}\n"
 
 
 def test_wrong_settings_have_status_2(capsys):

@@ -1,0 +1,106 @@
+"""The bids of a parent's children on its own disk: those of its newest sum, so that a restart needs no child to tell its bid again.
+
+There is one file for each session. A line is a checksum and the JSON of one bid; of a child the last line counts. New lines go to the
+end of the file, and are safe on disk before the Resume that has their numbers is stored. A line that a crash cut off ends the file.
+"""
+
+from __future__ import annotations
+
+import hashlib
+import json
+import os
+from collections.abc import Mapping
+from pathlib import Path
+
+from .children import Heard
+from .errors import BadFrame
+from .frames import BIDS, Bid, Gone, frame_of
+from .safely import replace_safely, with_path
+from .sessions import Session
+
+SUFFIX = ".bids"
+# A file is written anew once it has so many lines more than twice its children.
+SPARE = 512
+
+
+class BidLog:
+    """The file of one session. Each call raises OSError if the disk does not take what is due, and then the node has to end."""
+
+    def __init__(self, folder: Path, steps: int) -> None:
+        """Takes the folder of the node's Resume, and the steps of the market."""
+        self._folder = folder
+        self._steps = steps
+        self._path: Path | None = None
+        self._file: int | None = None
+        self._lines = 0
+        # What the file has of each child.
+        self._written: dict[int, Heard] = {}
+
+    def begin(self, session: Session) -> list[Heard]:
+        """Goes by the file of a session, and gives the bid that it has of each child."""
+        self.close()
+        self._path = self._folder / f"{session.id}{SUFFIX}"
+        self._written = {}
+        if self._path.exists():
+            for line in self._path.read_bytes().splitlines(keepends=True):
+                heard = self._read(line)
+                if heard is None:
+                    break
+                self._written[heard.frame.child] = heard
+            self._write_anew(self._path)
+        return [self._written[it] for it in sorted(self._written)]
+
+    def make_safe(self, bids: Mapping[int, Heard]) -> None:
+        """Adds those of these bids that are not in the file, and returns once they are safe on disk."""
+        fresh = {child: it for child, it in bids.items() if self._written.get(child) != it}
+        if not fresh or self._path is None:
+            return
+        self._written |= fresh
+        if self._file is None or self._lines + len(fresh) > 2 * len(self._written) + SPARE:
+            self._write_anew(self._path)
+            return
+        with with_path(self._path):
+            rest = b"".join(map(_line_of, fresh.values()))
+            while rest:
+                rest = rest[os.write(self._file, rest) :]
+            os.fdatasync(self._file)
+        self._lines += len(fresh)
+
+    def close(self) -> None:
+        """Lets go of the file."""
+        file, self._file, self._path = self._file, None, None
+        if file is not None:
+            os.close(file)
+
+    def _write_anew(self, path: Path) -> None:
+        """Replaces the file by one with a line for each child, and opens it for more."""
+        if self._file is not None:
+            os.close(self._file)
+            self._file = None
+        replace_safely(path, b"".join(map(_line_of, self._written.values())))
+        with with_path(path):
+            self._file = os.open(path, os.O_WRONLY | os.O_APPEND | os.O_CLOEXEC)
+        self._lines = len(self._written)
+
+    def _read(self, line: bytes) -> Heard | None:
+        """The bid of a line, None if it is cut off or damaged."""
+        checksum, _, behind = line.partition(b" ")
+        if not line.endswith(b"\n") or checksum != _checksum_of(behind[:-1]):
+            return None
+        try:
+            told = json.loads(behind)
+            frame = frame_of(bytes.fromhex(told["frame"]), BIDS, self._steps)
+            assert isinstance(frame, Bid | Gone)
+            return Heard(frame, str(told["sort"]), str(told["node"]), float(told["valid"]))
+        except (BadFrame, ValueError, KeyError, TypeError):
+            return None
+
+
+def _checksum_of(text: bytes) -> bytes:
+    return hashlib.sha256(text).hexdigest().encode()
+
+
+def _line_of(heard: Heard) -> bytes:
+    told = {"sort": heard.sort, "node": heard.node, "valid": heard.valid, "frame": heard.frame.to_bytes().hex()}
+    text = json.dumps(told).encode()
+    return _checksum_of(text) + b" " + text + b"\n"

@@ -1,0 +1,109 @@
+"""The broker of the example by its own files, but without TLS, and a market with the example's logins: each password is `word`."""
+
+from __future__ import annotations
+
+import subprocess
+import threading
+import time
+from dataclasses import replace
+from pathlib import Path
+
+from brokers import SECONDS, TOP, Mosquitto, Onlooker, wait_until
+from markets import Market
+
+from cogmaula.live.settings import children_of, read_toml
+
+EXAMPLE = TOP / "examples" / "live"
+USERS = ("auctioneer", "street", "house", "store", "mill", "housecontrol", "storecontrol", "gridoperator", "operator", "page")
+# The words of the example's file that are of TLS and of the machine.
+OF_THE_MACHINE = ("listener", "cafile", "certfile", "keyfile", "persistence_location", "#")
+
+
+def rights_of_mill():
+    """The rights of a device more, which is child 2 of the auctioneer: those of the store, at another place."""
+    text = (EXAMPLE / "mosquitto.acl").read_text()
+    of_store = text[text.index("user store\n") : text.index("# The controls of the devices")]
+    of_auctioneer = text[: text.index("user street\n")].replace("/1\n", "/2\n").replace("street/state", "mill/state")
+    return of_store.replace("store", "mill").replace("street", "auctioneer") + of_auctioneer
+
+
+def example_broker(folder):
+    """A broker by the example's files, in a folder of the test."""
+    folder = Path(folder)
+    (folder / "passwords").write_text("".join(f"{it}:word\n" for it in USERS))
+    (folder / "passwords").chmod(0o600)
+    subprocess.run(["mosquitto_passwd", "-U", str(folder / "passwords")], check=True, capture_output=True)
+    (folder / "mosquitto.acl").write_text((EXAMPLE / "mosquitto.acl").read_text() + "\n" + rights_of_mill())
+    (folder / "word").write_text("word\n")
+    lines = (EXAMPLE / "mosquitto.conf").read_text().splitlines()
+    kept = [it.replace("/etc/market", str(folder)) for it in lines if it and not it.startswith(OF_THE_MACHINE)]
+    return Mosquitto(folder / "broker", *kept, f"persistence_location {folder}/")
+
+
+class ExampleMarket(Market):
+    """Nodes of the example's market in threads of the test, each with its login."""
+
+    def settings(self, name, **more):
+        self.more = {"user": name, "password_file": str(self.folder / "word")}
+        if name == "street":
+            children = children_of(read_toml(EXAMPLE / "street.toml")["children"])
+            more = {"children": tuple(replace(it, pause=0.1) for it in children), **more}
+        return super().settings(name, **more)
+
+
+class Member(Onlooker):
+    """A client with a login of the example, which may give itself the name of any other."""
+
+    def __init__(self, port, user, *topics, name=""):
+        import paho.mqtt.client as mqtt
+
+        self.newest, self.all, self.losses = {}, [], 0
+        first = (mqtt.CallbackAPIVersion.VERSION1,) if hasattr(mqtt, "CallbackAPIVersion") else ()
+        self.client = mqtt.Client(*first, client_id=name, protocol=mqtt.MQTTv5)
+        self.client.username_pw_set(user, "word")
+        self.client.on_connect = lambda it, *_: [it.subscribe(topic, 1) for topic in topics]
+        self.client.on_message = self._take
+        self.client.connect("127.0.0.1", port)
+        self.client.loop_start()
+
+    def __enter__(self):
+        wait_until(self.client.is_connected, "the broker lets it in")
+        return self
+
+    def puts(self, topic, payload, properties=(), qos=0):
+        """Publishes a message, and does not wait for an answer."""
+        from paho.mqtt.packettypes import PacketTypes
+        from paho.mqtt.properties import Properties
+
+        told = Properties(PacketTypes.PUBLISH)
+        if properties:
+            told.UserProperty = list(properties)
+        self.client.publish(topic, payload, qos, True, told)
+
+    def floods(self, topic, payloads, rate, seconds, properties=(), qos=0):
+        """Publishes these payloads in turn, so many a second, for so many seconds. Gives how many."""
+        begin, count = time.monotonic(), 0
+        while (now := time.monotonic()) < begin + seconds:
+            while count < (now - begin) * rate:
+                self.puts(topic, payloads[count % len(payloads)], properties, qos)
+                count += 1
+            time.sleep(0.002)
+        return count
+
+
+class Attack(threading.Thread):
+    """Does something again and again, until it is ended."""
+
+    def __init__(self, act, pause):
+        super().__init__(daemon=True)
+        self._act, self._pause, self._ended, self.count = act, pause, threading.Event(), 0
+        self.start()
+
+    def run(self):
+        while not self._ended.wait(self._pause):
+            self._act()
+            self.count += 1
+
+    def end(self):
+        self._ended.set()
+        self.join(SECONDS)
