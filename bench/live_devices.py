@@ -30,7 +30,7 @@ from live_mqtt import Connection, text, user_properties
 BID, PRICE = 2, 23
 PRICE_FORMAT = struct.Struct(">BHIIHiiH")
 # The version of the messages.
-VERSION = "2"
+VERSION = "3"
 # The most messages that the broker has not confirmed, and the greatest power of a device in watts.
 UNCONFIRMED, MOST = 1_000, 5_000
 # The seconds between looks at standard input.

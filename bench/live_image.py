@@ -127,7 +127,7 @@ class Containers:
         began = time.monotonic()
         self.run(self.steps[3].replace("-150", str(power)))
         # The house has no control here, so its node offers what it would take.
-        house = self.steps[3].replace("storecontrol", "house").replace("store/", "house/")
+        house = self.steps[3].replace("storecontrol", "housecontrol").replace("store/", "house/")
         self.run(re.sub(r"\[.*?\]", str([100] * 10), house).replace('"power"', f'"reference": {self._serial}, "power"'))
         told = wait_for(lambda: self._setpoint(power), PATIENCE, f"the store is not told {power} W")
         return f"told {json.dumps(told)} after {time.monotonic() - began:.1f} s"

@@ -34,7 +34,8 @@ NODES = {"auctioneer": "auctioneer", "street": "relay", "house": "device", "stor
 # Where a Resume has the index of the newest clearing.
 INDEX = {"auctioneer": 1, "relay": 9, "device": 5}
 PATIENCE = 60
-LOGIN = "-h broker.example -p 8883 --cafile market/ca.crt -u {0} -P \"$(cat market/{0}.password)\""
+# The file with a login of the clients, as keys.sh writes it.
+LOGIN = "XDG_CONFIG_HOME=/root/market/market/{0}.conf"
 
 
 class Market:
@@ -69,7 +70,7 @@ class Market:
     def listen(self):
         """Hears all topics from now on."""
         self.heard = {}
-        words = f"cd /root/market; exec mosquitto_sub {LOGIN.format('operator')} -F '%t %x' -t 'market/#'"
+        words = f"exec env {LOGIN.format('operator')} mosquitto_sub -F '%t %x' -t 'market/#'"
         process = self.machine.start("operator", words, stdout=-1)
         threading.Thread(target=self._read, args=(process.stdout,), daemon=True).start()
 
@@ -102,9 +103,9 @@ class Market:
         self._serial += 1
         power = -100 - self._serial
         house = self.told("house/setpoint").get("clearing", 0)
-        for user, topic, demands in (("house", "house", [100] * 10), ("storecontrol", "store", [0] * 4 + [power] * 6)):
+        for user, topic, demands in (("housecontrol", "house", [100] * 10), ("storecontrol", "store", [0] * 4 + [power] * 6)):
             text = json.dumps({"power": demands, "reference": self._serial})
-            self.run(f"mosquitto_pub {LOGIN.format(user)} -q 1 -r -t market/{topic}/offer -m '{text}'")
+            self.run(f"{LOGIN.format(user)} mosquitto_pub -q 1 -r -t market/{topic}/offer -m '{text}'")
         wait_for(lambda: self.told("store/setpoint").get("power") == power, PATIENCE, f"the store is not told {power} W")
         told = self.told("store/setpoint")
         wait_for(lambda: self.told("house/setpoint").get("clearing", 0) > house, PATIENCE, "the house is told nothing")

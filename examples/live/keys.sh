@@ -3,8 +3,10 @@
 #
 #     bash keys.sh FOLDER HOST USER ..
 #
-# FOLDER gets ca.crt, ca.key, broker.crt, broker.key, passwords, and for each user USER.password. HOST is the broker's name or
-# address as the nodes write it. Keep ca.key off the machines of the market. It needs openssl and mosquitto_passwd.
+# FOLDER gets ca.crt, ca.key, broker.crt, broker.key, passwords, and for each user USER.password and USER.conf/mosquitto_pub and
+# USER.conf/mosquitto_sub: with XDG_CONFIG_HOME=FOLDER/USER.conf these clients have the login, and no password is an argument. HOST is
+# the broker's name or address as the nodes write it, PORT its port, and CA the file of ca.crt where the clients run, if those are others.
+# Keep ca.key off the machines of the market. It needs openssl and mosquitto_passwd.
 set -euo pipefail
 folder="$1" host="$2"
 shift 2
@@ -24,8 +26,13 @@ openssl x509 -req -in "$folder/broker.csr" -CA "$folder/ca.crt" -CAkey "$folder/
 : >"$folder/passwords"
 for user in "$@"; do
     openssl rand -hex 24 >"$folder/$user.password"
-    mosquitto_passwd -b "$folder/passwords" "$user" "$(cat "$folder/$user.password")"
+    echo "$user:$(<"$folder/$user.password")" >>"$folder/passwords"
+    mkdir -p "$folder/$user.conf"
+    printf '%s\n' "-h $host" "-p ${PORT:-8883}" "--cafile ${CA:-$(realpath "$folder")/ca.crt}" "-u $user" "-P $(<"$folder/$user.password")" \
+        | tee "$folder/$user.conf/mosquitto_pub" >"$folder/$user.conf/mosquitto_sub"
 done
+# The passwords become their hashes.
+mosquitto_passwd -U "$folder/passwords"
 # The broker and the nodes run as users of their own. Certificates are no secrets.
 chmod 644 "$folder"/*.crt
 rm -f "$folder/broker.csr"

@@ -28,17 +28,21 @@ here_alone() {
 
 # Waits until a file has so many lines.
 wait_for_lines() {
+    local one
     for _ in $(seq 600); do
         [ "$(wc -l <"$1")" -lt "$2" ] || return 0
+        for one in "${started[@]}"; do
+            kill -0 "$one" 2>/dev/null || break 2
+        done
         sleep 0.1
     done
-    echo "$1 has no $2 lines after a minute" >&2
-    cat "$work"/*.said "$work/broker.said" >&2
+    echo "$1 has no $2 lines: a minute is over, or the broker or a node has ended" >&2
+    cat "$work"/*.said >&2
     exit 1
 }
 
 port="$(python3 -c 'import socket; one = socket.socket(); one.bind(("127.0.0.1", 0)); print(one.getsockname()[1])')"
-bash "$here/keys.sh" "$work" 127.0.0.1 auctioneer street house store storecontrol operator gridoperator
+PORT="$port" bash "$here/keys.sh" "$work" 127.0.0.1 auctioneer street house store housecontrol storecontrol operator gridoperator page
 for file in mosquitto.conf mosquitto.acl auctioneer.toml street.toml house.toml store.toml; do here_alone "$file"; done
 mkdir -p "$work/state"
 [ "$(id -u)" != 0 ] || echo "user root" >>"$work/mosquitto.conf"
@@ -59,9 +63,8 @@ started+=($!)
 
 # The house offers at its standard input. The control of the store offers by a topic.
 echo '{"power": [100, 100, 100, 100, 100, 100, 100, 100, 100, 100]}' >&3
-login=(-h 127.0.0.1 -p "$port" --cafile "$work/ca.crt" -u storecontrol -P "$(cat "$work/storecontrol.password")")
 for _ in $(seq 100); do
-    mosquitto_pub "${login[@]}" -q 1 -r -t market/store/offer -m '{"power": [0, 0, 0, 0, -150, -150, -150, -150, -150, -150]}' && break
+    XDG_CONFIG_HOME="$work/storecontrol.conf" mosquitto_pub -q 1 -r -t market/store/offer -m '{"power": [0, 0, 0, 0, -150, -150, -150, -150, -150, -150]}' && break
     sleep 0.2
 done
 wait_for_lines "$work/house.out" 1
