@@ -35,13 +35,13 @@ class Nodes:
 
     def _count(self, serving):
         """Counts the bids that a service is fed."""
-        hear = serving.hear_bid
+        take = serving.letting.take_bid
 
-        def counted(data):
+        def counted(child, message, now):
             self.heard += 1
-            hear(data)
+            take(child, message, now)
 
-        serving.hear_bid = counted
+        serving.letting.take_bid = counted
 
     def _run(self, name, node):
         try:
