@@ -259,7 +259,7 @@ def recording_on(market, units):
 def page_on(market, units):
     """Lets the auctioneer serve a page as LIVE.md has it. All other nodes have no password of a page."""
     set_as_in(market.machine, "auctioneer.toml", "LIVE.md", "[page]")
-    market.run("cp market/operator.password /etc/market/auctioneer.page.password; chmod 600 /etc/market/auctioneer.page.password")
+    market.run("cp market/page.password /etc/market/auctioneer.page.password; chmod 600 /etc/market/auctioneer.page.password")
     units.do("restart", "auctioneer")
     market.all_are_up()
     index = market.offer()["clearing"]
