@@ -76,8 +76,7 @@ class Program:
 
         Raises Refused, TooLong, Invalid, OutOfMemory or ProgramFault, each by its status, and NoProgram if the file changed.
         """
-        if _mark_of(self.path) != self.mark:
-            raise NoProgram(f"{self.path} changed since it was found proved: look for it again")
+        self._require_same()
         try:
             done = subprocess.run([self.path, command], input=data, capture_output=True, timeout=timeout, check=False)
         except subprocess.TimeoutExpired:
@@ -87,6 +86,21 @@ class Program:
         if done.returncode != 0:
             _raise_for(command, done.returncode, done.stdout, done.stderr)
         return done.stdout
+
+    def open(self, command: str) -> subprocess.Popen[bytes]:
+        """Starts the program for a command that answers as its input comes, such as serve, with pipes to both.
+
+        Raises NoProgram if the file changed, and ProgramFault if it cannot be started.
+        """
+        self._require_same()
+        try:
+            return subprocess.Popen([self.path, command], stdin=subprocess.PIPE, stdout=subprocess.PIPE)
+        except OSError as error:
+            raise ProgramFault(f"{self.path} cannot be started: {error.strerror}") from None
+
+    def _require_same(self) -> None:
+        if _mark_of(self.path) != self.mark:
+            raise NoProgram(f"{self.path} changed since it was found proved: look for it again")
 
 
 def _raise_for(command: str, status: int, text: bytes, said: bytes) -> NoReturn:

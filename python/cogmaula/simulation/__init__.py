@@ -1,0 +1,43 @@
+"""Models of devices, which a simulation, a live market and a study share; and a simulation in the proved market.
+
+    from cogmaula import Basis
+    from cogmaula.simulation import Battery, Load, Solar, simulate
+
+    done = simulate([Load(name="house", power=400), Solar(name="roof", power=900), Battery("store", 5000, 2000, 2000, (10, 90), 500)],
+                    Basis(0, 99, 100), ticks=96)
+    print(done.prices)
+
+A device is a class with a name, a state, `bid` and `step`: see `Device`. The models are models, and no part of the proved market; the
+prices are the market's. docs/DEVICES.md says how to write a device of your own.
+"""
+
+from .battery import Battery
+from .device import BadBid, Bid, Demands, Device, demands_of
+from .given import Load, Solar
+from .heating import Boiler, Cogeneration, HeatPump
+from .markets import Group, Market
+from .profiles import Held, Profile
+from .simulating import BidsNotKept, Simulation, simulate
+from .vehicle import Vehicle
+
+__all__ = [
+    "BadBid",
+    "Battery",
+    "Bid",
+    "BidsNotKept",
+    "Boiler",
+    "Cogeneration",
+    "Demands",
+    "Device",
+    "Group",
+    "HeatPump",
+    "Held",
+    "Load",
+    "Market",
+    "Profile",
+    "Simulation",
+    "Solar",
+    "Vehicle",
+    "demands_of",
+    "simulate",
+]

@@ -1,0 +1,44 @@
+"""Devices that do what they are given: a load takes it and a roof delivers it, at every price."""
+
+from __future__ import annotations
+
+from dataclasses import dataclass
+from datetime import datetime
+
+from .clocked import Clocked
+from .device import Bid
+from .profiles import Profile
+
+
+@dataclass(kw_only=True)
+class _Given(Clocked):
+    """A device with a given power in watts, rounded to whole ones. Its state is that power."""
+
+    name: str
+    power: Profile
+    state: float = 0.0
+
+    def bid(self, now: datetime) -> Bid:
+        """See Device."""
+        self._is_at(now)
+        self.state = round(self._given(self.power))
+        return int(self.state)
+
+    def step(self, power: int, minutes: float) -> None:
+        """See Device. It changes nothing but the moment."""
+        self._passes(minutes)
+
+
+@dataclass(kw_only=True)
+class Load(_Given):
+    """Takes the given power."""
+
+
+@dataclass(kw_only=True)
+class Solar(_Given):
+    """Delivers the given power, a positive number; wind and all else that delivers what it has is written so too."""
+
+    def bid(self, now: datetime) -> Bid:
+        """See Device."""
+        super().bid(now)
+        return -int(self.state)

@@ -1,0 +1,326 @@
+"""The market of a simulation: the proved program over its stream, and a proved relay for each group with limits.
+
+So each price is that of the auction over the bids that were made, whatever the models do. docs/SERVE.md and docs/RELAY.md have the
+frames.
+"""
+
+from __future__ import annotations
+
+import os
+import struct
+import subprocess
+from collections.abc import Callable, Mapping, Sequence
+from contextlib import ExitStack, suppress
+from dataclasses import dataclass, field
+from types import TracebackType
+from typing import TypeGuard
+
+from ..cluster import Basis
+from ..errors import ProgramFault
+from ..live.frames import CHILDREN, WRITES, Bid, Clear, Fault, Frame, Hello, Price, RelayResume, Send, Splitter, are_limits
+from ..program import Program, chosen, live_command
+from .device import Demands
+
+# The most bytes that a process takes, and what is left of them for frames that ask.
+LONGEST, ROOM = 1_073_741_824, 4_096
+# An answer Price of `serve`, with its kind.
+PRICE, PRICE_KIND = struct.Struct(">BHIIH"), 5
+# The seconds in which a process ends whose input has ended, and the bytes that are read of it at once.
+LAST_SECONDS, PIECE = 5.0, 65_536
+
+
+@dataclass(frozen=True)
+class Group:
+    """Devices whose power together is held within limits, by a price of their own, as a limited concentrator has it.
+
+    floor, ceiling: the least and the greatest watts that they take together
+    devices:        their names
+    """
+
+    name: str
+    floor: int
+    ceiling: int
+    devices: tuple[str, ...]
+
+    def __post_init__(self) -> None:
+        """Raises ValueError for limits that no relay has."""
+        object.__setattr__(self, "devices", tuple(self.devices))
+        if not are_limits(self.floor, self.ceiling):
+            raise ValueError(f"the group {self.name} has limits {self.floor} to {self.ceiling}: a floor of at most 0 and a ceiling of at least 0 W are due")
+
+
+class _Node:
+    """A process that reads frames and writes frames, and the newest bid of each of its children. What it reads waits until it is asked.
+
+    A process takes so many bytes and no more. Before that it is started anew, and hears all bids again.
+    """
+
+    def __init__(self, what: str, basis: Basis) -> None:
+        self._what = what
+        self._hello = Hello(basis.min, basis.max, basis.steps).to_bytes()
+        self._bids: dict[int, bytes] = {}
+        self.has_news = False
+        self._begin(self._hello)
+
+    def _open(self) -> subprocess.Popen[bytes]:
+        """Starts the process. Raises NoProgram and ProgramFault."""
+        raise NotImplementedError
+
+    def _begin(self, first: bytes) -> None:
+        self._process = self._open()
+        self._waiting = [first, *self._bids.values()]
+        self._sent = sum(map(len, self._waiting))
+
+    def _again(self) -> bytes:
+        """What a process is told first that takes the place of another one."""
+        return self._hello
+
+    def bid(self, child: int, frame: bytes) -> None:
+        """Takes a bid of a child, whose number has risen."""
+        if self._sent + len(frame) > LONGEST - ROOM:
+            self.close()
+            self._begin(self._again())
+        self._bids[child] = frame
+        self._waiting.append(frame)
+        self._sent += len(frame)
+        self.has_news = True
+
+    def ask(self, frame: bytes) -> None:
+        """Writes what waits and this frame, which asks for answers. Raises ProgramFault."""
+        data, self._waiting = b"".join([*self._waiting, frame]), []
+        self._sent += len(frame)
+        assert self._process.stdin is not None
+        try:
+            self._process.stdin.write(data)
+            self._process.stdin.flush()
+        except OSError:
+            raise self.fault("it reads no more") from None
+
+    def read(self, size: int) -> bytes:
+        """The next bytes, at least one and at most so many. Raises ProgramFault at the end."""
+        assert self._process.stdout is not None
+        found = os.read(self._process.stdout.fileno(), size)
+        if not found:
+            raise self.fault("its answers end")
+        return found
+
+    def fault(self, why: str) -> ProgramFault:
+        """The error of what it does, with its status if it has ended."""
+        try:
+            return ProgramFault(f"{self._what}: {why}, and its status is {self._process.wait(LAST_SECONDS)}")
+        except subprocess.TimeoutExpired:
+            return ProgramFault(f"{self._what}: {why}")
+
+    def close(self) -> None:
+        """Ends its input, and waits for its end."""
+        for end in (self._process.stdin, self._process.stdout):
+            if end is not None:
+                with suppress(OSError):
+                    end.close()
+        try:
+            self._process.wait(LAST_SECONDS)
+        except subprocess.TimeoutExpired:
+            self._process.kill()
+            self._process.wait()
+
+
+class _Auctioneer(_Node):
+    """The program `market serve`."""
+
+    def __init__(self, program: Program, basis: Basis) -> None:
+        self._program = program
+        super().__init__("market serve", basis)
+
+    def _open(self) -> subprocess.Popen[bytes]:
+        self.index = 0
+        return self._program.open("serve")
+
+    def clear(self) -> dict[int, int]:
+        """The step of each child, once a bid is new. Raises ProgramFault."""
+        self.ask(Clear().to_bytes())
+        self.index += 1
+        self.has_news = False
+        due, data = len(self._bids) * PRICE.size, b""
+        while len(data) < due:
+            data += self.read(due - len(data))
+        steps: dict[int, int] = {}
+        for kind, child, _, index, step in PRICE.iter_unpack(data):
+            if kind != PRICE_KIND or index != self.index:
+                raise self.fault("it wrote no Price of this clearing")
+            steps[child] = step
+        return steps
+
+
+class _Relay(_Node):
+    """The program `live relay` of a group."""
+
+    def __init__(self, group: Group, child: int, basis: Basis, live: str) -> None:
+        self.child = child
+        self._basis = basis
+        self._words = [live, "relay", str(child), str(group.floor), str(group.ceiling)]
+        self._number, self._resume, self._index = 0, b"", 0
+        super().__init__(" ".join(self._words), basis)
+
+    def _open(self) -> subprocess.Popen[bytes]:
+        self._frames = Splitter(WRITES["relay"], self._basis.steps)
+        try:
+            return subprocess.Popen(self._words, stdin=subprocess.PIPE, stdout=subprocess.PIPE)
+        except OSError as error:
+            raise ProgramFault(f"{self._words[0]} cannot be started: {error.strerror}") from None
+
+    def _again(self) -> bytes:
+        return self._hello + self._resume
+
+    def _answers(self, frame: Frame, is_last: Callable[[Frame], bool]) -> list[Frame]:
+        """The frames with which it answers one, up to the last of them. Raises ProgramFault."""
+        self.ask(frame.to_bytes())
+        found: list[Frame] = []
+        while not any(map(is_last, found)):
+            found += self._frames.feed(self.read(PIECE))
+            if found and isinstance(found[-1], Fault):
+                raise self.fault("it found a bad frame")
+        for it in found:
+            self._resume = it.to_bytes() if isinstance(it, RelayResume) else self._resume
+        return found
+
+    def announced(self) -> bytes:
+        """The bid of the group for the auctioneer, once a bid in it is new. One that was started anew may first give its last bid again."""
+        self.has_news = False
+        found = [it for it in self._answers(Send(), self._is_newer) if self._is_newer(it)]
+        self._number = found[0].number
+        return found[0].to_bytes()
+
+    def _is_newer(self, frame: Frame) -> TypeGuard[Bid]:
+        return isinstance(frame, Bid) and frame.number > self._number
+
+    def pass_down(self, step: int) -> dict[int, int]:
+        """The step of each device of the group, after the auctioneer has cleared at this step. Indices are the relay's own."""
+        self._index += 1
+        basis = self._basis
+        price = Price(self.child, self._number, self._index, step, basis.min, basis.max, basis.steps)
+        found = self._answers(price, lambda it: isinstance(it, RelayResume))
+        return {it.child: it.step for it in found if isinstance(it, Price)}
+
+
+@dataclass(frozen=True)
+class Cleared:
+    """What a market came to: its step, and the step of each group and each device."""
+
+    step: int
+    groups: Mapping[str, int]
+    devices: Mapping[str, int]
+
+
+@dataclass
+class _Child:
+    """A device of a market: its place, the number of its last bid, and that bid."""
+
+    group: str | None
+    child: int
+    number: int = 0
+    demands: Demands | None = field(default=None, repr=False)
+
+
+class Market:
+    """The proved market of some devices, from its start to its end: `with Market(basis, names) as market`."""
+
+    def __init__(
+        self,
+        basis: Basis,
+        devices: Sequence[str],
+        groups: Sequence[Group] = (),
+        *,
+        program: Program | None = None,
+        live: str | None = None,
+    ) -> None:
+        """Starts it.
+
+        devices: the names of all devices
+        groups:  which of them are held within limits together; a device is in one group at most
+        program: the proved program, by default the one that `Program.find()` finds
+        live:    the program of the groups' relays, by default that of the install or the checkout
+
+        Raises ValueError for names and groups that do not fit, NoProgram and ProgramFault.
+        """
+        self._basis = basis
+        self._bid = struct.Struct(f">BHI{basis.steps}i")
+        self._children = _places(devices, groups)
+        self._is_changed = False
+        self._cleared = Cleared(0, {it.name: 0 for it in groups}, {})
+        self._stack = ExitStack()
+        with ExitStack() as stack:
+            self._auctioneer = _Auctioneer(chosen(program), basis)
+            stack.callback(self._auctioneer.close)
+            self._relays: dict[str, _Relay] = {}
+            for child, group in enumerate(groups, 1):
+                self._relays[group.name] = _Relay(group, child, basis, live or live_command())
+                stack.callback(self._relays[group.name].close)
+            self._stack = stack.pop_all()
+
+    def __enter__(self) -> Market:
+        return self
+
+    def __exit__(self, kind: type[BaseException] | None, error: BaseException | None, trace: TracebackType | None) -> None:
+        self.close()
+
+    def close(self) -> None:
+        """Ends its processes."""
+        self._stack.close()
+
+    def bid(self, device: str, demands: Demands) -> None:
+        """Takes the demand of a device at each step, in watts. The same again is no new bid."""
+        it = self._children[device]
+        if demands == it.demands:
+            return
+        it.demands, self._is_changed = demands, True
+        it.number += 1
+        to = self._auctioneer if it.group is None else self._relays[it.group]
+        to.bid(it.child, self._bid.pack(Bid.KIND, it.child, it.number, *demands))
+
+    def clear(self) -> Cleared:
+        """Clears over the newest bids. Without a new one all is as before; without any the step is 0. Raises ProgramFault."""
+        if not self._is_changed:
+            return self._cleared
+        self._is_changed = False
+        for relay in self._relays.values():
+            if relay.has_news:
+                self._auctioneer.bid(relay.child, relay.announced())
+        self._cleared = self._told(self._auctioneer.clear())
+        return self._cleared
+
+    def _told(self, steps: dict[int, int]) -> Cleared:
+        below = {name: relay.pass_down(steps[relay.child]) for name, relay in self._relays.items() if relay.child in steps}
+        # All devices of a group have one step, and so have all children of the auctioneer.
+        step = next(iter(steps.values()))
+        groups = {name: next(iter(below.get(name, {}).values()), step) for name in self._relays}
+        devices = {
+            name: steps[it.child] if it.group is None else below[it.group][it.child]
+            for name, it in self._children.items() if it.demands is not None
+        }
+        return Cleared(step, groups, devices)
+
+
+def _places(devices: Sequence[str], groups: Sequence[Group]) -> dict[str, _Child]:
+    """The place of each device. Raises ValueError."""
+    if len(set(devices)) != len(devices):
+        raise ValueError("two devices have one name: give each its own")
+    above: dict[str, str] = {}
+    for group in groups:
+        for name in group.devices:
+            if name not in devices:
+                raise ValueError(f"the group {group.name} has {name}, which is no device")
+            if name in above:
+                raise ValueError(f"{name} is in the groups {above[name]} and {group.name}: a device is in one group at most")
+            above[name] = group.name
+    if len({it.name for it in groups}) != len(groups) or any(not it.devices for it in groups):
+        raise ValueError("each group has a name of its own and one device or more")
+    # Groups are the first children of the auctioneer.
+    counts: dict[str | None, int] = {None: len(groups)}
+    found: dict[str, _Child] = {}
+    for name in devices:
+        group_name = above.get(name)
+        counts[group_name] = counts.get(group_name, 0) + 1
+        if counts[group_name] > CHILDREN:
+            raise ValueError(f"{group_name or 'the market'} has more than {CHILDREN} children: put devices into groups")
+        found[name] = _Child(group_name, counts[group_name])
+    return found

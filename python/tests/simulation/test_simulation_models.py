@@ -1,0 +1,283 @@
+"""Models of devices against textbook cases: by hand, or by the closed formula of a body that cools."""
+
+from __future__ import annotations
+
+from datetime import datetime, time, timedelta
+from math import e
+
+import pytest
+from checks.oracle import auction
+from clusters import bases, bids, devices
+from hypothesis import given
+from hypothesis import settings as hypothesis_settings
+from hypothesis import strategies as st
+
+from cogmaula import Basis, Manual, Objective, State
+from cogmaula.simulation import (
+    BadBid,
+    Battery,
+    Boiler,
+    Cogeneration,
+    Device,
+    Held,
+    HeatPump,
+    Load,
+    Solar,
+    Vehicle,
+    demands_of,
+)
+from cogmaula.simulation.kinds import ClusterDevice
+
+NOON = datetime(2026, 6, 1, 12)
+TEN = Basis(0, 9, 10)
+
+
+# Bids.
+
+
+@pytest.mark.parametrize(
+    ("bid", "due"),
+    [
+        (5, [5] * 10),
+        ([9, 8, 7, 6, 5, 4, 3, 2, 1, 0], [9, 8, 7, 6, 5, 4, 3, 2, 1, 0]),
+        # By hand: 10 - 10/3 is 6.67, which is 6 rounded down, and 10 - 20/3 is 3.
+        ([(0, 10), (3, 0)], [10, 6, 3, 0, 0, 0, 0, 0, 0, 0]),
+        # Of two points at a price the last holds there.
+        ([(4, 100), (4, -50)], [100] * 4 + [-50] * 6),
+        ([(9, 1)], [1] * 10),
+    ],
+)
+def test_bids_by_hand(bid, due):
+    assert demands_of(bid, TEN, "a") == tuple(due)
+
+
+@hypothesis_settings(max_examples=60)
+@given(st.data())
+def test_points_as_the_plain_auction_has_them(data):
+    basis = data.draw(bases())
+    given_bid = data.draw(bids(basis))
+    due = auction.state_of(given_bid, basis.prices)
+    assert demands_of(next(iter(given_bid.values())), basis, "a") == tuple(due)
+
+
+@pytest.mark.parametrize(
+    ("bid", "words"),
+    [
+        ([1, 2], "2 demands, and 10 are due"),
+        (list(range(10)), "above the one of the step before"),
+        (1.5, "whole watts"),
+        (True, "whole watts"),
+        (1_000_000_001, "outside ±1000000000"),
+        ([(0, 1), (10, 0)], "points from price 0 to 10, and the prices are 0 to 9"),
+        ([(0, 1), (5, 2)], "demands never rise"),
+        ([(5, 2), (4, 1)], "prices never fall"),
+        ([(0, 1, 2)], "a pair"),
+        ([(0, 0)] * 65, "65 points"),
+    ],
+)
+def test_bids_that_no_market_takes_name_the_device(bid, words):
+    with pytest.raises(BadBid, match=f"store bids .*{words}"):
+        demands_of(bid, TEN, "store")
+
+
+# The battery.
+
+
+def test_a_battery_loses_on_both_ways():
+    """By hand: of 1000 Wh nine tenths go in, and for 900 Wh out it gives 1000."""
+    store = Battery("store", 5000, 2000, 2000, (0, 9), 2000, efficiency=0.81)
+    store.step(1000, 60)
+    assert store.state == pytest.approx(2900)
+    store.step(-900, 60)
+    assert store.state == pytest.approx(1900)
+    store.step(-2000, 600)
+    assert store.state == 0
+    store.step(2000, 600)
+    assert store.state == 5000
+
+
+@pytest.mark.parametrize(
+    ("energy", "reserve", "due"),
+    [
+        # A quarter full, so the middle is three quarters of the way from 10 to 50.
+        (1000, 0, [(10, 2000), (40, 0), (50, -2000)]),
+        (4000, 0, [(10, 0), (10, 0), (50, -2000)]),
+        # 100 Wh fit into a quarter of an hour by 400 W, and come out so.
+        (3900, 0, [(10, 400), (11, 0), (50, -2000)]),
+        (100, 0, [(10, 2000), (49, 0), (50, -400)]),
+        # The reserve is not sold, and the middle counts from it.
+        (1000, 1000, [(10, 2000), (50, 0), (50, 0)]),
+        (2500, 1000, [(10, 2000), (30, 0), (50, -2000)]),
+    ],
+)
+def test_a_battery_bids_in_proportion_to_its_charge(energy, reserve, due):
+    assert Battery("store", 4000, 2000, 2000, (10, 50), energy, reserve=reserve).bid(NOON) == due
+
+
+# Heat.
+
+
+def house(**more):
+    """By hand: 1500 W of heat pump are 4500 W of heat, which hold 30 degrees above the outside at 150 W for a degree."""
+    common = {"power": 1500, "cop": 3, "loss": 150, "constant": 60, "outdoor": 0.0, "low": 19, "high": 22}
+    return HeatPump(**{"name": "pump", "prices": (20, 80), "temperature": 20, **common, **more})
+
+
+def test_a_house_warms_and_cools_by_its_time_constant():
+    """In a time constant the distance to where it tends falls to 1/e, in two parts as in one."""
+    warm, cool, parted = house(), house(outdoor=5.0), house()
+    warm.step(1500, 60 * 60)
+    assert warm.state == pytest.approx(30 - 10 / e)
+    cool.step(0, 60 * 60)
+    assert cool.state == pytest.approx(5 + 15 / e)
+    parted.step(1500, 13 * 60)
+    parted.step(1500, 47 * 60)
+    assert parted.state == pytest.approx(warm.state)
+
+
+def test_the_weather_is_that_of_the_moment_of_the_bid():
+    weather = Held(NOON, 60, [0.0, 30.0], repeats=True)
+    one = house(outdoor=weather, temperature=20)
+    with pytest.raises(ValueError, match="bid before step"):
+        one.step(0, 60)
+    one.bid(NOON)
+    one.step(0, 60)
+    assert one.state == pytest.approx(20 * e ** (-1 / 60))
+    one.step(0, 60)
+    assert one.state > 20 * e ** (-1 / 60)
+
+
+@pytest.mark.parametrize(
+    ("temperature", "due"), [(18.5, 1500), (19, 1500), (20.5, [(50, 1500), (50, 0)]), (21.4, [(32, 1500), (32, 0)]), (22, 0), (25, 0)]
+)
+def test_a_heat_pump_pays_more_the_colder_it_is(temperature, due):
+    assert house(temperature=temperature).bid(NOON) == due
+
+
+def test_a_boiler_warms_100_litres_by_10_degrees_with_1163_watt_hours():
+    tank = {"name": "boiler", "power": 1163, "litres": 100, "low": 50, "high": 65, "prices": (10, 60), "temperature": 50}
+    boiler = Boiler(**tank, drawn=0.0, loss=1e-6)
+    assert boiler.bid(NOON) == 1163
+    boiler.step(1163, 60)
+    assert boiler.state == pytest.approx(60, abs=1e-4)
+    assert boiler.bid(NOON) == [(27, 1163), (27, 0)]
+    # What is drawn counts against what is heated: it tends to the room, at 2 W for a degree with a time constant of 58.15 h.
+    idle = Boiler(**tank, drawn=1163.0)
+    idle.step(1163, 58.15 * 60)
+    assert idle.state == pytest.approx(20 + 30 / e)
+
+
+@pytest.mark.parametrize(("temperature", "due"), [(49, -1000), (50, -1000), (65, [(45, 0), (45, -1000)]), (80, 0)])
+def test_cogeneration_sells_cheaper_the_colder_its_buffer_is(temperature, due):
+    unit = Cogeneration(
+        name="chp", power=1000, heat=2000, litres=500, drawn=2000.0, low=50, high=80, prices=(20, 70), temperature=temperature
+    )
+    assert unit.bid(NOON) == due
+    # Its heat is what is drawn, so the buffer tends to the room: 500 l and 2 W for a degree are 290.75 h.
+    unit.step(-1000, 290.75 * 60)
+    assert unit.state == pytest.approx(20 + (temperature - 20) / e)
+
+
+# The vehicle.
+
+
+def car(**more):
+    return Vehicle(**{"name": "car", "power": 11_000, "arrival": time(18), "departure": time(7), "needed": 22_000, "prices": (20, 90), **more})
+
+
+def drive(one, begin, hours, takes):
+    """Lets it bid each quarter of an hour. `takes` gives its power for a bid. Gives the hours at which it charged."""
+    found = []
+    for quarter in range(4 * hours):
+        now = begin + timedelta(minutes=15 * quarter)
+        power = takes(one.bid(now))
+        one.step(power, 15)
+        if power:
+            found.append(now.hour + now.minute / 60)
+    return found
+
+
+def test_a_vehicle_charges_at_the_last_moment_if_all_is_dear_and_is_full_at_its_departure():
+    """By hand: 22 kWh by 11 kW are two hours, so from 5 to 7."""
+    one = car()
+    hours = drive(one, NOON, 24, lambda bid: bid if isinstance(bid, int) else 0)
+    assert (min(hours), max(hours), len(hours)) == (5, 6.75, 8)
+    assert (one.state, one.unmet, one.is_there) == (0, 0, False)
+
+
+def test_a_vehicle_charges_at_once_if_all_is_cheap():
+    one = car()
+    hours = drive(one, NOON, 24, lambda bid: bid if isinstance(bid, int) else bid[0][1])
+    assert (min(hours), max(hours), len(hours)) == (18, 19.75, 8)
+
+
+def test_a_vehicle_pays_by_the_share_of_the_time_that_it_needs():
+    """By hand: at 18:00 it needs 2 of 13 hours, so 20 + 70 * 2/13 is 30.8."""
+    one = car()
+    assert one.bid(NOON) == 0
+    assert one.bid(NOON.replace(hour=18)) == [(31, 11_000), (31, 0)]
+    one.step(11_000, 60)
+    assert one.state == 11_000
+    # What is missing at the departure is told, and the next day it needs all again.
+    one.bid(NOON + timedelta(hours=19))
+    assert (one.unmet, one.state) == (11_000, 0)
+    one.bid(NOON + timedelta(hours=30))
+    assert one.state == 22_000
+
+
+def test_a_vehicle_at_work_by_day():
+    one = car(arrival=time(8), departure=time(16), needed=10_000)
+    hours = drive(one, NOON.replace(hour=0), 24, lambda bid: bid if isinstance(bid, int) else 0)
+    assert (min(hours), max(hours)) == (15, 15.75)
+    assert one.unmet == 0
+
+
+def test_given_powers():
+    sun = Held(NOON, 30, [100.4, 200.6])
+    roof, load = Solar(name="roof", power=sun), Load(name="house", power=400)
+    assert [roof.bid(NOON + timedelta(minutes=it)) for it in (-1, 0, 29, 30, 90)] == [-100, -100, -100, -201, -201]
+    assert (load.bid(NOON), load.state) == (400, 400)
+
+
+@pytest.mark.parametrize(
+    "make",
+    [
+        lambda: Battery("a", 100, 1, 1, (0, 9), 200),
+        lambda: Battery("a", 100, 1, 1, (0, 9), 50, reserve=100),
+        lambda: Battery("a", 100, 1, 1, (0, 9), 50, efficiency=0),
+        lambda: house(low=22),
+        lambda: house(loss=0),
+        lambda: Boiler(name="a", power=1, litres=0, drawn=0.0, low=1, high=2, prices=(0, 9), temperature=1),
+        lambda: car(departure=time(18)),
+        lambda: Held(NOON, 0, [1.0]),
+    ],
+)
+def test_what_no_device_has(make):
+    with pytest.raises(ValueError):
+        make()
+
+
+# The kinds of a cluster file.
+
+
+@hypothesis_settings(max_examples=200)
+@given(st.data())
+def test_kinds_bid_and_step_as_the_plain_auction_has_them(data):
+    """The bid of each kind and state; and over a tick in parts the state of that tick, except that what is rounded differs by one."""
+    basis = data.draw(bases())
+    node = data.draw(devices("d", ["auctioneer"], basis))
+    minutes, power = data.draw(st.integers(1, 1440)), data.draw(st.integers(-3000, 3000))
+    one: Device = ClusterDevice(node, basis, minutes)
+    state = auction.state_of(node.members(), basis.prices)
+    assert demands_of(one.bid(NOON), basis, "d") == tuple(auction.bid_of(node.members(), state, basis.steps))
+    for _ in range(parts := data.draw(st.integers(1, 5))):
+        one.step(power, minutes / parts)
+    if node.ticks:
+        assert one.state == pytest.approx(auction.after_tick(node.members(), node.start, power, minutes), abs=1)
+
+
+def test_kinds_take_the_states_of_events():
+    one, other = ClusterDevice(Objective("o", start=5), TEN, 15), ClusterDevice(Manual("m", points=[(0, 9), (9, 0)]), TEN, 15)
+    one.set(State("o", 7))
+    other.set(State("m", demand=[3] * 10))
+    assert (one.bid(NOON), other.bid(NOON)) == (-7, (3,) * 10)
