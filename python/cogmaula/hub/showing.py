@@ -17,15 +17,20 @@ LAST_SECONDS = 1.0
 class Showing:
     """Shows the market of an exchange. No call raises or waits for long: what is wrong with the page is a line."""
 
-    def __init__(self, settings: PageSettings | None, prefix: str, exchange: Exchange, say: Callable[[str], None]) -> None:
-        """Takes the settings, the prefix of the market's topics, the exchange and a call for lines. Without settings there is no page."""
+    def __init__(
+        self, settings: PageSettings | None, prefix: str, exchange: Exchange, say: Callable[[str], None], note: str = ""
+    ) -> None:
+        """Takes the settings, the prefix of the market's topics, the exchange, a call for lines, and what the page has to say of the market.
+
+        Without settings there is no page.
+        """
         self._exchange = exchange
         self._page: Page | None = None
         if settings is None:
             return
         self._board = Board(lambda text: say(f"page: {text}"))
         try:
-            self._page = Page(settings, prefix, self._board, lambda text: say(f"page: {text}"))
+            self._page = Page(settings, prefix, self._board, lambda text: say(f"page: {text}"), note=note)
         except NoPackage as error:
             say(f"page: {error}")
 

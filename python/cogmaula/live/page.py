@@ -76,15 +76,17 @@ class Page:
         say: Callable[[str], None],
         own: str | None = None,
         pause: float = PAUSE,
+        note: str = "",
     ) -> None:
         """Takes the settings, the market's prefix, the board and a call for lines. Raises NoPackage if websockets is missing.
 
         own:   the node whose messages alone the board holds, None if it holds all of the market
         pause: the seconds between tries to listen
+        note:  what the page says of the market, such as that its devices are models
         """
         protocol_of("a page")
         self.settings = settings
-        self._prefix, self._own = prefix, own
+        self._prefix, self._own, self._note = prefix, own, note
         self._board = board
         self._say = say
         self._said: set[str] = set()
@@ -182,7 +184,7 @@ class Page:
     def _made(self) -> str:
         """A view as JSON, with the time when it was made and since when there is no connection to the broker."""
         messages, lost_since = self._board.copy()
-        told = {"time": now_text(), "own": self._own, "lost_since": lost_since}
+        told = {"time": now_text(), "own": self._own, "note": self._note, "lost_since": lost_since}
         try:
             return json.dumps({**told, **view_of(self._prefix, messages, self._own).to_json()})
         except Exception as error:

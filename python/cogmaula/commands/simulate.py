@@ -1,0 +1,69 @@
+"""`cogmaula simulate`: a cluster file as a living market, with models as its devices."""
+
+from __future__ import annotations
+
+import argparse
+import signal
+import sys
+
+from .. import cli
+from ..cluster import Cluster, bytes_of
+from ..live.errors import BadSettings
+from ..live.page_settings import PageSettings
+from ..program import LIVE_VARIABLE, live_command
+
+HELP = "lets a cluster file live: its devices as models in a market of proved nodes, by the clock"
+MORE = (
+    "Each node of the file is a node of a living market, in one process and without a broker. Phases of events come by the clock, and"
+    " after the last one the devices live on. The devices are models, and no part of the market. docs/DEVICES.md says more."
+)
+# Where a page is served if no address is given: the system chooses the port.
+ANY_PORT = "127.0.0.1:0"
+
+
+def _positive(text: str) -> float:
+    """A number above 0."""
+    try:
+        found = float(text)
+    except ValueError:
+        found = 0.0
+    if not 0 < found < 1e9:
+        raise argparse.ArgumentTypeError(f"{text!r} is no number above 0")
+    return found
+
+
+def add_arguments(parser: argparse.ArgumentParser) -> None:
+    """Adds the arguments of simulate."""
+    parser.add_argument("file", metavar="FILE", help="a cluster file; - is standard input")
+    parser.add_argument("--speed", type=_positive, default=60.0, metavar="N", help="seconds of the devices in a second; default 60, an hour a minute")
+    parser.add_argument("--minutes", type=_positive, metavar="N", help="ends after so many minutes of the devices; without it Ctrl-C ends it")
+    told = "serves a page to look at, and prints its address; without an address at a free port of this machine"
+    parser.add_argument("--page", nargs="?", const=ANY_PORT, metavar="HOST:PORT", help=told)
+    parser.add_argument("--live", metavar="PROGRAM", help=f"the program live; else ${LIVE_VARIABLE}, live on the PATH, or that of the checkout")
+
+
+def main(arguments: argparse.Namespace) -> int:
+    """Lives until the time is over or a signal ends it."""
+    from ..simulation.living import LivingCluster
+
+    data = bytes_of(cli.source_of(arguments.file))
+    cluster = Cluster.from_json(data)
+    cluster.check(cli.program_of(arguments))
+    try:
+        page = None if arguments.page is None else PageSettings(arguments.page)
+        living = LivingCluster(cluster, arguments.live or live_command(), speed=arguments.speed, page=page, tell=_tell, say=_say)
+    except BadSettings as error:
+        print(f"cogmaula: {error}", file=sys.stderr)
+        return cli.MISUSED
+    for number in (signal.SIGTERM, signal.SIGINT):
+        signal.signal(number, lambda *_: living.stop())
+    living.run(arguments.minutes)
+    return 0
+
+
+def _tell(line: str) -> None:
+    print(line, flush=True)
+
+
+def _say(line: str) -> None:
+    print(f"cogmaula simulate: {line}", file=sys.stderr, flush=True)

@@ -1,0 +1,230 @@
+"""A cluster file as a living market: a node of `cogmaula.live` for each node of the file, in one process, and models as the devices.
+
+The nodes are joined by the exchange of a hub. Each has its own process of the proved program `live`, so a concentrator is a relay, and
+a limited one keeps its limits. What the devices are is a model, and no part of the market.
+"""
+
+from __future__ import annotations
+
+import json
+import shutil
+import tempfile
+import threading
+import time
+from collections.abc import Callable
+from pathlib import Path
+
+from ..cluster import Cluster
+from ..errors import NoProgram
+from ..hub.exchange import Exchange
+from ..hub.running import Running
+from ..hub.showing import Showing
+from ..live.broker import Message
+from ..live.errors import LiveError
+from ..live.frames import MOST, PRICES, Price, frame_of
+from ..live.messages import StateMessage
+from ..live.node import Node
+from ..live.page_settings import PageSettings
+from ..live.settings import Settings
+from ..nodes import AUCTIONEER, Limited
+from ..program import LIVE_VARIABLE
+from .device import Demands
+from .life import Life
+
+# The seconds between two looks at the clock, in which models step and bid; and those between two clearings.
+EVERY, PAUSE = 0.5, 0.1
+# The seconds between looks of a device's node at its own clock, and those in which all nodes have to end.
+TICK, LAST_SECONDS = 1.0, 5.0
+# The seconds within which a page is served, if it can be, and a node is in its session.
+PAGE_SECONDS, START_SECONDS = 2.0, 30.0
+NOTE = "The devices here are models, which cogmaula simulate runs. They are no part of the market, and nothing about them is proved."
+
+
+class ModelControl:
+    """The control of a model: it offers what the model bids, and keeps the power that it is told. See Control."""
+
+    def __init__(self) -> None:
+        """Offers nothing yet."""
+        self._lock = threading.Lock()
+        self._notify: Callable[[bytes], None] | None = None
+        self._offer: bytes | None = None
+        # The newest power that it was told, in watts: a setpoint's, or the fallback while the market is silent.
+        self.power = 0
+
+    def start(self, notify: Callable[[bytes], None], _say: Callable[[str], None]) -> None:
+        """See Control."""
+        with self._lock:
+            self._notify = notify
+            if self._offer is not None:
+                notify(self._offer)
+
+    def write(self, setpoint: bytes) -> None:
+        """See Control."""
+        told = json.loads(setpoint)
+        self.power = told.get("power", self.power)
+
+    def offer(self, demands: Demands | None) -> None:
+        """Offers these demands in watts, None to leave. The same again is told to nobody."""
+        data = json.dumps({"leave": True} if demands is None else {"power": demands}).encode()
+        with self._lock:
+            if data == self._offer or (self._offer is None and demands is None):
+                return
+            self._offer = data
+            if self._notify is not None:
+                self._notify(data)
+
+
+class LivingCluster:
+    """A cluster file that lives, from its start to its end. `run` does the work, and `stop` ends it from anywhere."""
+
+    def __init__(
+        self,
+        cluster: Cluster,
+        live: str,
+        *,
+        speed: float = 60.0,
+        page: PageSettings | None = None,
+        tell: Callable[[str], None] = print,
+        say: Callable[[str], None] = print,
+    ) -> None:
+        """Takes a cluster that the program takes.
+
+        live:  the program `live`
+        speed: how many seconds of the devices pass in a second
+        page:  where a page of the market is served, None for no page
+        tell:  takes a line for each phase and each new price; `say` one for what is wrong
+
+        Raises BadSettings for a name or limits that no node of a living market has, and NoProgram if there is no program `live`.
+        """
+        if shutil.which(live) is None:
+            raise NoProgram(f"there is no program {live}: prove it by ./market prove live, or name it by --live or {LIVE_VARIABLE}")
+        self._cluster = cluster
+        self._live = live
+        self._speed = speed
+        self._tell = tell
+        self._say = say
+        self.life = Life(cluster)
+        self.exchange = Exchange()
+        self.controls = {it: ModelControl() for it in self.life.devices}
+        self._folder = tempfile.TemporaryDirectory(prefix="cogmaula.")
+        self._settings = self._all_settings(Path(self._folder.name))
+        self.topics = self._settings[0].topics
+        self._page = page
+        self._showing = Showing(page, self.topics.prefix, self.exchange, say, NOTE)
+        self._running: list[Running] = []
+        self._stopping = threading.Event()
+        self._newest: Price | None = None
+
+    def _all_settings(self, folder: Path) -> list[Settings]:
+        """The settings of all nodes, parents first. Raises BadSettings."""
+        basis, live = self._cluster.basis, self._live
+        found = [Settings("auctioneer", AUCTIONEER, str(folder / "0"), basis, live, pause=PAUSE)]
+        children: dict[str, int] = {}
+        for number, node in enumerate(self._cluster.nodes, 1):
+            child = children[node.above] = children.get(node.above, 0) + 1
+            floor, ceiling = (node.floor, node.ceiling) if isinstance(node, Limited) else (-MOST, MOST)
+            sort = "device" if node.is_device else "relay"
+            found.append(Settings(
+                sort, node.name, str(folder / str(number)), basis, live, node.above, child, floor, ceiling, pause=PAUSE))  # type: ignore[arg-type]
+        return found
+
+    def run(self, minutes: float | None = None) -> None:
+        """Lives for so many minutes of the devices' clock, or until `stop` is called.
+
+        Raises LiveError or OSError if a node fails, such as for want of the program or of room on the disk.
+        """
+        self._showing.start()
+        self.exchange.watch(self._hear)
+        try:
+            self._tell_page()
+            self._start_nodes()
+            self._pass(minutes)
+        finally:
+            for it in reversed(self._running):
+                it.stop()
+            for it in reversed(self._running):
+                it.join(LAST_SECONDS)
+            self._showing.close()
+            self._folder.cleanup()
+        for it in self._running:
+            if it.error is not None:
+                raise it.error
+
+    def stop(self) -> None:
+        """Ends `run`, from any thread or from the handler of a signal."""
+        self._stopping.set()
+
+    def _tell_page(self) -> None:
+        """Tells the page's address, once it is served."""
+        end = time.monotonic() + PAGE_SECONDS
+        while self._page is not None and not self._showing.port and time.monotonic() < end and not self._stopping.is_set():
+            time.sleep(EVERY / 100)
+        if self._page is not None and self._showing.port:
+            host = f"[{self._page.host}]" if ":" in self._page.host else self._page.host
+            self._tell(f"page: http://{host}:{self._showing.port}/")
+
+    def _start_nodes(self) -> None:
+        """Starts all nodes, each parent before its children."""
+        for settings in self._settings:
+            control = self.controls.get(settings.name)
+            tick = TICK if settings.sort == "device" else EVERY / 10
+            node = Node(settings, control, lambda text, name=settings.name: self._say(f"{name}: {text}"), self.exchange.link, tick)  # type: ignore[misc]
+            self._running.append(Running(node, lambda _: None))
+            if settings.sort != "device":
+                self._wait_for(settings.name)
+
+    def _wait_for(self, name: str) -> None:
+        """Waits until a node is in its session. Raises LiveError if it does not come."""
+        end = time.monotonic() + START_SECONDS
+        while not self._is_up(name) and self._lives():
+            if time.monotonic() > end:
+                raise LiveError(f"the node {name} does not start within {START_SECONDS:g} s: the lines above say why")
+            time.sleep(EVERY / 100)
+
+    def _is_up(self, name: str) -> bool:
+        message = self.exchange.message(self.topics.of(name, "state"))
+        return message is not None and StateMessage.of(message.payload).state == "up"
+
+    def _lives(self) -> bool:
+        return not self._stopping.is_set() and all(it.is_alive for it in self._running)
+
+    def _pass(self, minutes: float | None) -> None:
+        """Lets the devices' time pass, and tells what happens."""
+        begin, told = time.monotonic(), ""
+        while self._lives():
+            passed = (time.monotonic() - begin) * self._speed / 60
+            now = passed if minutes is None else min(passed, minutes)
+            for line in self.life.advance(now):
+                self._tell(f"{self._clock} {line}")
+            for name, demands in self.life.bids().items():
+                self.controls[name].offer(demands)
+            self._stopping.wait(EVERY)
+            for name in self.life.members:
+                self.life.powers[name] = self.controls[name].power
+            if self._newest is not None and (sums := self._sums(self._newest)) != told:
+                told = sums
+                self._tell(f"{self._clock} {sums}")
+            if minutes is not None and now >= minutes:
+                return
+
+    @property
+    def _clock(self) -> str:
+        whole = int(self.life.minute)
+        return f"{whole // 60:02}:{whole % 60:02}"
+
+    def _sums(self, price: Price) -> str:
+        powers = [self.life.powers[name] for name in self.life.members]
+        taken, given = sum(it for it in powers if it > 0), -sum(it for it in powers if it < 0)
+        return f"price {self._cluster.basis.price(price.step)}: {len(powers)} devices take {taken} W and give {given} W"
+
+    def _hear(self, message: Message) -> None:
+        """Keeps the newest clearing of the auctioneer. It is called in the node's thread."""
+        if self.topics.child_of(message.topic, AUCTIONEER, "price") is None or not message.payload:
+            return
+        try:
+            found = frame_of(message.payload, PRICES, self._cluster.basis.steps)
+        except LiveError as error:
+            self._say(f"{message.topic}: {error}")
+            return
+        if isinstance(found, Price) and (self._newest is None or found.index > self._newest.index):
+            self._newest = found

@@ -1,0 +1,129 @@
+"""A cluster file that lives: its devices by the clock alone, and in a market of nodes with the real `live`."""
+
+from __future__ import annotations
+
+import json
+import re
+import threading
+
+import pytest
+from brokers import TOP, wait_until
+from looking import get, require_page
+
+from cogmaula import Basis, Battery, Cluster, Concentrator, Limited, Load, Solar, run
+from cogmaula.cli import main
+from cogmaula.live.page_settings import PageSettings
+from cogmaula.simulation.life import Life
+from cogmaula.simulation.living import LivingCluster, ModelControl
+
+
+EXAMPLES = TOP / "examples"
+
+
+@pytest.mark.parametrize("name", ["village", "battery_day", "street"])
+def test_life_by_the_powers_of_a_run_has_its_states_and_its_bids(program, name):
+    """At the end of each tick, however the time before it was cut."""
+    done = run(EXAMPLES / f"{name}.json", program=program)
+    life, minute = Life(done.cluster), 0
+    life.advance(0)
+    for phase, end, snapshot in zip(done.cluster.phases, done.ends, _snapshots(done), strict=True):
+        minutes = getattr(phase, "minutes", 0)
+        for part in range(1, 4):
+            life.advance(minute + minutes * part / 3)
+        minute += minutes
+        if not _is_before_events(done.cluster, end.phase):
+            assert life.members == snapshot.members
+            found = {it: round(life.devices[it].state, 3) for it, state in snapshot.states.items() if isinstance(state, int)}
+            assert found == {it: state for it, state in snapshot.states.items() if isinstance(state, int)}
+            bids, groups = life.bids(), {it.name: it.step for it in end.groups}
+            steps = {it: end.step if group is None else groups[group] for it, group in done.cluster.groups().items()}
+            assert {it: bid[steps[it]] for it, bid in bids.items() if bid is not None} == end.powers
+            life.powers.update(end.powers)
+
+
+def _snapshots(done):
+    from cogmaula.states import snapshots
+
+    return snapshots(done.cluster, done.ends)
+
+
+def _is_before_events(cluster, phase):
+    """Whether the phase behind this one comes at the same minute: then its events have happened too."""
+    return phase < len(cluster.phases) and not hasattr(cluster.phases[phase], "minutes")
+
+
+def test_the_village_lives_and_its_page_says_that_its_devices_are_models(program, live):
+    """Its first price is that of docs/CLUSTER_FILE.md, worked out there by hand: 40. Its phases of events come by the clock."""
+    require_page()
+    cluster, told, said = Cluster.load(EXAMPLES / "village.json"), [], []
+    living = LivingCluster(cluster, live, speed=600, page=PageSettings("127.0.0.1:0"), tell=told.append, say=said.append)
+    thread = threading.Thread(target=living.run)
+    thread.start()
+    try:
+        wait_until(lambda: told, "the page is told")
+        port = int(re.fullmatch(r"page: http://127\.0\.0\.1:(\d+)/", told[0])[1])
+        wait_until(lambda: any("phase 5" in it for it in told), f"the phases come: {told} {said}")
+        wait_until(lambda: living.life.minute >= 50, "it lives on")
+        view = json.loads(get(port, "/view")[2])
+    finally:
+        living.stop()
+        thread.join(20)
+    assert not thread.is_alive()
+    assert told[1] == "00:00 phase 1: freezer1 joins, heat1 joins, bat1 joins, chp1 joins, solar1 joins, load1 joins, flex joins"
+    assert told[2] == "00:00 price 40: 7 devices take 2800 W and give 2800 W"
+    assert any(it.startswith("00:15 phase 3: solar1 has 300, goal joins") for it in told)
+    assert any(it.startswith("00:45 phase 5: load1 leaves, goal leaves, flex has another bid") for it in told)
+    assert "models" in view["note"] and "no part of the market" in view["note"]
+    nodes = {it["name"]: it for it in view["nodes"]}
+    assert nodes["c2"]["parent"] == "c1" and set(nodes) == {"auctioneer", *(it.name for it in cluster.nodes)}
+    assert nodes["freezer1"]["setpoint"]["power"] in (0, 200)
+    assert nodes["load1"]["bid"]["is_gone"] and living.life.powers["load1"] == 0
+    assert [it for it in said if "session" not in it] == []
+
+
+def test_limits_hold_in_a_living_cluster(program, live):
+    """A roof of 3 kW beside a battery that takes 5 kW whole or not at all, below a ceiling of 1 kW: it never charges."""
+    nodes = [
+        Limited("feeder", floor=-1000, ceiling=1000),
+        Concentrator("row", parent="feeder"),
+        Battery("store", parent="row", capacity=10_000, charge=5000, discharge=0, spread=0, start=0),
+        Load("house", parent="row", start=500),
+        Solar("roof", start=3000),
+    ]
+    cluster = Cluster(Basis(0, 9, 10), nodes)
+    told = []
+    cluster = cluster.with_phases(cluster.join_all())
+    living = LivingCluster(cluster, live, tell=told.append, say=lambda _: None)
+    living.run(1)
+    assert living.life.minute == 1 and living.life.devices["store"].state == 0
+    assert told[-1] == "00:01 price 0: 3 devices take 500 W and give 3000 W" or told[-1].startswith("00:00 price 0: 3 devices take 500 W")
+
+
+def test_a_control_offers_what_is_new_and_keeps_what_it_is_told():
+    control, offered = ModelControl(), []
+    control.offer(None)
+    control.offer((3, 2))
+    control.start(offered.append, print)
+    control.offer((3, 2))
+    control.offer(None)
+    control.write(b'{"power": -150, "step": 1, "price": 1}')
+    assert control.power == -150
+    control.write(b'{"market": "live", "since": "2026-06-01T00:00:00Z"}')
+    assert control.power == -150
+    control.write(b'{"market": "silent", "power": 0, "why": "no heartbeat"}')
+    assert control.power == 0
+    assert [json.loads(it) for it in offered] == [{"power": [3, 2]}, {"leave": True}]
+
+
+def test_the_command(program, live, capsys, tmp_path):
+    path = str(EXAMPLES / "balance.json")
+    assert main(["simulate", path, "--minutes", "0.5"]) == 0
+    assert "00:00 price 2: 2 devices take 300 W and give 300 W" in capsys.readouterr().out
+    assert main(["simulate", path, "--page", "0.0.0.0:80"]) == 2
+    assert "no login" in capsys.readouterr().err
+    (tmp_path / "wrong.json").write_text("{}")
+    assert main(["simulate", str(tmp_path / "wrong.json")]) == 5
+    with pytest.raises(SystemExit) as ended:
+        main(["simulate", path, "--minutes", "0"])
+    assert ended.value.code == 2
+    assert main(["simulate", path, "--live", str(tmp_path / "none")]) == 1
