@@ -89,6 +89,7 @@ share/doc/market/CHANGELOG.md
 share/doc/market/CLUSTER_FILE.md
 share/doc/market/COMMANDS.md
 share/doc/market/COOKBOOK.md
+share/doc/market/DEVICES.md
 share/doc/market/GLOSSARY.md
 share/doc/market/HUB.md
 share/doc/market/LICENSE
@@ -117,7 +118,7 @@ share/market/units/market-serve@.service
 share/market/words.sh
 share/zsh/site-functions/_market
 FILES
-    for file in examples/*.json examples/*.txt examples/serve/*.py examples/live/[!m]* examples/live/mosquitto.* examples/hub/[!m]* examples/cookbook/* examples/neighbourhood/* pictures/*.svg pictures/*.png; do
+    for file in examples/*.json examples/*.txt examples/serve/*.py examples/live/[!m]* examples/live/mosquitto.* examples/hub/[!m]* examples/cookbook/* examples/devices/* examples/neighbourhood/* pictures/*.svg pictures/*.png; do
         echo "share/doc/market/$file"
     done
     for file in python/cogmaula/*.py python/cogmaula/*/*.py python/cogmaula/py.typed python/cogmaula/*.json python/cogmaula/*/*.html; do

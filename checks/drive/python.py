@@ -106,10 +106,10 @@ def look_at_types(python):
     command = [python, "-m", "mypy", "--cache-dir", os.devnull]
     done = subprocess.run(command, cwd=PACKAGE, capture_output=True, text=True, check=False)
     part.count(done.returncode == 0, f"mypy --strict: {done.stdout}{done.stderr}")
-    files = sorted(map(str, (TOP / "examples" / "cookbook").glob("*.py")))
+    files = sorted(str(it) for folder in ("cookbook", "devices") for it in (TOP / "examples" / folder).glob("*.py"))
     settings = ["--strict", "--config-file", "pyproject.toml", "--cache-dir", os.devnull]
     done = subprocess.run([python, "-m", "mypy", *settings, *files], cwd=PACKAGE, capture_output=True, text=True, check=False)
-    part.count(done.returncode == 0, f"mypy --strict of the cookbook: {done.stdout}{done.stderr}")
+    part.count(done.returncode == 0, f"mypy --strict of the examples: {done.stdout}{done.stderr}")
     return part
 
 

@@ -13,7 +13,7 @@ prices are the market's. docs/DEVICES.md says how to write a device of your own.
 
 from .battery import Battery
 from .device import BadBid, Bid, Demands, Device, demands_of
-from .given import Load, Solar
+from .given import Load, Manual, Solar
 from .heating import Boiler, Cogeneration, HeatPump
 from .markets import Group, Market
 from .profiles import Held, Profile
@@ -33,6 +33,7 @@ __all__ = [
     "HeatPump",
     "Held",
     "Load",
+    "Manual",
     "Market",
     "Profile",
     "Simulation",

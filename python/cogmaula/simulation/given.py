@@ -1,4 +1,4 @@
-"""Devices that do what they are given: a load takes it and a roof delivers it, at every price."""
+"""Devices that do what they are given: a load and a roof their power at every price, and a manual device its bid."""
 
 from __future__ import annotations
 
@@ -42,3 +42,19 @@ class Solar(_Given):
         """See Device."""
         super().bid(now)
         return -int(self.state)
+
+
+@dataclass
+class Manual:
+    """A device that always makes the same bid, such as the connection to a supplier who sells at one price and buys at another."""
+
+    name: str
+    offer: Bid
+    state: float = 0.0
+
+    def bid(self, now: datetime) -> Bid:
+        """See Device."""
+        return self.offer
+
+    def step(self, power: int, minutes: float) -> None:
+        """See Device. It changes nothing."""
