@@ -5,7 +5,7 @@ from __future__ import annotations
 from datetime import date, datetime
 
 from cogmaula import Basis
-from cogmaula.simulation import Bid, Held, Load, Manual, Solar, simulate
+from cogmaula.simulation import Bid, Device, Held, Load, Manual, Solar, simulate
 
 
 class PoolPump:
@@ -35,9 +35,13 @@ def main() -> None:
     """A day in a house with a roof, at a supplier who sells at 30 and buys at 8."""
     start = datetime(2026, 6, 1)
     sun = Held(start, 60, [max(0, 2400 - 400 * abs(hour - 12)) for hour in range(24)], repeats=True)
-    house = [PoolPump("pump", 1100, 6), Load(name="house", power=400), Solar(name="roof", power=sun)]
-    supplier = Manual("supplier", [(8, 9000), (9, 0), (29, 0), (30, -9000)])
-    day = simulate([*house, supplier], Basis(0, 99, 100), ticks=96, start=start)
+    devices: list[Device] = [
+        PoolPump("pump", 1100, 6),
+        Load(name="house", power=400),
+        Solar(name="roof", power=sun),
+        Manual("supplier", [(8, 9000), (9, 0), (29, 0), (30, -9000)]),
+    ]
+    day = simulate(devices, Basis(0, 99, 100), ticks=96, start=start)
     hours = day.prices[["price"]].join(day.powers["pump"]).droplevel("phase")
     print(hours[hours["pump"] > 0].iloc[::4])
 

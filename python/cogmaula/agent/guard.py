@@ -1,0 +1,121 @@
+"""What stands between the market's setpoint and a device: its bounds, its pace, its minimum times, and its fallback in silence.
+
+It looks at no clock of the day: all times are seconds of a clock that only rises, so a jump of the machine's clock changes nothing.
+"""
+
+from __future__ import annotations
+
+from collections.abc import Callable
+from dataclasses import dataclass
+
+from ..live.errors import BadSettings
+
+
+@dataclass(frozen=True)
+class Limits:
+    """What a device bears. Powers in watts, times in seconds.
+
+    least, greatest: the bounds of what it is told, whatever the market says
+    fallback:        what it takes if no setpoint comes for `silence`
+    pace:            the least time between two writes of setpoints
+    renew:           after which the same power is written again, as for a device that has lost it or watches for it
+    run, pause:      for how long it runs at least once it runs, and rests at least once it rests
+    """
+
+    least: int
+    greatest: int
+    fallback: int = 0
+    silence: float = 180.0
+    pace: float = 1.0
+    renew: float = 60.0
+    run: float = 0.0
+    pause: float = 0.0
+
+    def __post_init__(self) -> None:
+        """Raises BadSettings."""
+        if not self.least <= self.fallback <= self.greatest:
+            raise BadSettings(f"limits are {self.least} to {self.greatest} W and the fallback {self.fallback}: give a fallback within them")
+        if not (self.silence > 0 and self.renew > 0 and min(self.pace, self.run, self.pause) >= 0):
+            raise BadSettings("silence and renew have to be above 0 seconds, and pace, run and pause 0 or more")
+
+
+class Guard:
+    """What one device is told. Times are seconds of a clock that only rises."""
+
+    def __init__(self, limits: Limits, say: Callable[[str], None], now: float) -> None:
+        """Takes the limits and a call for lines. Nothing is written before the first setpoint, or `silence`."""
+        self._limits = limits
+        self._say = say
+        self._heard = now
+        self._wanted: int | None = None
+        self.is_silent = False
+        # What was written last, and when; and since when it runs or rests, as far as that is known.
+        self.written: int | None = None
+        self._written_at = self._since = -float("inf")
+        self._is_lost = False
+        self._said = ""
+
+    def hear(self, power: int, now: float) -> None:
+        """Takes a setpoint of the market."""
+        self._heard, self._wanted = now, power
+        if self.is_silent:
+            self.is_silent = False
+            self._say("a setpoint has come: the fallback is over")
+        bounded = self._bounded(power)
+        self._say_once("" if bounded == power else f"the setpoint is {power} W, and the device takes {bounded} W: it is within {self._range}")
+
+    def fall_back(self, why: str) -> None:
+        """Takes the market's word that it is silent."""
+        if not self.is_silent:
+            self.is_silent = True
+            self._say(f"{why}: the device takes its fallback, {self._limits.fallback} W")
+
+    def due(self, now: float) -> int | None:
+        """The power that has to be written now, in watts, None if nothing has to."""
+        if now - self._heard >= self._limits.silence:
+            self.fall_back(f"no setpoint came for {self._limits.silence:g} s")
+        if self.is_silent:
+            return self._if_new(self._limits.fallback, now)
+        if self._wanted is None or now - self._written_at < self._limits.pace:
+            return None
+        fixed, wanted = self.fixed(now), self._bounded(self._wanted)
+        power = wanted if fixed is None or (fixed and wanted) else fixed
+        return self._if_new(power, now)
+
+    def _if_new(self, power: int, now: float) -> int | None:
+        """The power, None if the device has it."""
+        is_known = power == self.written and not self._is_lost and now - self._written_at < self._limits.renew
+        return None if is_known else power
+
+    def wrote(self, power: int, now: float) -> None:
+        """Notes that the device has this power now."""
+        if self.written is None or bool(power) != bool(self.written):
+            self._since = now
+        self.written, self._written_at, self._is_lost = power, now, False
+
+    def lose(self) -> None:
+        """Notes that the device may have lost what was written, since it did not answer."""
+        self._is_lost = True
+
+    def fixed(self, now: float) -> int | None:
+        """The power that the device has to offer at every price, since it may not yet stop or start; None if it is free."""
+        if self.written is None:
+            return None
+        least = self._limits.run if self.written else self._limits.pause
+        return self.written if now - self._since < least else None
+
+    def bounded(self, demands: tuple[int, ...]) -> tuple[int, ...]:
+        """The demands that the device may offer, within its bounds."""
+        return tuple(map(self._bounded, demands))
+
+    def _bounded(self, power: int) -> int:
+        return min(max(power, self._limits.least), self._limits.greatest)
+
+    @property
+    def _range(self) -> str:
+        return f"{self._limits.least} to {self._limits.greatest} W"
+
+    def _say_once(self, text: str) -> None:
+        if text and text != self._said:
+            self._say(text)
+        self._said = text

@@ -1,0 +1,172 @@
+"""An agent at work: it reads its device's state, offers what the model bids, and writes the powers that the market tells."""
+
+from __future__ import annotations
+
+import queue
+import threading
+import time
+from collections.abc import Callable
+from datetime import datetime
+
+from ..cluster import Basis
+from ..simulation.device import BadBid, Demands, demands_of
+from .guard import Guard
+from .links import Setpoint, Silent, Word
+from .settings import Access, AgentSettings
+from .values import NoReading, NotWritten
+
+# The least and the greatest seconds between looks at the clock, and between tries to write what was not written.
+LEAST_LOOK, MOST_LOOK, AGAIN = 0.02, 0.5, 1.0
+
+
+class Agent:
+    """An agent, from its start to its end. `run` does the work, and `stop` ends it from anywhere."""
+
+    def __init__(self, settings: AgentSettings, say: Callable[[str], None]) -> None:
+        """Takes the settings, and a call for lines. Raises NoPackage, and OSError if a password cannot be read."""
+        self._settings = settings
+        self._say = say
+        self._source: Access = settings.access(settings.state)
+        is_same = settings.state == settings.setpoint
+        self._sink: Access = self._source if is_same else settings.access(settings.setpoint)
+        self._link = settings.link()
+        self._guard = Guard(settings.limits, say, time.monotonic())
+        self._words: queue.SimpleQueue[Word | None] = queue.SimpleQueue()
+        self._is_over = threading.Event()
+        self._said: dict[str, str] = {}
+        # Of the thread that reads, and of the one that works: the newest value and when it was read.
+        self._lock = threading.Lock()
+        self._reading: tuple[float, float] | None = None
+        self._basis: Basis | None = None
+        self._offered: Demands | None = None
+        self._tried = -float("inf")
+
+    def run(self) -> None:
+        """Works until `stop` is called. At the end the device leaves the market, and takes its fallback."""
+        reads = threading.Thread(target=self._read_all, daemon=True)
+        reads.start()
+        self._link.start(self._words.put, self._say)
+        look = min(max(self._settings.times.every / 10, LEAST_LOOK), MOST_LOOK)
+        try:
+            while not self._is_over.is_set():
+                self._take_words(look)
+                self._offer()
+                self._write(time.monotonic())
+        finally:
+            self._is_over.set()
+            self._end()
+            reads.join(MOST_LOOK)
+            self._source.close()
+            self._sink.close()
+
+    def stop(self) -> None:
+        """Ends `run`, from any thread or from the handler of a signal."""
+        self._is_over.set()
+        self._words.put(None)
+
+    def _end(self) -> None:
+        if self._offered is not None:
+            self._link.offer(None)
+        self._guard.fall_back("the agent ends")
+        self._write(time.monotonic())
+        self._link.close()
+
+    # The device's state.
+
+    def _read_all(self) -> None:
+        """Reads again and again, so that a device that does not answer holds up nothing else."""
+        while not self._is_over.is_set():
+            begun = time.monotonic()
+            try:
+                found = self._settings.state.value_of(self._source.read(), self._settings.capacity)
+                with self._lock:
+                    self._reading = found, begun
+                self._say_once("state", "")
+            except NoReading as error:
+                self._say_once("state", f"the state is not read: {error}")
+            self._is_over.wait(max(0.0, begun + self._settings.times.every - time.monotonic()))
+
+    def _state(self, now: float) -> float | None:
+        """The newest state, None if it is missing or too old."""
+        with self._lock:
+            reading = self._reading
+        return None if reading is None or now - reading[1] >= self._settings.times.stale else reading[0]
+
+    # The market.
+
+    def _take_words(self, seconds: float) -> None:
+        """Takes what the market says, and waits for it so long."""
+        try:
+            word = self._words.get(timeout=seconds)
+            while word is not None:
+                self._take(word)
+                word = self._words.get_nowait()
+        except queue.Empty:
+            pass
+
+    def _take(self, word: Word) -> None:
+        match word:
+            case Basis():
+                self._basis, self._offered = word, None
+            case Setpoint(power=power):
+                self._guard.hear(power, time.monotonic())
+            case Silent(why=why):
+                self._guard.fall_back(why)
+
+    def _offer(self) -> None:
+        """Offers what the model bids for the newest state, or leaves if there is none."""
+        state, now = self._state(time.monotonic()), time.monotonic()
+        if self._basis is None:
+            return
+        if state is None:
+            self._guard.lose()
+            if self._offered is not None:
+                self._say("the state is too old: the device leaves the market until there is a newer one")
+                self._offered = None
+                self._link.offer(None)
+            return
+        demands = self._bid(state, now, self._basis)
+        if demands is not None and demands != self._offered:
+            self._offered = demands
+            self._link.offer(demands)
+
+    def _bid(self, state: float, now: float, basis: Basis) -> Demands | None:
+        settings, device = self._settings, self._settings.device
+        setattr(device, settings.member, state)
+        fixed = self._guard.fixed(now)
+        told = "" if fixed is None else f"it may not yet {'stop' if fixed else 'start'}: it offers {fixed} W at every price until then"
+        self._say_once("fixed", told)
+        try:
+            own = device.bid(datetime.now().astimezone())
+            found = self._guard.bounded(demands_of(own if fixed is None else fixed, basis, device.name))
+        except BadBid as error:
+            self._say_once("bid", f"the bid is not offered: {error}")
+            return None
+        self._say_once("bid", "")
+        return found
+
+    # The device's power.
+
+    def _write(self, now: float) -> None:
+        """Writes what is due. What could not be written is tried again."""
+        power = self._guard.due(now)
+        if power is None or now - self._tried < AGAIN and not self._is_over.is_set():
+            return
+        try:
+            self._sink.write(self._settings.setpoint.to_write(power))
+        except NotWritten as error:
+            self._tried = now
+            self._guard.lose()
+            self._say_once("write", f"{power} W are not written: {error}. It is tried again each {AGAIN:g} s")
+            return
+        self._tried = -float("inf")
+        self._guard.wrote(power, now)
+        self._say_once("write", "")
+
+    def _say_once(self, subject: str, text: str) -> None:
+        """Says a line, unless it is the one that was said last of the subject."""
+        if text and self._said.get(subject, "") != text:
+            self._say(text)
+        elif not text and self._said.get(subject):
+            self._say(f"{'the state is read' if subject == 'state' else 'it works'} again") if subject != "fixed" else None
+        self._said[subject] = text

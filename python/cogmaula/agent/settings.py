@@ -1,0 +1,159 @@
+"""The settings of an agent, from a TOML file. docs/DEVICES.md has them in tables."""
+
+from __future__ import annotations
+
+import importlib.util
+import os
+from collections.abc import Mapping
+from dataclasses import dataclass
+from pathlib import Path
+from typing import Any
+
+from ..live.errors import BadSettings
+from ..live.settings import read_toml, value_of
+from ..live.topics import require_name, require_prefix
+from ..simulation import Battery, Boiler, Cogeneration, Device, HeatPump, Load, Solar, Vehicle
+from .guard import Limits
+from .links import HubLink, HubPlace, Link, NodeLink
+from .modbus import Modbus, ModbusPlace
+from .mqtt import BrokerPlace, Mqtt, MqttPlace
+from .plain import Command, CommandPlace, Csv, CsvPlace, Http, HttpPlace
+
+TABLES = ("agent", "market", "device", "limits", "state", "setpoint")
+# The models, the member that is the state of each, and what it is before the first reading.
+MODELS: dict[str, tuple[type[Any], str, str | float]] = {
+    "battery": (Battery, "energy", 0.0),
+    "heat_pump": (HeatPump, "temperature", "low"),
+    "boiler": (Boiler, "temperature", "low"),
+    "cogeneration": (Cogeneration, "temperature", "low"),
+    "vehicle": (Vehicle, "missing", 0.0),
+    "load": (Load, "power", 0.0),
+    "solar": (Solar, "power", 0.0),
+}
+PLACES: dict[str, type[Any]] = {"modbus": ModbusPlace, "mqtt": MqttPlace, "http": HttpPlace, "command": CommandPlace, "csv": CsvPlace}
+Access = Modbus | Mqtt | Http | Command | Csv
+
+
+@dataclass(frozen=True)
+class Times:
+    """Seconds: from one reading to the next, and after which a reading is too old and the offer lapses."""
+
+    every: float = 10.0
+    stale: float = 60.0
+
+    def __post_init__(self) -> None:
+        """Raises BadSettings."""
+        if not 0 < self.every <= self.stale:
+            raise BadSettings(f"every is {self.every:g} and stale {self.stale:g}: give seconds above 0, and a stale of every or more")
+
+
+@dataclass(frozen=True)
+class AgentSettings:
+    """One agent: its market, its device as a model, the member that is the device's state, where that is read, and where power is written.
+
+    capacity: what a state in % is a share of
+    """
+
+    times: Times
+    limits: Limits
+    market: HubPlace | tuple[BrokerPlace, str, str]
+    device: Any
+    member: str
+    state: Any
+    setpoint: Any
+    capacity: float
+
+    def link(self) -> Link:
+        """What joins the agent to its market."""
+        if isinstance(self.market, HubPlace):
+            return HubLink(self.market)
+        return NodeLink(*self.market)
+
+    def access(self, place: Any) -> Access:
+        """What reads and writes at a place. Raises NoPackage and OSError."""
+        match place:
+            case ModbusPlace():
+                return Modbus(place)
+            case MqttPlace():
+                return Mqtt(place, self.times.stale)
+            case HttpPlace():
+                return Http(place)
+            case CommandPlace():
+                return Command(place)
+            case _:
+                return Csv(place)
+
+
+def read_agent_toml(path: str | os.PathLike[str]) -> AgentSettings:
+    """The settings of a file. Raises BadSettings and OSError."""
+    return agent_settings_of(read_toml(path, TABLES), Path(path).parent)
+
+
+def agent_settings_of(tables: Mapping[str, Mapping[str, Any]], folder: Path = Path()) -> AgentSettings:
+    """The settings that the tables tell; a strategy's file is looked for in the folder. Raises BadSettings."""
+    for name in TABLES[1:]:
+        if name not in tables:
+            raise BadSettings(f"the table [{name}] is missing: a file has {', '.join(f'[{it}]' for it in TABLES)}")
+    device, member = _device_of(dict(tables["device"]), folder)
+    return AgentSettings(
+        value_of(Times, tables.get("agent", {}), "agent"),
+        value_of(Limits, tables["limits"], "limits"),
+        _market_of(dict(tables["market"])),
+        device,
+        member,
+        _place_of(dict(tables["state"]), "state"),
+        _place_of(dict(tables["setpoint"]), "setpoint"),
+        float(getattr(device, "capacity", 1.0)),
+    )
+
+
+def _market_of(table: dict[str, Any]) -> HubPlace | tuple[BrokerPlace, str, str]:
+    if "hub" in table:
+        place: HubPlace = value_of(HubPlace, table, "market")
+        host, _, port = place.hub.rpartition(":")
+        if not host or not port.isdigit():
+            raise BadSettings(f"market.hub is {place.hub!r}: write HOST:PORT, the hub's address for lines over TCP")
+        return place
+    if "node" not in table:
+        raise BadSettings("market has neither hub nor node: give the address of a hub, or the name of the device's node at a broker")
+    node, prefix = require_name(table.pop("node"), "market.node"), require_prefix(table.pop("prefix", "market"))
+    return value_of(BrokerPlace, table, "market"), prefix, node
+
+
+def _place_of(table: dict[str, Any], name: str) -> Any:
+    kind = table.pop("by", None)
+    if kind not in PLACES:
+        raise BadSettings(f"{name}.by is {kind!r}: give one of {', '.join(PLACES)}")
+    return value_of(PLACES[kind], table, name)
+
+
+def _device_of(table: dict[str, Any], folder: Path) -> tuple[Device, str]:
+    """The model that a table tells, and the member that is its state. Raises BadSettings."""
+    if "strategy" in table:
+        return _strategy_of(table, folder), "state"
+    model = table.pop("model", None)
+    if model not in MODELS:
+        raise BadSettings(f"device.model is {model!r}: give one of {', '.join(MODELS)}, or a strategy of your own")
+    kind, member, first = MODELS[model]
+    if member in table:
+        raise BadSettings(f"device.{member} is what [state] reads: take it out")
+    table[member] = table.get(first, 0.0) if isinstance(first, str) else first
+    table = {"name": model, **{name: tuple(it) if isinstance(it, list) else it for name, it in table.items()}}
+    try:
+        return value_of(kind, table, "device"), member
+    except ValueError as error:
+        raise BadSettings(f"device: {error}") from None
+
+
+def _strategy_of(table: dict[str, Any], folder: Path) -> Any:
+    """A device of a class of the user's, written FILE.py:CLASS; the other members are what it is made with. Raises BadSettings."""
+    file, _, name = str(table.pop("strategy")).rpartition(":")
+    try:
+        spec = importlib.util.spec_from_file_location("strategy", folder / file)
+        if spec is None or spec.loader is None:
+            raise OSError("it is no file of Python")
+        module = importlib.util.module_from_spec(spec)
+        spec.loader.exec_module(module)
+        return getattr(module, name)(**table)
+    except (OSError, AttributeError, TypeError, ValueError, SyntaxError, ImportError) as error:
+        raise BadSettings(f"device.strategy {file}:{name} cannot be made: {error}") from None

@@ -1,0 +1,280 @@
+"""The parts of an agent: what a device is told and when, values and registers by hand, settings, and small real servers."""
+
+from __future__ import annotations
+
+import http.server
+import math
+import threading
+
+import pytest
+
+from cogmaula.agent import Guard, Limits, agent_settings_of
+from cogmaula.agent.modbus import ModbusPlace
+from cogmaula.agent.plain import Command, CommandPlace, Csv, CsvPlace, Http, HttpPlace
+from cogmaula.agent.values import NoReading, NotWritten, Place, number_in
+from cogmaula.live.errors import BadSettings
+from cogmaula.simulation import Battery, HeatPump
+
+# What a device is told.
+
+
+def told(limits, *events):
+    """What is written over time. Events are (second, power) for a setpoint, (second, None) for a look alone. Gives (second, watts), and the lines."""
+    said, found = [], []
+    guard = Guard(limits, said.append, 0.0)
+    for second, power in events:
+        if power is not None:
+            guard.hear(power, second)
+        due = guard.due(second)
+        if due is not None:
+            guard.wrote(due, second)
+            found.append((second, due))
+    return found, said
+
+
+def test_a_setpoint_is_kept_within_the_device_s_own_bounds():
+    found, said = told(Limits(-1000, 2000), (1, 500), (3, 9000), (5, -9000))
+    assert found == [(1, 500), (3, 2000), (5, -1000)]
+    assert said == [
+        "the setpoint is 9000 W, and the device takes 2000 W: it is within -1000 to 2000 W",
+        "the setpoint is -9000 W, and the device takes -1000 W: it is within -1000 to 2000 W",
+    ]
+
+
+def test_nothing_is_written_faster_than_the_pace_and_then_the_newest():
+    found, _ = told(Limits(-1000, 2000, pace=5), (1, 100), (2, 200), (3, 300), (5.9, None), (6, None), (7, 300), (11, 300))
+    assert found == [(1, 100), (6, 300)]
+
+
+def test_silence_gives_the_fallback_once_and_a_setpoint_ends_it():
+    found, said = told(Limits(-1000, 2000, fallback=-200, silence=10), (1, 500), (10.9, None), (11, None), (12, None), (13, 700))
+    assert found == [(1, 500), (11, -200), (13, 700)]
+    assert said == ["no setpoint came for 10 s: the device takes its fallback, -200 W", "a setpoint has come: the fallback is over"]
+
+
+def test_a_device_that_never_hears_the_market_gets_its_fallback_too():
+    assert told(Limits(0, 2000, silence=10), (5, None), (10, None))[0] == [(10, 0)]
+
+
+def test_minimum_times_hold_a_device_on_and_off():
+    limits = Limits(0, 2000, run=10, pause=20, pace=0)
+    found, _ = told(limits, (1, 1500), (5, 0), (10.9, None), (11, None), (12, 1500), (30.9, None), (31, None))
+    assert found == [(1, 1500), (11, 0), (31, 1500)]
+    # The fallback does not wait: it protects the line.
+    assert told(Limits(0, 2000, run=100, silence=10), (1, 1500), (11, None))[0] == [(1, 1500), (11, 0)]
+
+
+def test_a_device_that_may_have_lost_its_power_gets_it_again():
+    found, _ = told(Limits(0, 2000, renew=5), (1, 100), (5.9, None), (6, None), (10, 100))
+    assert found == [(1, 100), (6, 100)]
+    guard = Guard(Limits(0, 2000, pace=0, run=10), print, 0.0)
+    guard.hear(100, 1)
+    guard.wrote(100, 1)
+    assert guard.due(2) is None
+    guard.lose()
+    assert guard.due(3) == 100
+    guard.wrote(100, 3)
+    # It runs since second 1.
+    assert (guard.due(4), guard.fixed(10.9), guard.fixed(11)) == (None, 100, None)
+
+
+def test_what_a_device_has_to_offer_while_it_may_not_change():
+    guard = Guard(Limits(0, 2000, run=10, pause=20), print, 0.0)
+    assert guard.fixed(0) is None
+    guard.wrote(1500, 1)
+    assert (guard.fixed(10), guard.fixed(11)) == (1500, None)
+    guard.wrote(1200, 12)
+    assert guard.fixed(12) is None
+    guard.wrote(0, 15)
+    assert (guard.fixed(34), guard.fixed(35)) == (0, None)
+    assert guard.bounded((9000, 5, -5)) == (2000, 5, 0)
+
+
+# Values.
+
+
+@pytest.mark.parametrize(
+    ("scale", "unit", "found", "value", "watts", "written"),
+    [(1.0, "W", 5, 5, -7, -7), (0.1, "kW", 15, 1500, 1500, 15), (-1.0, "W", 300, -300, 200, -200), (1.0, "%", 50, 2000, 0, 0), (1.0, "kWh", 2.5, 2500, 500, 0.5)],
+)
+def test_scales_and_units_by_hand(scale, unit, found, value, watts, written):
+    place = Place(scale=scale, unit=unit)
+    assert place.value_of(found, 4000) == pytest.approx(value)
+    assert place.to_write(watts) == written
+
+
+@pytest.mark.parametrize("found", [math.nan, math.inf, -math.inf])
+def test_a_value_that_is_no_number_is_no_state(found):
+    with pytest.raises(NoReading, match="it is"):
+        Place().value_of(found)
+
+
+@pytest.mark.parametrize(
+    ("data", "pointer", "due"),
+    [
+        (b" 12.5\n", "", 12.5),
+        (b'{"ENERGY": {"Power": "230"}}', "/ENERGY/Power", 230),
+        (b'{"a/b": [1, {"m~n": 7}]}', "/a~1b/1/m~0n", 7),
+        (b"NaN", "", math.nan),
+    ],
+)
+def test_numbers_in_texts(data, pointer, due):
+    assert number_in(data, pointer) == pytest.approx(due, nan_ok=True)
+
+
+@pytest.mark.parametrize(("data", "pointer"), [(b"", ""), (b"on", ""), (b"true", ""), (b"[]", "/0"), (b"{}", "/a"), (b"1", "/a"), (b'"x"', ""), (b"1" + b"0" * 400, "")])
+def test_texts_without_a_number(data, pointer):
+    with pytest.raises(NoReading):
+        number_in(data, pointer)
+
+
+@pytest.mark.parametrize(
+    ("kind", "order", "number", "registers"),
+    [
+        ("u16", "big", 65_535, [65_535]),
+        ("i16", "big", -2, [0xFFFE]),
+        ("i32", "big", -2, [0xFFFF, 0xFFFE]),
+        ("i32", "little", -2, [0xFFFE, 0xFFFF]),
+        ("u32", "big", 65_537, [1, 1]),
+        # 1.5 is 3FC00000 in 32 bits.
+        ("f32", "big", 1.5, [0x3FC0, 0]),
+        ("f32", "little", 1.5, [0, 0x3FC0]),
+    ],
+)
+def test_registers_by_hand(kind, order, number, registers):
+    place = ModbusPlace(host="127.0.0.1", register=0, type=kind, word_order=order)
+    assert place.registers_of(number) == registers
+    assert place.number_of(registers) == number
+
+
+def test_a_number_that_does_not_fit_is_not_written():
+    with pytest.raises(NotWritten, match="40000 does not fit into i16"):
+        ModbusPlace(host="127.0.0.1", register=0).registers_of(40_000)
+
+
+# Small servers.
+
+
+class Meter(http.server.BaseHTTPRequestHandler):
+    """Tells what it has, and keeps what it is given."""
+
+    has, given = b'{"soc": 55}', b""
+
+    def do_GET(self):
+        self.send_response(200 if self.path == "/" else 404)
+        self.end_headers()
+        self.wfile.write(self.has)
+
+    def do_PUT(self):
+        type(self).given = self.rfile.read(int(self.headers["Content-Length"]))
+        self.send_response(204)
+        self.end_headers()
+
+    def log_message(self, *_):
+        pass
+
+
+def test_values_by_http():
+    with http.server.HTTPServer(("127.0.0.1", 0), Meter) as server:
+        threading.Thread(target=server.serve_forever, daemon=True).start()
+        url = f"http://127.0.0.1:{server.server_port}/"
+        meter = Http(HttpPlace(url=url, pointer="/soc", body='{"watts": VALUE}'))
+        assert meter.read() == 55
+        meter.write(-1500)
+        assert Meter.given == b'{"watts": -1500}'
+        for place in (HttpPlace(url=url, pointer="/charge"), HttpPlace(url=url + "none")):
+            with pytest.raises(NoReading, match=url):
+                Http(place).read()
+        server.shutdown()
+    with pytest.raises(NoReading):
+        meter.read()
+    with pytest.raises(NotWritten):
+        meter.write(0)
+
+
+def test_values_by_a_command_and_in_a_table(tmp_path):
+    assert Command(CommandPlace(command=("echo", '{"t": 21.5}'), pointer="/t")).read() == 21.5
+    for words in (("false",), ("no-such-command",), ("sleep", "9")):
+        with pytest.raises(NoReading):
+            Command(CommandPlace(command=words, timeout=0.2)).read()
+    kept = tmp_path / "kept"
+    Command(CommandPlace(command=("sh", "-c", f"echo VALUE > {kept}"))).write(-3)
+    assert kept.read_text() == "-3\n"
+    with pytest.raises(NotWritten, match="status is 1"):
+        Command(CommandPlace(command=("false",))).write(1)
+    (tmp_path / "table.csv").write_text("soc\n10\n20\n")
+    table = Csv(CsvPlace(file=str(tmp_path / "table.csv"), column="soc"))
+    assert table.read() == 10
+    table._begun -= 60
+    assert table.read() == 20
+    table._begun -= 60
+    assert table.read() == 10
+    with pytest.raises(NoReading):
+        Csv(CsvPlace(file=str(tmp_path / "table.csv"), column="other")).read()
+    out = Csv(CsvPlace(file=str(tmp_path / "out.csv")))
+    out.write(5)
+    assert out.place.file and (tmp_path / "out.csv").read_text() == "0.0,5\n"
+
+
+# Settings.
+
+
+def tables(**more):
+    """The settings of a battery, with other tables or members in the place of theirs."""
+    found = {
+        "market": {"hub": "127.0.0.1:8444", "agent": "store", "token_file": "store.token"},
+        "device": {"model": "battery", "capacity": 4000, "charge": 2000, "discharge": 2000, "prices": [0, 9]},
+        "limits": {"least": -2000, "greatest": 2000},
+        "state": {"by": "modbus", "host": "127.0.0.1", "register": 1, "unit": "%"},
+        "setpoint": {"by": "mqtt", "topic": "store/power"},
+    }
+    for name, members in more.items():
+        found[name] = {key: it for key, it in {**found.get(name, {}), **members}.items() if it is not None}
+    return found
+
+
+def test_settings_of_models_and_of_a_strategy_of_one_s_own(tmp_path):
+    found = agent_settings_of(tables())
+    assert isinstance(found.device, Battery) and (found.member, found.capacity) == ("energy", 4000)
+    pump = {"model": "heat_pump", "power": 1500, "loss": 150, "constant": 60, "outdoor": 5, "low": 19, "high": 22}
+    pump |= {"capacity": None, "charge": None, "discharge": None}
+    found = agent_settings_of(tables(device=pump, market={"hub": None, "agent": None, "token_file": None, "node": "pump", "host": "broker"}))
+    assert isinstance(found.device, HeatPump) and found.device.state == 19
+    assert found.market[1:] == ("market", "pump")
+    (tmp_path / "own.py").write_text("class Own:\n    def __init__(self, name): self.name, self.state = name, 0.0\n")
+    own = {"strategy": "own.py:Own", "name": "own", "model": None, "capacity": None, "charge": None, "discharge": None, "prices": None}
+    assert agent_settings_of(tables(device=own), tmp_path).device.name == "own"
+
+
+@pytest.mark.parametrize(
+    ("more", "words"),
+    [
+        ({"device": {"model": "reactor"}}, "give one of battery"),
+        ({"device": {"capacity": None}}, "device.capacity is missing"),
+        ({"device": {"energy": 5}}, "what \\[state\\] reads"),
+        ({"device": {"reserve": 5000}}, "device: battery: reserve"),
+        ({"device": {"model": None, "strategy": "none.py:Own"}}, "cannot be made"),
+        ({"market": {"hub": "8444"}}, "HOST:PORT"),
+        ({"market": {"hub": None, "agent": None, "token_file": None}}, "neither hub nor node"),
+        ({"state": {"by": "pigeon"}}, "state.by is 'pigeon'"),
+        ({"state": {"unit": "hp"}}, "the unit is 'hp'"),
+        ({"state": {"type": "u8"}}, "type is 'u8'"),
+        ({"state": {"register": 70_000}}, "register from 0"),
+        ({"setpoint": {"topic": "store/#"}}, "without \\+ and #"),
+        ({"setpoint": {"pointer": "soc"}}, "write it as /battery/soc"),
+        ({"limits": {"fallback": 3000}}, "fallback 3000"),
+        ({"limits": {"silence": 0}}, "silence and renew have to be"),
+        ({"agent": {"every": 10, "stale": 5}}, "stale of every or more"),
+        ({"state": {"by": "http", "host": None, "register": None, "url": "ftp://a"}}, "http or https"),
+        ({"state": {"by": "command", "host": None, "register": None, "command": "ls"}}, "list of words"),
+        ({"state": {"by": "csv", "host": None, "register": None, "file": "a", "seconds": 0}}, "more than 0"),
+    ],
+)
+def test_settings_that_are_wrong(more, words):
+    with pytest.raises(BadSettings, match=words):
+        agent_settings_of(tables(**more))
+
+
+def test_settings_that_lack_a_table():
+    with pytest.raises(BadSettings, match=r"\[limits\] is missing"):
+        agent_settings_of({name: it for name, it in tables().items() if name != "limits"})
