@@ -26,9 +26,8 @@ class Agent:
         """Takes the settings, and a call for lines. Raises NoPackage, and OSError if a password cannot be read."""
         self._settings = settings
         self._say = say
-        self._source: Access = settings.access(settings.state)
-        is_same = settings.state == settings.setpoint
-        self._sink: Access = self._source if is_same else settings.access(settings.setpoint)
+        self._source: Access | None = None if settings.state is None else settings.access(settings.state)
+        self._sink: Access = settings.access(settings.setpoint)
         self._link = settings.link()
         self._guard = Guard(settings.limits, say, time.monotonic())
         self._words: queue.SimpleQueue[Word | None] = queue.SimpleQueue()
@@ -39,11 +38,11 @@ class Agent:
         self._reading: tuple[float, float] | None = None
         self._basis: Basis | None = None
         self._offered: Demands | None = None
-        self._tried = -float("inf")
+        self._tried, self._stepped = -float("inf"), time.monotonic()
 
     def run(self) -> None:
         """Works until `stop` is called. At the end the device leaves the market, and takes its fallback."""
-        reads = threading.Thread(target=self._read_all, daemon=True)
+        reads = threading.Thread(target=self._read_all, args=(self._source,), daemon=True)
         reads.start()
         self._link.start(self._words.put, self._say)
         look = min(max(self._settings.times.every / 10, LEAST_LOOK), MOST_LOOK)
@@ -56,8 +55,9 @@ class Agent:
             self._is_over.set()
             self._end()
             reads.join(MOST_LOOK)
-            self._source.close()
-            self._sink.close()
+            for access in (self._source, self._sink):
+                if access is not None:
+                    access.close()
 
     def stop(self) -> None:
         """Ends `run`, from any thread or from the handler of a signal."""
@@ -73,12 +73,12 @@ class Agent:
 
     # The device's state.
 
-    def _read_all(self) -> None:
+    def _read_all(self, source: Access | None) -> None:
         """Reads again and again, so that a device that does not answer holds up nothing else."""
-        while not self._is_over.is_set():
+        while source is not None and not self._is_over.is_set():
             begun = time.monotonic()
             try:
-                found = self._settings.state.value_of(self._source.read(), self._settings.capacity)
+                found = self._settings.state.value_of(source.read(), self._settings.capacity)
                 with self._lock:
                     self._reading = found, begun
                 self._say_once("state", "")
@@ -87,7 +87,11 @@ class Agent:
             self._is_over.wait(max(0.0, begun + self._settings.times.every - time.monotonic()))
 
     def _state(self, now: float) -> float | None:
-        """The newest state, None if it is missing or too old."""
+        """The newest state, None if it is missing or too old. If none is read, it is the model's own."""
+        if self._source is None:
+            self._settings.device.step(self._guard.written or 0, (now - self._stepped) / 60)
+            self._stepped = now
+            return float(self._settings.device.state)
         with self._lock:
             reading = self._reading
         return None if reading is None or now - reading[1] >= self._settings.times.stale else reading[0]
@@ -132,7 +136,8 @@ class Agent:
 
     def _bid(self, state: float, now: float, basis: Basis) -> Demands | None:
         settings, device = self._settings, self._settings.device
-        setattr(device, settings.member, state)
+        if self._source is not None:
+            setattr(device, settings.member, state)
         fixed = self._guard.fixed(now)
         told = "" if fixed is None else f"it may not yet {'stop' if fixed else 'start'}: it offers {fixed} W at every price until then"
         self._say_once("fixed", told)

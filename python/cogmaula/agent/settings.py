@@ -20,6 +20,8 @@ from .mqtt import BrokerPlace, Mqtt, MqttPlace
 from .plain import Command, CommandPlace, Csv, CsvPlace, Http, HttpPlace
 
 TABLES = ("agent", "market", "device", "limits", "state", "setpoint")
+# Those that each file has.
+NEEDED = ("market", "device", "limits", "setpoint")
 # The models, the member that is the state of each, and what it is before the first reading.
 MODELS: dict[str, tuple[type[Any], str, str | float]] = {
     "battery": (Battery, "energy", 0.0),
@@ -51,6 +53,7 @@ class Times:
 class AgentSettings:
     """One agent: its market, its device as a model, the member that is the device's state, where that is read, and where power is written.
 
+    state:    None if the model keeps its own state, by the powers that were written and the time that passes
     capacity: what a state in % is a share of
     """
 
@@ -91,9 +94,9 @@ def read_agent_toml(path: str | os.PathLike[str]) -> AgentSettings:
 
 def agent_settings_of(tables: Mapping[str, Mapping[str, Any]], folder: Path = Path()) -> AgentSettings:
     """The settings that the tables tell; a strategy's file is looked for in the folder. Raises BadSettings."""
-    for name in TABLES[1:]:
+    for name in NEEDED:
         if name not in tables:
-            raise BadSettings(f"the table [{name}] is missing: a file has {', '.join(f'[{it}]' for it in TABLES)}")
+            raise BadSettings(f"the table [{name}] is missing: a file has {', '.join(f'[{it}]' for it in NEEDED)}, and may have [agent] and [state]")
     device, member = _device_of(dict(tables["device"]), folder)
     return AgentSettings(
         value_of(Times, tables.get("agent", {}), "agent"),
@@ -101,7 +104,7 @@ def agent_settings_of(tables: Mapping[str, Mapping[str, Any]], folder: Path = Pa
         _market_of(dict(tables["market"])),
         device,
         member,
-        _place_of(dict(tables["state"]), "state"),
+        _place_of(dict(tables["state"]), "state") if "state" in tables else None,
         _place_of(dict(tables["setpoint"]), "setpoint"),
         float(getattr(device, "capacity", 1.0)),
     )

@@ -176,6 +176,33 @@ def test_a_jump_of_the_clock_changes_nothing(live, tmp_path, monkeypatch):
     assert sink.read_text().splitlines()[-1].endswith(",0")
 
 
+OWN = """
+class Own:
+    def __init__(self, name, hours):
+        self.name, self.state = name, hours
+
+    def bid(self, now):
+        return 700 if self.state > 0 else 0
+
+    def step(self, power, minutes):
+        self.state -= minutes / 60 if power else 0
+"""
+
+
+def test_a_strategy_of_one_s_own_keeps_its_own_state(live, tmp_path):
+    """It takes 700 W for a second, and then rests."""
+    (tmp_path / "own.py").write_text(OWN)
+    sink = tmp_path / "told.csv"
+    with HubInThread(tmp_path, live) as hub:
+        tables = tables_of(hub, {}, {"by": "csv", "file": str(sink)})
+        del tables["state"]
+        tables["device"] = {"strategy": "own.py:Own", "name": "own", "hours": 1 / 3600}
+        with Working(tables, tmp_path) as agent:
+            wait_until(lambda: sink.exists() and [it.partition(",")[2] for it in sink.read_text().split()] == ["700", "0"], f"it ran: {agent.said}")
+    seconds = [float(it.partition(",")[0]) for it in sink.read_text().split()]
+    assert seconds[1] - seconds[0] >= 0.9
+
+
 def test_an_agent_is_the_control_of_a_node_over_topics(tmp_path):
     """A broker alone: the test plays the node. States and powers go by topics, in kilowatts and JSON."""
     require_broker()
