@@ -135,7 +135,7 @@ def _draw_tokens(settings: HubSettings, children: Mapping[str, int], into: str |
 def _run(settings: HubSettings) -> int:
     from ..hub.hub import Hub
 
-    _allow_files()
+    allow_files()
     hub = Hub(settings)
     for number in (signal.SIGTERM, signal.SIGINT):
         signal.signal(number, lambda *_: hub.stop())
@@ -143,7 +143,7 @@ def _run(settings: HubSettings) -> int:
     return 0
 
 
-def _allow_files() -> None:
+def allow_files() -> None:
     """Lets the process open as many files as 256 agents need, if the system allows it."""
     least, most = resource.getrlimit(resource.RLIMIT_NOFILE)
     due = FILES if most == resource.RLIM_INFINITY else min(FILES, most)

@@ -11,6 +11,7 @@ from ..cluster import Cluster, bytes_of
 from ..live.errors import BadSettings
 from ..live.page_settings import PageSettings
 from ..program import LIVE_VARIABLE, live_command
+from .hub import allow_files
 
 HELP = "lets a cluster file live: its devices as models in a market of proved nodes, by the clock"
 MORE = (
@@ -57,6 +58,7 @@ def main(arguments: argparse.Namespace) -> int:
         return cli.MISUSED
     for number in (signal.SIGTERM, signal.SIGINT):
         signal.signal(number, lambda *_: living.stop())
+    allow_files()
     living.run(arguments.minutes)
     return 0
 

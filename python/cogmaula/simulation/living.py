@@ -21,7 +21,7 @@ from ..hub.running import Running
 from ..hub.showing import Showing
 from ..live.broker import Message
 from ..live.errors import LiveError
-from ..live.frames import MOST, PRICES, Price, frame_of
+from ..live.frames import MOST, PRICES, Price, Sort, frame_of
 from ..live.messages import StateMessage
 from ..live.node import Node
 from ..live.page_settings import PageSettings
@@ -123,9 +123,8 @@ class LivingCluster:
         for number, node in enumerate(self._cluster.nodes, 1):
             child = children[node.above] = children.get(node.above, 0) + 1
             floor, ceiling = (node.floor, node.ceiling) if isinstance(node, Limited) else (-MOST, MOST)
-            sort = "device" if node.is_device else "relay"
-            found.append(Settings(
-                sort, node.name, str(folder / str(number)), basis, live, node.above, child, floor, ceiling, pause=PAUSE))  # type: ignore[arg-type]
+            sort: Sort = "device" if node.is_device else "relay"
+            found.append(Settings(sort, node.name, str(folder / str(number)), basis, live, node.above, child, floor, ceiling, pause=PAUSE))
         return found
 
     def run(self, minutes: float | None = None) -> None:
@@ -140,10 +139,7 @@ class LivingCluster:
             self._start_nodes()
             self._pass(minutes)
         finally:
-            for it in reversed(self._running):
-                it.stop()
-            for it in reversed(self._running):
-                it.join(LAST_SECONDS)
+            self._end_nodes()
             self._showing.close()
             self._folder.cleanup()
         for it in self._running:
@@ -168,10 +164,14 @@ class LivingCluster:
         for settings in self._settings:
             control = self.controls.get(settings.name)
             tick = TICK if settings.sort == "device" else EVERY / 10
-            node = Node(settings, control, lambda text, name=settings.name: self._say(f"{name}: {text}"), self.exchange.link, tick)  # type: ignore[misc]
+            node = Node(settings, control, self._saying(settings.name), self.exchange.link, tick)
             self._running.append(Running(node, lambda _: None))
             if settings.sort != "device":
                 self._wait_for(settings.name)
+
+    def _saying(self, name: str) -> Callable[[str], None]:
+        """What takes the lines of a node."""
+        return lambda text: self._say(f"{name}: {text}")
 
     def _wait_for(self, name: str) -> None:
         """Waits until a node is in its session. Raises LiveError if it does not come."""
@@ -180,6 +180,17 @@ class LivingCluster:
             if time.monotonic() > end:
                 raise LiveError(f"the node {name} does not start within {START_SECONDS:g} s: the lines above say why")
             time.sleep(EVERY / 100)
+
+    def _end_nodes(self) -> None:
+        """Ends all nodes, each parent after its children, so that none of them misses it."""
+        devices = [it for it in self._running if it.node.settings.sort == "device"]
+        for it in devices:
+            it.stop()
+        for it in devices:
+            it.join(LAST_SECONDS)
+        for it in reversed(self._running):
+            it.stop()
+            it.join(LAST_SECONDS)
 
     def _is_up(self, name: str) -> bool:
         message = self.exchange.message(self.topics.of(name, "state"))
