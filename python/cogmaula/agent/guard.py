@@ -25,7 +25,7 @@ class Limits:
     least: int
     greatest: int
     fallback: int = 0
-    silence: float = 180.0
+    silence: float = 120.0
     pace: float = 1.0
     renew: float = 60.0
     run: float = 0.0

@@ -2,8 +2,10 @@
 
 from __future__ import annotations
 
+import contextlib
 import json
 import queue
+import select
 import socket
 import ssl
 import threading
@@ -21,8 +23,9 @@ from ..live.sessions import time_of
 from ..simulation.device import Demands
 from .mqtt import BrokerPlace, Client
 
-# The seconds between tries to connect, those of silence after which a connection counts as lost, and the longest line.
-AGAIN, SILENCE, LONGEST = 2.0, 120.0, 65_536
+# The seconds between tries to connect, those within which something is written, and those of silence after which a connection counts as
+# lost; and the bytes that are read at once.
+AGAIN, WRITTEN, SILENCE, PIECE = 2.0, 5.0, 120.0, 65_536
 
 
 @dataclass(frozen=True)
@@ -70,7 +73,7 @@ class HubPlace:
 
 
 class HubLink:
-    """A connection to a hub, which comes back by itself. See Link."""
+    """A connection to a hub, which comes back by itself. See Link. One thread does all with it, since TLS may have no other."""
 
     def __init__(self, place: HubPlace) -> None:
         """Takes the place."""
@@ -78,10 +81,12 @@ class HubLink:
         host, _, port = place.hub.rpartition(":")
         self._host, self._port = host.strip("[]"), int(port)
         self._lock = threading.Lock()
-        self._socket: socket.socket | None = None
         self._newest: bytes | None = None
         self._number = 0
-        self._is_closed = threading.Event()
+        self._is_new = self._is_closed = False
+        # A byte here wakes the thread.
+        self._wakes, self._woken = socket.socketpair()
+        self._woken.setblocking(False)
 
     def start(self, take: Callable[[Word], None], say: Callable[[str], None]) -> None:
         """See Link."""
@@ -94,65 +99,82 @@ class HubLink:
         with self._lock:
             self._number += 1
             told: dict[str, Any] = {"leave": True} if demands is None else {"bidUpdate": {"bidNumber": self._number, "demandArray": demands}}
-            self._newest = json.dumps(told).encode() + b"\n"
-            self._send(self._newest)
-
-    def _send(self, line: bytes) -> None:
-        """Sends a line if there is a connection. One that fails is noted by the thread that reads."""
-        if self._socket is not None:
-            try:
-                self._socket.sendall(line)
-            except OSError:
-                self._end()
-
-    def _end(self) -> None:
-        one, self._socket = self._socket, None
-        if one is not None:
-            try:
-                one.shutdown(socket.SHUT_RDWR)
-            except OSError:
-                pass
+            self._newest, self._is_new = json.dumps(told).encode() + b"\n", True
+        self._wakes.send(b".")
 
     def close(self) -> None:
-        """See Link."""
-        self._is_closed.set()
-        with self._lock:
-            self._end()
-        self._thread.join(AGAIN)
+        """See Link. What was offered last is sent before."""
+        self._is_closed = True
+        self._wakes.send(b".")
+        self._thread.join(WRITTEN)
+        self._wakes.close()
 
     def _work(self) -> None:
         said = ""
-        while not self._is_closed.is_set():
+        while not self._is_closed:
             try:
                 self._talk()
                 why = "the hub has ended the connection"
             except (OSError, BadMessage) as error:
                 why = str(error)
-            with self._lock:
-                self._end()
-            if why != said and not self._is_closed.is_set():
+            if why != said and not self._is_closed:
                 said = why
                 self._say(f"{self._place.hub}: {why}. It is tried again each {AGAIN:g} s")
-            self._is_closed.wait(AGAIN)
+            end = time.monotonic() + AGAIN
+            while not self._is_closed and (left := end - time.monotonic()) > 0:
+                self._waits([], left)
+        self._woken.close()
+
+    def _waits(self, others: list[socket.socket], seconds: float) -> list[socket.socket]:
+        """Which of these can be read, within so many seconds or until the thread is woken."""
+        found = select.select([self._woken, *others], [], [], seconds)[0]
+        if self._woken in found:
+            with contextlib.suppress(BlockingIOError):
+                self._woken.recv(PIECE)
+        return [it for it in found if it is not self._woken]
 
     def _talk(self) -> None:
-        """Logs in, and reads until the connection ends. Raises OSError and BadMessage."""
+        """Logs in, and works until the connection ends. Raises OSError and BadMessage."""
         place = self._place
-        with socket.create_connection((self._host, self._port), timeout=SILENCE) as plain:
-            one = plain if place.ca is None else ssl.create_default_context(cafile=place.ca).wrap_socket(plain, server_hostname=self._host)
-            token = Path(place.token_file).read_text().strip()
-            one.sendall(json.dumps({"agentId": place.agent, "token": token}).encode() + b"\n")
-            with one.makefile("rb") as lines:
-                self._welcome(lines.readline(LONGEST))
-                with self._lock:
-                    self._socket = one
-                    if self._newest is not None:
-                        self._send(self._newest)
-                while line := lines.readline(LONGEST):
-                    self._hear(line)
+        token = Path(place.token_file).read_text().strip()
+        with socket.create_connection((self._host, self._port), timeout=WRITTEN) as plain:
+            context = None if place.ca is None else ssl.create_default_context(cafile=place.ca)
+            one = plain if context is None else context.wrap_socket(plain, server_hostname=self._host)
+            with one:
+                one.sendall(json.dumps({"agentId": place.agent, "token": token}).encode() + b"\n")
+                self._talk_by(one)
+
+    def _talk_by(self, one: socket.socket) -> None:
+        kept, heard, is_in = b"", time.monotonic(), False
+        while time.monotonic() < heard + SILENCE:
+            if is_in:
+                self._send(one)
+            if self._is_closed:
+                return
+            if not self._waits([one], 1.0):
+                continue
+            while piece := _read(one):
+                *lines, kept = (kept + piece).split(b"\n")
+                heard = time.monotonic()
+                for line in lines:
+                    if is_in:
+                        self._hear(line)
+                    else:
+                        self._welcome(line)
+                        is_in = self._is_new = True
+            if piece == b"":
+                return
+        raise OSError(f"nothing came for {SILENCE:g} s")
+
+    def _send(self, one: socket.socket) -> None:
+        """Sends the newest offer, if it is not sent yet."""
+        with self._lock:
+            line, self._is_new = self._newest if self._is_new else None, False
+        if line is not None:
+            one.sendall(line)
 
     def _welcome(self, line: bytes) -> None:
-        told = object_of(line, "the hub's answer") if line else {}
+        told = object_of(line, "the hub's answer")
         if "error" in told:
             raise BadMessage(str(told["error"]))
         try:
@@ -165,11 +187,25 @@ class HubLink:
         told = object_of(line, "a line of the hub")
         update, market = told.get("priceUpdate"), told.get("marketUpdate")
         if isinstance(update, dict):
-            self._take(Setpoint(int(update["power"]), int(update["price"])))
+            try:
+                self._take(Setpoint(int(update["power"]), int(update["price"])))
+            except (KeyError, TypeError, ValueError):
+                raise BadMessage("a priceUpdate of the hub has no power or no price") from None
         elif isinstance(market, dict) and market.get("market") == "silent":
             self._take(Silent(f"the market is silent ({market.get('why', 'no word why')})"))
         elif "error" in told:
             self._say(f"{self._place.hub}: {told['error']}")
+
+
+def _read(one: socket.socket) -> bytes | None:
+    """What has come, None if there is nothing more now, b"" at the end. Raises OSError."""
+    one.setblocking(False)
+    try:
+        return one.recv(PIECE)
+    except (BlockingIOError, ssl.SSLWantReadError):
+        return None
+    finally:
+        one.settimeout(WRITTEN)
 
 
 class NodeLink:

@@ -14,7 +14,7 @@ from datetime import datetime, timedelta
 from pathlib import Path
 
 import pytest
-from brokers import SECONDS, TOP, Mosquitto, free_port, require_broker, wait_until
+from brokers import SECONDS, TOP, Certificates, Mosquitto, free_port, require_broker, wait_until
 from hubs import HubInThread
 
 from cogmaula.agent import Agent, agent_settings_of, running
@@ -189,12 +189,14 @@ class Own:
 """
 
 
-def test_a_strategy_of_one_s_own_keeps_its_own_state(live, tmp_path):
+def test_a_strategy_of_one_s_own_keeps_its_own_state_at_a_hub_by_tls(live, tmp_path):
     """It takes 700 W for a second, and then rests."""
     (tmp_path / "own.py").write_text(OWN)
-    sink = tmp_path / "told.csv"
-    with HubInThread(tmp_path, live) as hub:
+    sink, keys = tmp_path / "told.csv", tmp_path / "keys"
+    certificate, key = Certificates(keys).make("server", "127.0.0.1")
+    with HubInThread(tmp_path, live, certificate=certificate, key=key) as hub:
         tables = tables_of(hub, {}, {"by": "csv", "file": str(sink)})
+        tables["market"]["ca"] = str(keys / "ca.crt")
         del tables["state"]
         tables["device"] = {"strategy": "own.py:Own", "name": "own", "hours": 1 / 3600}
         with Working(tables, tmp_path) as agent:
