@@ -232,7 +232,7 @@ class NodeLink:
     def _send_all(self) -> None:
         """Publishes the newest offer until the broker has it."""
         while (offer := self._newest.get()) is not None:
-            while self._newest.empty() and not self._client.publish(self._topics["offer"], offer, True):
+            while not self._client.publish(self._topics["offer"], offer, True) and self._newest.empty():
                 time.sleep(0.2)
 
     def _hear(self, topic: str, payload: bytes, retained: bool) -> None:

@@ -109,7 +109,7 @@ class Client:
 
 
 class Mqtt:
-    """A value in a topic. It is as old as its message."""
+    """A value in a topic. It is as old as its message. One that the broker has kept does not count, since nobody knows its age."""
 
     def __init__(self, place: MqttPlace, stale: float) -> None:
         """Takes the place, and the seconds after which a message is too old. Raises NoPackage and OSError."""
@@ -117,11 +117,15 @@ class Mqtt:
         self._stale = stale
         self._lock = threading.Lock()
         self._newest: tuple[bytes, float] | None = None
+        self._why_none = "no message has come"
         self._client = Client(place, [place.topic], self._take)
 
-    def _take(self, _topic: str, payload: bytes, _retained: bool) -> None:
+    def _take(self, _topic: str, payload: bytes, retained: bool) -> None:
         with self._lock:
-            self._newest = payload, time.monotonic()
+            if retained:
+                self._why_none = "the broker has a message of before, whose age nobody knows"
+            else:
+                self._newest = payload, time.monotonic()
 
     def read(self) -> float:
         """What the newest message has. Raises NoReading if there is none, or it is too old."""
@@ -129,7 +133,7 @@ class Mqtt:
             newest = self._newest
         where = f"topic {self.place.topic}"
         if newest is None:
-            raise NoReading(f"{where}: no message has come{'' if self._client.is_connected else ', and there is no connection'}")
+            raise NoReading(f"{where}: {self._why_none}{'' if self._client.is_connected else ', and there is no connection'}")
         if time.monotonic() - newest[1] >= self._stale:
             raise NoReading(f"{where}: no message came for {self._stale:g} s")
         try:

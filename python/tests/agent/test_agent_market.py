@@ -224,8 +224,9 @@ def test_an_agent_is_the_control_of_a_node_over_topics(tmp_path):
             "state": {"by": "mqtt", "port": broker.port, "topic": "store/state", "pointer": "/battery/kwh", "unit": "kWh"},
             "setpoint": {"by": "mqtt", "port": broker.port, "topic": "store/set", "payload": '{"kw": VALUE}', "unit": "kW"},
         }
+        assert node.publish("store/state", '{"battery": {"kwh": 0.9}}', True)
         with Working(tables) as agent:
-            agent.says("the state is not read: topic store/state: no message has come")
+            agent.says("the state is not read: topic store/state: the broker has a message of before, whose age nobody knows")
             assert node.publish("store/state", '{"battery": {"kwh": 0.5}}', False)
             # Half full, its middle is 4: 2000 W at 0 and none at 4, within 800 W. At 9 it gives 2000 W, or 800.
             due = [800, 800, 800, 500, 0, -400, -800, -800, -800, -800]
@@ -238,6 +239,10 @@ def test_an_agent_is_the_control_of_a_node_over_topics(tmp_path):
             wait_until(lambda: heard["store/set"] == {"kw": 0}, f"the fallback: {heard}")
             agent.says("no message came for 1 s")
             wait_until(lambda: heard["market/store/offer"] == {"leave": True}, "the offer lapses")
+            assert node.publish("store/state", '{"battery": {"kwh": 0.5}}', False)
+            wait_until(lambda: heard["market/store/offer"] == {"power": due}, "it is back")
+        # At its end it leaves.
+        wait_until(lambda: heard["market/store/offer"] == {"leave": True}, "it leaves")
         node.close()
     nobody = Mqtt(MqttPlace(port=free_port(), topic="store/set"), 1.0)
     with pytest.raises(NotWritten, match="topic store/set"):

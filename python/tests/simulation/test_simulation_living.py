@@ -121,6 +121,10 @@ def test_the_command(program, live, capsys, tmp_path):
     assert "00:00 price 2: 2 devices take 300 W and give 300 W" in capsys.readouterr().out
     assert main(["simulate", path, "--page", "0.0.0.0:80"]) == 2
     assert "no login" in capsys.readouterr().err
+    wide = Cluster(Basis(0, 9, 10), [Limited("feeder", floor=0, ceiling=2_000_000_000)])
+    wide.save(tmp_path / "wide.json")
+    assert main(["simulate", str(tmp_path / "wide.json")]) == 2
+    assert "0 to 1000000000 watts" in capsys.readouterr().err
     (tmp_path / "wrong.json").write_text("{}")
     assert main(["simulate", str(tmp_path / "wrong.json")]) == 5
     with pytest.raises(SystemExit) as ended:
