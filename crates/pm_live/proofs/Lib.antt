@@ -1,3 +1,4 @@
 pub mod Texts
 pub mod OneNode
 pub mod Moved
+pub mod Processes

@@ -9,7 +9,7 @@ use Rattle.pm_frames.specs.declared.place.Stage.TheVariants.{Start}
 use Rattle.pm_services.specs.RelayAnswers.{AnswersRelay}
 use Rattle.pm_services.specs.RootAnswers.{AnswersRoot}
 use Rattle.pm_services.specs.DeviceAnswers.{AnswersDevice}
-use Rattle.pm_live.specs.Serving.{stream_start, relay_start, new_relay_service, new_device_service}
+use Rattle.pm_processes.specs.Processes.{stream_start, relay_start, new_relay_service, new_device_service}
 use Rattle.pm_live.specs.declared.named.LiveNode.{LiveNode}
 use Rattle.pm_live.specs.declared.named.LiveNode.TheVariants.{Relay, Auctioneer, Device}
 

@@ -3,3 +3,4 @@ pub mod Endings
 pub mod Due
 pub mod Serving
 pub mod Asks
+pub mod Processes

@@ -2,19 +2,17 @@
 -- held; `rose_source` and `rose_sink` say that a fault of the source, or of the sink, was counted.
 use Rattle.std.specs.Prelude.{ℕ, ◌<◌, List, length, take, codes, Option, None}
 use Rattle.std.specs.Io.KnownBytes.{Appends}
-use Rattle.pm_frames.specs.declared.terms.RelayTerms.{RelayTerms}
-use Rattle.pm_frames.specs.declared.place.RelayPlace.{RelayPlace}
 use Rattle.pm_wire.specs.Taking.{AnswersFrom}
 use Rattle.pm_wire.specs.Services.{EndsSo}
 use Rattle.pm_wire.specs.declared.stream.Served.{Served}
 use Rattle.pm_frames.specs.RelayFrames.{relay_framing}
 use Rattle.pm_frames.specs.RootFrames.{root_framing}
 use Rattle.pm_frames.specs.DeviceFrames.{device_framing}
-use Rattle.pm_frames.specs.declared.place.NodePlace.{NodePlace}
 use Rattle.pm_frames.specs.declared.place.Stage.TheVariants.{Start}
-use Rattle.pm_services.specs.RelayAnswers.{RelayServiceValue, AnswersRelay}
+use Rattle.pm_services.specs.RelayAnswers.{AnswersRelay}
 use Rattle.pm_services.specs.RootAnswers.{AnswersRoot}
-use Rattle.pm_services.specs.DeviceAnswers.{DeviceServiceValue, AnswersDevice}
+use Rattle.pm_services.specs.DeviceAnswers.{AnswersDevice}
+use Rattle.pm_processes.specs.Processes.{stream_start, relay_start, new_relay_service, new_device_service}
 use Rattle.pm_live.specs.Due.{EndsAsDue}
 use Rattle.pm_live.specs.declared.named.LiveNode.{LiveNode}
 use Rattle.pm_live.specs.declared.named.LiveNode.TheVariants.{Relay, Auctioneer, Device}
@@ -25,20 +23,6 @@ node_usage_line = codes "usage: live relay CHILD FLOOR CEILING [GIVER] | live au
 -- a prefix of the usage line was written, and not all of it
 abbrev pub WrotePartOfUsage : Option (List ℕ) → Option (List ℕ) → Type 0
 WrotePartOfUsage held holds = (written : ℕ) × (written < length node_usage_line) × Appends held holds (take written node_usage_line)
-
--- ---- a node at the start of its stream; of a device no kind was named
-
-abbrev pub stream_start : ℕ → NodePlace
-stream_start child' = record { child = child'; stage = Start; kind = None }
-
-abbrev pub relay_start : ℕ → RelayTerms → RelayPlace
-relay_start child' terms' = record { child = child'; terms = terms'; stage = Start }
-
-abbrev pub new_relay_service : ℕ → RelayTerms → RelayServiceValue
-new_relay_service child' terms' = record { child = child'; terms = terms'; relay = None }
-
-abbrev pub new_device_service : ℕ → DeviceServiceValue
-new_device_service child' = record { child = child'; device = None }
 
 -- ---- how a node ends
 

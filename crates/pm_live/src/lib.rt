@@ -5,14 +5,16 @@
 //! bytes between the nodes is left to the system.
 //!
 //! The definitions stand in `specs/`: `LiveNodes` (which node the arguments name), `Serving` and `Due` (what a node reads and writes, by how it
-//! ends).
+//! ends), `Asks` (what a peer may ask at each read and write), `Processes` (that it is a process of which the law of a market speaks).
 #![tactic(auto)]
 
 mod ending;
+mod law;
 mod named;
 mod serving;
 mod top;
 
 pub use ending::Ending;
+pub use law::processes_may_be_asked;
 pub use named::{LiveNode, named_node};
 pub use top::{live, live_peer};

@@ -1,12 +1,14 @@
 //! Serves the node that the arguments name.
 
-ghost use Rattle.std.specs.Prelude.{◌≡◌, ◌⊎◌, ◌≤◌, ℕ, List, Some, map, string_bytes};
+ghost use Rattle.std.specs.Prelude.{◌≡◌, ◌⊎◌, ◌≤◌, ℕ, List, [], Some, map, string_bytes};
 ghost use Rattle.std.specs.Io.KnownBytes.{Appends};
 ghost use Rattle.pm_io.specs.Causes.{Rose};
 ghost use Rattle.pm_io.specs.Peers.{MayWriteAll};
 ghost use Rattle.pm_live.specs.Asks.{AsksNode};
 ghost use Rattle.pm_live.specs.LiveNodes.{IsNamed, MayBe};
+ghost use Rattle.pm_live.specs.Processes.{IsProcessBetween};
 ghost use Rattle.pm_live.specs.Serving.{node_usage_line, WrotePartOfUsage, ServesNode, EndsNodeAsDue};
+ghost use Rattle.pm_processes.specs.Kept.{HistoriesKeepTheLaw};
 ghost use Rattle.pm_wire.specs.declared.stream.Served.{Served};
 
 use crate::ending::Ending;
@@ -14,6 +16,7 @@ use crate::named::{LiveNode, named_node};
 use crate::serving::serve_from_start;
 use pm_frames::{NodePlace, RelayPlace, Stage};
 use pm_io::{Peer, Sink, Source, Wire, tell_all, write_all};
+use pm_processes::histories_keep_the_law;
 use pm_services::{DeviceService, RelayService, RootService};
 use pm_wire::Served;
 use std::alloc::Global;
@@ -127,6 +130,13 @@ pub fn live_peer<W: Peer>(alloc: Global, arguments: &[String], wire: &mut W) -> 
         (W.held wire.new) (Rose (W.read_faults wire.old) (W.read_faults wire.new))
         (Rose (W.write_faults wire.old) (W.write_faults wire.new)) served }
 
+    // What was read and written is a process of the node. Processes of all nodes of a market, ended at any byte, keep its law if
+    // their carriers keep their promises.
+    ensures process { (node : LiveNode) → IsNamed (map string_bytes arguments.now) node →
+        IsProcessBetween node (W.left wire.old) (W.left wire.new) (W.held wire.old)
+        (W.held wire.new) [] }
+    ensures law { HistoriesKeepTheLaw }
+
     // Arguments that name no node are told how to name one, and nothing is read.
     ensures usage { ((node : LiveNode) → ¬ IsNamed (map string_bytes arguments.now) node) →
         (result ≡ Ending.Usage) ⊎ (result ≡ Ending.UsageCutShort) }
@@ -141,6 +151,8 @@ pub fn live_peer<W: Peer>(alloc: Global, arguments: &[String], wire: &mut W) -> 
     ensures source_count { W.read_faults wire.old ≤ W.read_faults wire.new }
     ensures sink_count { W.write_faults wire.old ≤ W.write_faults wire.new }
 {
+    // The call tells a fact: the law of a whole market.
+    histories_keep_the_law();
     match named_node(arguments) {
         Some(node) => Ending::Served(serve_named(alloc, node, wire)),
         None => tell_usage(wire),
@@ -175,6 +187,13 @@ pub fn live<S: Source, K: Sink>(
         (K.held sink.new) (Rose (S.faults source.old) (S.faults source.new))
         (Rose (K.faults sink.old) (K.faults sink.new)) served }
 
+    // What was read and written is a process of the node. Processes of all nodes of a market, ended at any byte, keep its law if
+    // their carriers keep their promises.
+    ensures process { (node : LiveNode) → IsNamed (map string_bytes arguments.now) node →
+        IsProcessBetween node (S.left source.old) (S.left source.new) (K.held sink.old)
+        (K.held sink.new) [] }
+    ensures law { HistoriesKeepTheLaw }
+
     // Arguments that name no node are told how to name one, and nothing is read.
     ensures usage { ((node : LiveNode) → ¬ IsNamed (map string_bytes arguments.now) node) →
         (result ≡ Ending.Usage) ⊎ (result ≡ Ending.UsageCutShort) }
@@ -187,6 +206,8 @@ pub fn live<S: Source, K: Sink>(
     ensures source_count { S.faults source.old ≤ S.faults source.new }
     ensures sink_count { K.faults sink.old ≤ K.faults sink.new }
 {
+    // The call tells a fact: the law of a whole market.
+    histories_keep_the_law();
     match named_node(arguments) {
         Some(_node) => {
             let mut wire = Wire { source, sink };

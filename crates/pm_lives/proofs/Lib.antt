@@ -1,17 +1,17 @@
 mod Staying
-mod Downs
+pub mod Downs
 mod After
 mod RelayMoves
 mod RootMoves
-mod AgentFacts
+pub mod AgentFacts
 mod DeviceMoves
-mod Handing
+pub mod Handing
 mod Beginning
 mod Living
-mod Answering
-mod Carrying
+pub mod Answering
+pub mod Carrying
 mod Worked
-mod Cutting
+pub mod Cutting
 mod Giving
 mod Telling
 mod Settling

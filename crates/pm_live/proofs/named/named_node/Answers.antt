@@ -1,5 +1,5 @@
 -- Of `named_node`: its clause `none` of five arguments.
-use Rattle.std.proofs.Common.{◌≡◌, ◌∙◌, sym, ap, ◌∷◌, [], ℕ, ◌≤◌, ◌<◌, List, length, map, get_or, string_bytes, subst}
+use Rattle.std.proofs.Common.{◌≡◌, ◌∙◌, ap, ◌∷◌, [], ◌≤◌, ◌<◌, List, length, map, get_or, string_bytes, subst}
 use Rattle.std.proofs.Common.{IfNone, arith}
 use Rattle.pm_live.specs.LiveNodes.{IsNamed}
 use Rattle.pm_live.specs.declared.named.LiveNode.{LiveNode}

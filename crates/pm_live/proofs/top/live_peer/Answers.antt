@@ -1,9 +1,10 @@
--- Of `live_peer`: its clauses `serves` and `due`.
+-- Of `live_peer`: its clauses `serves`, `process` and `due`.
 use Rattle.std.proofs.Common.{◌≡◌, refl, subst}
 use Rattle.pm_io.specs.Causes.{Rose}
 use Rattle.pm_live.specs.Serving.{ServesNode, EndsNodeAsDue}
 use Rattle.pm_live.specs.declared.named.LiveNode.{LiveNode}
 use Rattle.pm_live.proofs.OneNode.{one_node}
+use Rattle.pm_live.proofs.Processes.{served_process}
 use Rattle.pm_live.proofs.top.live_peer.Goals as goal
 
 pub returns-in-Some-clause-serves : goal.returns-in-Some-clause-serves
@@ -14,6 +15,11 @@ returns-in-Some-clause-serves g c = λ node named.
     (Rose (g.W.Peer.read_faults c.args.wire.now) (g.W.Peer.read_faults c.serve_named.new.wire))
     (Rose (g.W.Peer.write_faults c.args.wire.now) (g.W.Peer.write_faults c.serve_named.new.wire)) c.serve_named.result in
     (c.serve_named.result, refl, subst P same c.serve_named.ensures.serves)
+
+pub returns-in-Some-clause-process : goal.returns-in-Some-clause-process
+returns-in-Some-clause-process g c = λ node named.
+    let serves = returns-in-Some-clause-serves g c node named in
+    served_process node _ _ _ _ _ _ serves.0 serves.2
 
 pub returns-in-Some-clause-due : goal.returns-in-Some-clause-due
 returns-in-Some-clause-due g c = λ node all named told.

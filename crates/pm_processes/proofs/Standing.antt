@@ -1,0 +1,503 @@
+-- A history of processes is lives.
+use Rattle.std.proofs.Common.{◌≡◌, ◌∙◌, sym, ap, subst, ℕ, ◌+◌, ◌-◌, true, false, List, [], ◌∷◌, length, take, Option, None, IfSome}
+use Rattle.std.proofs.Common.{refl, inl, inr, arith}
+use Rattle.std.proofs.lemmas.Bool.{cases_eq, both_ways}
+use Rattle.pm_market.specs.Lists.{Lists, IsLeaf, IsConcentrator}
+use Rattle.pm_market.specs.State.{update}
+use Rattle.pm_market.proofs.Cuts.{updated_same, updated_other}
+use Rattle.pm_market.proofs.Tree.{leaf_node}
+use Rattle.pm_session.specs.declared.price.PriceUpdate.{PriceUpdate}
+use Rattle.pm_net.specs.Pricing.{Pricing}
+use Rattle.pm_net.specs.Agents.{DeviceAgent}
+use Rattle.pm_net_plan.specs.Places.{Numbering}
+use Rattle.pm_control.specs.Control.{agent_stored}
+use Rattle.pm_relay.specs.Relays.{RelayValue, ComesBack}
+use Rattle.pm_relay.specs.Roots.{RootValue, RootComesBack}
+use Rattle.pm_basis.specs.Prices.{BasisValue}
+use Rattle.pm_frames.specs.Stored.{StoredRelay, StoredRoot}
+use Rattle.pm_frames.specs.declared.stored.StoredAgent.{StoredAgent}
+use Rattle.pm_frames.specs.declared.terms.RelayTerms.{RelayTerms}
+use Rattle.pm_frames.specs.declared.parent.ParentFrame.TheVariants.{Price, Old}
+use Rattle.pm_frames.specs.declared.device.DeviceFrame.{DeviceFrame}
+use Rattle.pm_frames.specs.declared.device.DeviceFrame.TheVariants as device_frame
+use Rattle.pm_services.specs.DeviceAnswers.{same_basis}
+use Rattle.pm_services.specs.RelaySetups.{RelaySetup}
+use Rattle.pm_system.specs.System.{System, with_relay, with_root, with_agent}
+use Rattle.pm_system.specs.Given.{IsTreeMarket, IsDemand}
+use Rattle.pm_system.proofs.Moving.{relay_no_leaf, relay_no_root}
+use Rattle.pm_lives.specs.Outputs.{Output}
+use Rattle.pm_lives.specs.RelayWrites.{WritesKept}
+use Rattle.pm_lives.specs.DeviceWrites.{device_outs, agent_after}
+use Rattle.pm_lives.specs.Answering.{IsOfOtherBasis}
+use Rattle.pm_lives.specs.Lives as lives
+use Rattle.pm_lives.specs.Lives.{World, LifeStep, setup_of, handed_out, stored_last, let_go_at_relay, let_go_at_root, HandledSome, restart_outs}
+use Rattle.pm_lives.specs.Free.{LivesFree1, LiveFree, DeviceIsFree}
+use Rattle.pm_lives.proofs.Handing.{handed_values}
+use Rattle.pm_processes.proofs.Offers.{AreDemands, newest_fits, stored_fits, after_fits}
+use Rattle.pm_processes.specs.RelayProcess.{RelayExchange, RelayExchanges, setup_with}
+use Rattle.pm_processes.specs.RootProcess.{RootExchange, RootExchanges}
+use Rattle.pm_processes.specs.DeviceProcess.{IsAsked, DeviceExchange, DeviceExchanges, AnswersAgent}
+use Rattle.pm_processes.specs.History.{Scene, HistoryEvent, RelayBegins, RelayGoesOn, RootBegins}
+use Rattle.pm_processes.specs.History.{RootGoesOn, DeviceBegins, DeviceGoesOn, Happens1, Happen, DeviceIsGiven}
+use Rattle.pm_processes.specs.History.{RelayProcessBegins, RelayProcessGoesOn, RootProcessBegins, RootProcessGoesOn, DeviceProcessBegins}
+use Rattle.pm_processes.specs.History.{DeviceProcessGoesOn}
+
+-- what is still to come of each process that runs is what its node makes of the frames
+pub record Follows (lists : Lists) (p : Pricing) (numbering : Numbering) (scene : Scene) : Type 0 where
+  steps : scene.world.basis.steps ≡ p.steps
+  -- so it is of each relay
+  relays : (c : ℕ) → IsConcentrator lists c → scene.world.up c ≡ true →
+      RelayExchanges (setup_of numbering scene.world c) (record { relay = scene.world.seen.relays c; waiting = scene.world.waiting c }) (scene.relay_next c)
+  -- and of each device
+  root : scene.world.up 0 ≡ true → RootExchanges scene.world.basis scene.world.seen.root scene.root_next
+  devices : (d : ℕ) → IsLeaf lists d → scene.world.up d ≡ true →
+      DeviceExchanges p scene.world.basis (scene.world.seen.agents d) (scene.device_next d)
+  -- the offers of a device are demands
+  offers : (d : ℕ) → IsLeaf lists d → scene.world.up d ≡ true → AreDemands p.steps (scene.world.seen.agents d)
+
+-- ---- the same values
+
+relay_as : (own : RelaySetup) (r r' : RelayValue) (w w' : Option PriceUpdate) (es es' : List RelayExchange) → r' ≡ r → w' ≡ w → es' ≡ es →
+    RelayExchanges own (record { relay = r; waiting = w }) es → RelayExchanges own (record { relay = r'; waiting = w' }) es'
+relay_as own r r' w w' es es' e1 e2 e3 is =
+    subst (λ (x : RelayValue). RelayExchanges own (record { relay = x; waiting = w' }) es') (sym e1)
+    (subst (λ (x : Option PriceUpdate). RelayExchanges own (record { relay = r; waiting = x }) es') (sym e2)
+    (subst (λ (x : List RelayExchange). RelayExchanges own (record { relay = r; waiting = w }) x) (sym e3) is))
+
+device_as : (p : Pricing) (basis : BasisValue) (a a' : DeviceAgent) (es es' : List DeviceExchange) → a' ≡ a → es' ≡ es →
+    DeviceExchanges p basis a es → DeviceExchanges p basis a' es'
+device_as p basis a a' es es' e1 e2 is =
+    subst (λ (x : DeviceAgent). DeviceExchanges p basis x es') (sym e1)
+    (subst (λ (x : List DeviceExchange). DeviceExchanges p basis a x) (sym e2) is)
+
+-- a price that was handed out is of the basis of all
+no_other : (own : BasisValue) (sys : System) (d : ℕ) (frame : DeviceFrame) → DeviceIsGiven own sys d frame → IsOfOtherBasis own frame → ⊥
+no_other own sys d (device_frame.Parent (Price child number index step basis)) may other = both_ways (same_basis basis own) other may.0
+no_other own sys d (device_frame.Parent (Old child kept)) may other = other
+no_other own sys d frame may other = other
+
+-- a frame that a device is given is free, since its offers are demands
+is_free : (p : Pricing) (own : BasisValue) (sys : System) (d : ℕ) (frame : DeviceFrame) → DeviceIsGiven own sys d frame → IsAsked p.steps frame →
+    AreDemands p.steps (sys.agents d) → DeviceIsFree p own sys d frame
+is_free p own sys d (device_frame.Offer form demand) may asked are = asked
+is_free p own sys d (device_frame.Parent (Price child number index step basis)) may asked are = may
+is_free p own sys d (device_frame.Parent (Old child kept)) may asked are = λ demand is. newest_fits p.steps (sys.agents d) are demand is
+is_free p own sys d (device_frame.Resume stored) may asked are = absurd asked
+is_free p own sys d frame may asked are = tt
+
+module _ (lists : Lists) (p : Pricing) (numbering : Numbering) (market : IsTreeMarket lists p numbering) where
+  -- an event is a step of a life
+  record Lived (old : Scene) (new : Scene) : Type 0 where
+    step : LifeStep
+    live : LivesFree1 lists p numbering old.world step new.world
+    follows : Follows lists p numbering new
+
+  module _ (old : Scene) (is : Follows lists p numbering old) where
+    abbrev world : World
+    world = old.world
+
+    -- two scenes are the same but for node y
+    record Agrees (y : ℕ) (new : Scene) : Type 0 where
+      basis : new.world.basis ≡ world.basis
+      terms : new.world.terms ≡ world.terms
+      up : (z : ℕ) → (z ≡ y → ⊥) → new.world.up z ≡ world.up z
+      relays : (z : ℕ) → (z ≡ y → ⊥) → new.world.seen.relays z ≡ world.seen.relays z
+      waiting : (z : ℕ) → (z ≡ y → ⊥) → new.world.waiting z ≡ world.waiting z
+      agents : (z : ℕ) → (z ≡ y → ⊥) → new.world.seen.agents z ≡ world.seen.agents z
+      root : (0 ≡ y → ⊥) → new.world.seen.root ≡ world.seen.root
+      relay_next : (z : ℕ) → (z ≡ y → ⊥) → new.relay_next z ≡ old.relay_next z
+      device_next : (z : ℕ) → (z ≡ y → ⊥) → new.device_next z ≡ old.device_next z
+      root_next : (0 ≡ y → ⊥) → new.root_next ≡ old.root_next
+
+    setup_as : (y c : ℕ) (new : Scene) → Agrees y new → setup_of numbering new.world c ≡ setup_of numbering world c
+    setup_as y c new agrees =
+        ap (λ (b : BasisValue). setup_with (numbering.place c + 1) (new.world.terms c) b) agrees.basis
+        ∙ ap (λ (t : ℕ → RelayTerms). setup_with (numbering.place c + 1) (t c) world.basis) agrees.terms
+
+    follows_but : (y : ℕ) (new : Scene) → Agrees y new →
+        (IsConcentrator lists y → RelayExchanges (setup_of numbering world y)
+        (record { relay = new.world.seen.relays y; waiting = new.world.waiting y }) (new.relay_next y)) →
+        (0 ≡ y → RootExchanges world.basis new.world.seen.root new.root_next) →
+        (IsLeaf lists y → DeviceExchanges p world.basis (new.world.seen.agents y) (new.device_next y)
+        × AreDemands p.steps (new.world.seen.agents y)) → Follows lists p numbering new
+    follows_but y new agrees relay root device = record {
+      steps = ap (λ (b : BasisValue). b.steps) agrees.basis ∙ is.steps;
+      relays = λ c conc up. subst (λ (s : RelaySetup). RelayExchanges s (record { relay = new.world.seen.relays c; waiting = new.world.waiting c })
+          (new.relay_next c)) (sym (setup_as y c new agrees)) (elim (cases_eq c y) [
+            | inl e ↦ subst (λ (z : ℕ). RelayExchanges (setup_of numbering world z)
+                (record { relay = new.world.seen.relays z; waiting = new.world.waiting z }) (new.relay_next z)) (sym e)
+                (relay (subst (λ (z : ℕ). IsConcentrator lists z) e conc))
+            | inr ne ↦ relay_as (setup_of numbering world c) (world.seen.relays c) (new.world.seen.relays c) (world.waiting c) (new.world.waiting c)
+                (old.relay_next c) (new.relay_next c) (agrees.relays c ne) (agrees.waiting c ne) (agrees.relay_next c ne)
+                (is.relays c conc (sym (agrees.up c ne) ∙ up))
+          ]);
+      root = λ up. subst (λ (b : BasisValue). RootExchanges b new.world.seen.root new.root_next) (sym agrees.basis) (elim (cases_eq 0 y) [
+        | inl e ↦ root e
+        | inr ne ↦ subst (λ (r : RootValue). RootExchanges world.basis r new.root_next) (sym (agrees.root ne))
+            (subst (λ (l : List RootExchange). RootExchanges world.basis world.seen.root l) (sym (agrees.root_next ne))
+            (is.root (sym (agrees.up 0 ne) ∙ up)))
+      ]);
+      devices = λ d leaf up. subst (λ (b : BasisValue). DeviceExchanges p b (new.world.seen.agents d) (new.device_next d)) (sym agrees.basis)
+          (elim (cases_eq d y) [
+            | inl e ↦ subst (λ (z : ℕ). DeviceExchanges p world.basis (new.world.seen.agents z) (new.device_next z)) (sym e)
+                (device (subst (λ (z : ℕ). IsLeaf lists z) e leaf)).0
+            | inr ne ↦ device_as p world.basis (world.seen.agents d) (new.world.seen.agents d) (old.device_next d) (new.device_next d) (agrees.agents d ne)
+                (agrees.device_next d ne) (is.devices d leaf (sym (agrees.up d ne) ∙ up))
+          ]);
+      offers = λ d leaf up. elim (cases_eq d y) [
+        | inl e ↦ subst (λ (z : ℕ). AreDemands p.steps (new.world.seen.agents z)) (sym e) (device (subst (λ (z : ℕ). IsLeaf lists z) e leaf)).1
+        | inr ne ↦ subst (AreDemands p.steps) (sym (agrees.agents d ne)) (is.offers d leaf (sym (agrees.up d ne) ∙ up))
+      ];
+    }
+
+    no_conc : IsConcentrator lists 0 → ⊥
+    no_conc conc = omega (arith, conc.0)
+
+    no_leaf : IsLeaf lists 0 → ⊥
+    no_leaf leaf = omega (arith, (leaf_node lists market.law 0 leaf).0)
+
+    -- ---- a relay
+
+    relay_begins : (c : ℕ) (took wrote : List ℕ) (new : Scene) → RelayProcessBegins lists p numbering old c took wrote new → Lived old new
+    relay_begins c took wrote new did =
+        let made = did.process in
+        let n : ℕ = made.written.cut.n in
+        let base : System = with_relay world.seen c made.held.relay in
+        let values = handed_values lists numbering c (take n made.outs) base in
+        let child : ℕ = numbering.place c + 1 in
+        let terms = world.terms c in
+        let after : Scene = record old {
+          world = record world {
+            seen = handed_out lists numbering base c (take n made.outs);
+            up = update world.up c true;
+            waiting = update world.waiting c made.held.waiting;
+          };
+          relay_next = update old.relay_next c made.exchanges;
+          left = update old.left c (n - length made.outs);
+        } in
+        let agrees : Agrees c after = record {
+          basis = refl;
+          terms = refl;
+          up = λ z ne. updated_other world.up c true z ne;
+          relays = λ z ne. ap (λ f. f z) values.0 ∙ updated_other world.seen.relays c made.held.relay z ne;
+          waiting = λ z ne. updated_other world.waiting c made.held.waiting z ne;
+          agents = λ z ne. ap (λ f. f z) values.2;
+          root = λ ne. values.1;
+          relay_next = λ z ne. updated_other old.relay_next c made.exchanges z ne;
+          device_next = λ z ne. refl;
+          root_next = λ ne. refl;
+        } in
+        let stored_is = did.promised.stored_last in
+        let hello = did.promised.same_hello in
+        record {
+          step = lives.RelayUp c n;
+          live = record {
+            conc = did.conc;
+            limited = did.limited;
+            relay = made.relay;
+            may = did.may;
+            after = made.held;
+            outs = made.outs;
+            learns = subst (λ (b : BasisValue). WritesKept terms.giver (setup_with child terms b) (record { relay = made.relay; waiting = None })
+                (world.relay_kept c) made.held made.outs) hello
+                (subst (λ (k : StoredRelay). WritesKept terms.giver (setup_with child terms made.basis)
+                (record { relay = made.relay; waiting = None }) k made.held made.outs) stored_is made.learns);
+            back = subst (λ (s : ℕ). ComesBack s terms.limits (world.relay_kept c).last (world.relay_kept c).answered (world.relay_kept c).index
+                (world.relay_kept c).numbers (world.relay_kept c).limits made.relay) (ap (λ (b : BasisValue). b.steps) hello ∙ is.steps)
+                (subst (λ (k : StoredRelay). ComesBack made.basis.steps terms.limits k.last k.answered k.index k.numbers k.limits made.relay) stored_is
+                made.back);
+            new_is = ap (λ (s : Scene). s.world) did.new_is;
+          };
+          follows = subst (Follows lists p numbering) (sym did.new_is) (follows_but c after agrees
+              (λ conc. relay_as (setup_of numbering world c) made.held.relay (after.world.seen.relays c) made.held.waiting (after.world.waiting c)
+              made.exchanges (after.relay_next c) (ap (λ f. f c) values.0 ∙ updated_same world.seen.relays c made.held.relay)
+              (updated_same world.waiting c made.held.waiting) (updated_same old.relay_next c made.exchanges)
+              (subst (λ (b : BasisValue). RelayExchanges (setup_with child terms b) made.held made.exchanges) hello made.answers))
+              (λ e. absurd (relay_no_root lists c did.conc (sym e)))
+              (λ leaf. absurd (relay_no_leaf lists c c did.conc leaf refl)));
+        }
+
+    relay_goes_on : (c : ℕ) (new : Scene) → RelayProcessGoesOn lists p numbering old c new → Lived old new
+    relay_goes_on c new did =
+        let e = did.exchange in
+        let n : ℕ = old.left c in
+        let base : System = with_relay world.seen c e.after.relay in
+        let values = handed_values lists numbering c (take n e.outs) base in
+        let kept : StoredRelay = stored_last (world.relay_kept c) (take n e.outs) in
+        let after : Scene = record old {
+          world = record world {
+            seen = handed_out lists numbering base c (take n e.outs);
+            waiting = update world.waiting c e.after.waiting;
+            relay_kept = update world.relay_kept c kept;
+            let_go = let_go_at_relay lists numbering world.seen c e.frame world.let_go;
+          };
+          relay_next = update old.relay_next c did.exchanges;
+          left = update old.left c (n - length e.outs);
+        } in
+        let agrees : Agrees c after = record {
+          basis = refl;
+          terms = refl;
+          up = λ z ne. refl;
+          relays = λ z ne. ap (λ f. f z) values.0 ∙ updated_other world.seen.relays c e.after.relay z ne;
+          waiting = λ z ne. updated_other world.waiting c e.after.waiting z ne;
+          agents = λ z ne. ap (λ f. f z) values.2;
+          root = λ ne. values.1;
+          relay_next = λ z ne. updated_other old.relay_next c did.exchanges z ne;
+          device_next = λ z ne. refl;
+          root_next = λ ne. refl;
+        } in
+        let now = subst (λ (l : List RelayExchange). RelayExchanges (setup_of numbering world c)
+        (record { relay = world.seen.relays c; waiting = world.waiting c }) l) did.next (is.relays c did.conc did.runs) in
+        record {
+          step = lives.Relay c e.frame n;
+          live = record {
+            conc = did.conc;
+            runs = did.runs;
+            may = did.promised.handed_out;
+            after = e.after;
+            outs = e.outs;
+            writes = now.0;
+            handled = did.promised.in_order;
+            new_is = ap (λ (s : Scene). s.world) did.new_is;
+          };
+          follows = subst (Follows lists p numbering) (sym did.new_is) (follows_but c after agrees
+              (λ conc. relay_as (setup_of numbering world c) e.after.relay (after.world.seen.relays c) e.after.waiting (after.world.waiting c)
+              did.exchanges (after.relay_next c) (ap (λ f. f c) values.0 ∙ updated_same world.seen.relays c e.after.relay)
+              (updated_same world.waiting c e.after.waiting) (updated_same old.relay_next c did.exchanges) now.1)
+              (λ e. absurd (relay_no_root lists c did.conc (sym e)))
+              (λ leaf. absurd (relay_no_leaf lists c c did.conc leaf refl)));
+        }
+
+    -- ---- the auctioneer
+
+    root_begins : (took wrote : List ℕ) (new : Scene) → RootProcessBegins p old took wrote new → Lived old new
+    root_begins took wrote new did =
+        let made = did.process in
+        let after : Scene = record old {
+          world = record world { seen = with_root world.seen made.root; up = update world.up 0 true };
+          root_next = made.exchanges;
+          left = update old.left 0 made.written.cut.n;
+        } in
+        let agrees : Agrees 0 after = record {
+          basis = refl;
+          terms = refl;
+          up = λ z ne. updated_other world.up 0 true z ne;
+          relays = λ z ne. refl;
+          waiting = λ z ne. refl;
+          agents = λ z ne. refl;
+          root = λ ne. absurd (ne refl);
+          relay_next = λ z ne. refl;
+          device_next = λ z ne. refl;
+          root_next = λ ne. absurd (ne refl);
+        } in
+        let hello = did.promised.same_hello in
+        record {
+          step = lives.RootUp;
+          live = record {
+            root = made.root;
+            back = subst (λ (s : ℕ). RootComesBack s world.root_kept.last world.root_kept.numbers made.root)
+                (ap (λ (b : BasisValue). b.steps) hello ∙ is.steps)
+                (subst (λ (k : StoredRoot). RootComesBack made.basis.steps k.last k.numbers made.root) did.promised.stored_last made.back);
+            new_is = ap (λ (s : Scene). s.world) did.new_is;
+          };
+          follows = subst (Follows lists p numbering) (sym did.new_is) (follows_but 0 after agrees (λ conc. absurd (no_conc conc))
+              (λ e. subst (λ (b : BasisValue). RootExchanges b made.root made.exchanges) hello made.answers)
+              (λ leaf. absurd (no_leaf leaf)));
+        }
+
+    root_goes_on : (new : Scene) → RootProcessGoesOn lists p numbering old new → Lived old new
+    root_goes_on new did =
+        let e = did.exchange in
+        let n : ℕ = old.left 0 in
+        let base : System = with_root world.seen e.after in
+        let values = handed_values lists numbering 0 (take n e.outs) base in
+        let after : Scene = record old {
+          world = record world {
+            seen = handed_out lists numbering base 0 (take n e.outs);
+            root_kept = stored_last world.root_kept (take n e.outs);
+            let_go = let_go_at_root lists numbering world.seen e.frame world.let_go;
+          };
+          root_next = did.exchanges;
+          left = update old.left 0 (n - length e.outs);
+        } in
+        let agrees : Agrees 0 after = record {
+          basis = refl;
+          terms = refl;
+          up = λ z ne. refl;
+          relays = λ z ne. ap (λ f. f z) values.0;
+          waiting = λ z ne. refl;
+          agents = λ z ne. ap (λ f. f z) values.2;
+          root = λ ne. absurd (ne refl);
+          relay_next = λ z ne. refl;
+          device_next = λ z ne. refl;
+          root_next = λ ne. absurd (ne refl);
+        } in
+        let now = subst (λ (l : List RootExchange). RootExchanges world.basis world.seen.root l) did.next (is.root did.runs) in
+        record {
+          step = lives.Root e.frame n;
+          live = record {
+            runs = did.runs;
+            may = did.promised.handed_out;
+            after = e.after;
+            outs = e.outs;
+            writes = now.0;
+            handled = did.promised.in_order;
+            new_is = ap (λ (s : Scene). s.world) did.new_is;
+          };
+          follows = subst (Follows lists p numbering) (sym did.new_is) (follows_but 0 after agrees (λ conc. absurd (no_conc conc))
+              (λ same. subst (λ (r : RootValue). RootExchanges world.basis r did.exchanges) (sym values.1) now.1)
+              (λ leaf. absurd (no_leaf leaf)));
+        }
+
+    -- ---- a device
+
+    not_conc : (d : ℕ) → IsLeaf lists d → IsConcentrator lists d → ⊥
+    not_conc d leaf conc = relay_no_leaf lists d d conc leaf refl
+
+    not_root : (d : ℕ) → IsLeaf lists d → 0 ≡ d → ⊥
+    not_root d leaf e = omega (arith, e, (leaf_node lists market.law d leaf).0)
+
+    device_begins : (d : ℕ) (took wrote : List ℕ) (new : Scene) → DeviceProcessBegins lists p numbering old d took wrote new → Lived old new
+    device_begins d took wrote new did =
+        let made = did.process in
+        let stored : StoredAgent = world.agent_kept d in
+        let outs : List (Output StoredAgent) = restart_outs p stored in
+        let n : ℕ = made.written.cut.n in
+        let agent : DeviceAgent = agent_stored stored.number stored.newest stored.index in
+        let base : System = with_agent world.seen d agent in
+        let values = handed_values lists numbering d (take n outs) base in
+        let after : Scene = record old {
+          world = record world { seen = handed_out lists numbering base d (take n outs); up = update world.up d true };
+          device_next = update old.device_next d made.exchanges;
+          left = update old.left d (n - length outs);
+        } in
+        let agrees : Agrees d after = record {
+          basis = refl;
+          terms = refl;
+          up = λ z ne. updated_other world.up d true z ne;
+          relays = λ z ne. ap (λ f. f z) values.0;
+          waiting = λ z ne. refl;
+          agents = λ z ne. ap (λ f. f z) values.2 ∙ updated_other world.seen.agents d agent z ne;
+          root = λ ne. values.1;
+          relay_next = λ z ne. refl;
+          device_next = λ z ne. updated_other old.device_next d made.exchanges z ne;
+          root_next = λ ne. refl;
+        } in
+        let here : after.world.seen.agents d ≡ agent = ap (λ f. f d) values.2 ∙ updated_same world.seen.agents d agent in
+        let newest : IfSome stored.newest (IsDemand p.steps) =
+        subst (λ (i : ℕ). IfSome stored.newest (IsDemand i)) (ap (λ (b : BasisValue). b.steps) did.promised.same_hello ∙ is.steps)
+        (subst (λ (k : StoredAgent). IfSome k.newest (IsDemand made.basis.steps)) did.promised.stored_last made.newest) in
+        record {
+          step = lives.DeviceUp d n;
+          live = record { leaf = did.leaf; new_is = ap (λ (s : Scene). s.world) did.new_is };
+          follows = subst (Follows lists p numbering) (sym did.new_is) (follows_but d after agrees
+              (λ conc. absurd (not_conc d did.leaf conc))
+              (λ e. absurd (not_root d did.leaf e))
+              (λ leaf. (
+                device_as p world.basis agent (after.world.seen.agents d) made.exchanges (after.device_next d)
+                    here (updated_same old.device_next d made.exchanges)
+                    (subst (λ (b : BasisValue). DeviceExchanges p b agent made.exchanges) did.promised.same_hello
+                    (subst (λ (k : StoredAgent). DeviceExchanges p made.basis (agent_stored k.number k.newest k.index) made.exchanges)
+                    did.promised.stored_last made.answers)),
+                subst (AreDemands p.steps) (sym here) (stored_fits p.steps stored.number stored.newest stored.index newest),
+              )));
+        }
+
+    record IsOwn (d : ℕ) (e : DeviceExchange) : Type 0 where
+      asked : IsAsked world.basis.steps e.frame
+      after : e.after ≡ agent_after (world.seen.agents d) e.frame
+      outs : e.outs ≡ device_outs p world.basis (world.seen.agents d) e.frame
+
+    of_own_basis : (d : ℕ) (e : DeviceExchange) → DeviceIsGiven world.basis world.seen d e.frame →
+        AnswersAgent p world.basis (world.seen.agents d) e → IsOwn d e
+    of_own_basis d e may (inl same) = record { asked = same.0; after = same.2; outs = same.3 }
+    of_own_basis d e may (inr other) = absurd (no_other world.basis world.seen d e.frame may other.0)
+
+    device_goes_on : (d : ℕ) (new : Scene) → DeviceProcessGoesOn lists p numbering old d new → Lived old new
+    device_goes_on d new did =
+        let e = did.exchange in
+        let n : ℕ = old.left d in
+        let base : System = with_agent world.seen d e.after in
+        let values = handed_values lists numbering d (take n e.outs) base in
+        let kept : StoredAgent = stored_last (world.agent_kept d) (take n e.outs) in
+        let after : Scene = record old {
+          world = record world {
+            seen = handed_out lists numbering base d (take n e.outs);
+            agent_kept = update world.agent_kept d kept;
+          };
+          device_next = update old.device_next d did.exchanges;
+          left = update old.left d (n - length e.outs);
+        } in
+        let agrees : Agrees d after = record {
+          basis = refl;
+          terms = refl;
+          up = λ z ne. refl;
+          relays = λ z ne. ap (λ f. f z) values.0;
+          waiting = λ z ne. refl;
+          agents = λ z ne. ap (λ f. f z) values.2 ∙ updated_other world.seen.agents d e.after z ne;
+          root = λ ne. values.1;
+          relay_next = λ z ne. refl;
+          device_next = λ z ne. updated_other old.device_next d did.exchanges z ne;
+          root_next = λ ne. refl;
+        } in
+        let now = subst (λ (l : List DeviceExchange). DeviceExchanges p world.basis (world.seen.agents d) l) did.next (is.devices d did.leaf did.runs) in
+        let own = of_own_basis d e did.promised.handed_out now.0 in
+        let asked = subst (λ (i : ℕ). IsAsked i e.frame) is.steps own.asked in
+        let are = is.offers d did.leaf did.runs in
+        let here : after.world.seen.agents d ≡ e.after = ap (λ f. f d) values.2 ∙ updated_same world.seen.agents d e.after in
+        let world_with : DeviceAgent → List (Output StoredAgent) → World = λ a l. record world {
+          seen = handed_out lists numbering (with_agent world.seen d a) d (take n l);
+          agent_kept = update world.agent_kept d (stored_last (world.agent_kept d) (take n l));
+        } in
+        record {
+          step = lives.Device d e.frame n;
+          live = record {
+            leaf = did.leaf;
+            runs = did.runs;
+            may = is_free p world.basis world.seen d e.frame did.promised.handed_out asked are;
+            handled = subst (λ (l : List (Output StoredAgent)). HandledSome n l) own.outs did.promised.in_order;
+            new_is = ap (λ (s : Scene). s.world) did.new_is ∙ ap (λ (a : DeviceAgent). world_with a e.outs) own.after
+                ∙ ap (λ (l : List (Output StoredAgent)). world_with (agent_after (world.seen.agents d) e.frame) l) own.outs;
+          };
+          follows = subst (Follows lists p numbering) (sym did.new_is) (follows_but d after agrees
+              (λ conc. absurd (not_conc d did.leaf conc))
+              (λ same. absurd (not_root d did.leaf same))
+              (λ leaf. (
+                device_as p world.basis e.after (after.world.seen.agents d) did.exchanges (after.device_next d) here
+                    (updated_same old.device_next d did.exchanges) now.1,
+                subst (AreDemands p.steps) (sym (here ∙ own.after)) (after_fits p.steps (world.seen.agents d) e.frame asked are),
+              )));
+        }
+
+    lived : (event : HistoryEvent) (new : Scene) → Happens1 lists p numbering old event new → Lived old new
+    lived (RelayBegins c took wrote) new did = relay_begins c took wrote new did
+    lived (RelayGoesOn c) new did = relay_goes_on c new did
+    lived (RootBegins took wrote) new did = root_begins took wrote new did
+    lived RootGoesOn new did = root_goes_on new did
+    lived (DeviceBegins d took wrote) new did = device_begins d took wrote new did
+    lived (DeviceGoesOn d) new did = device_goes_on d new did
+
+  -- the events are steps of lives, one after the other
+  pub record AreLives (first last : World) : Type 0 where
+    -- the steps that the events are
+    pub steps : List LifeStep
+    pub live : LiveFree lists p numbering first steps last
+
+  -- a history is lives
+  pub are_lives : (events : List HistoryEvent) (first last : Scene) → Follows lists p numbering first → Happen lists p numbering first events last →
+      AreLives first.world last.world
+  are_lives [] first last is happen = record { steps = []; live = ap (λ (s : Scene). s.world) happen }
+  are_lives (event ∷ events) first last is happen =
+      let one = lived first is event happen.0 happen.1 in
+      let others = are_lives events happen.0 last one.follows happen.2 in
+      record { steps = one.step ∷ others.steps; live = (happen.0.world, one.live, others.live) }
+
+  -- of a scene in which no process ran nothing is to come
+  pub follows_new : (scene : Scene) → scene.world.basis.steps ≡ p.steps → ((y : ℕ) → scene.world.up y ≡ false) → Follows lists p numbering scene
+  follows_new scene steps none = record {
+    steps = steps;
+    relays = λ c conc up. absurd (both_ways (scene.world.up c) (none c) up);
+    root = λ up. absurd (both_ways (scene.world.up 0) (none 0) up);
+    devices = λ d leaf up. absurd (both_ways (scene.world.up d) (none d) up);
+    offers = λ d leaf up. absurd (both_ways (scene.world.up d) (none d) up);
+  }

@@ -1,0 +1,182 @@
+-- A history of a market by the bytes of its processes, and what its carriers promise.
+use Rattle.std.specs.Prelude.{◌≡◌, ℕ, ◌+◌, ◌-◌, true, List, [], ◌∷◌, length, take, Some, ⊤}
+use Rattle.pm_market.specs.Lists.{Lists, IsLeaf, IsConcentrator}
+use Rattle.pm_market.specs.State.{update, no_changes}
+use Rattle.pm_net.specs.Pricing.{Pricing}
+use Rattle.pm_net.specs.Messages.{price_message}
+use Rattle.pm_net_plan.specs.Places.{Numbering}
+use Rattle.pm_control.specs.Control.{agent_stored}
+use Rattle.pm_basis.specs.Prices.{BasisValue}
+use Rattle.pm_frames.specs.declared.parent.ParentFrame.TheVariants.{Price}
+use Rattle.pm_frames.specs.declared.device.DeviceFrame.{DeviceFrame}
+use Rattle.pm_frames.specs.declared.device.DeviceFrame.TheVariants.{Parent}
+use Rattle.pm_services.specs.DeviceAnswers.{same_basis}
+use Rattle.pm_system.specs.System.{System, with_relay, with_root, with_agent}
+use Rattle.pm_lives.specs.Lives.{World, setup_of, handed_out, stored_last, HandledSome, let_go_at_relay, let_go_at_root, restart_outs}
+use Rattle.pm_lives.specs.Lives.{KeptMayBeLearnt, IsNewWorld}
+use Rattle.pm_lives.specs.Outputs.{PriceWasSent}
+use Rattle.pm_lives.specs.Free.{RelayIsFree, RootIsFree}
+use Rattle.pm_processes.specs.RelayProcess.{RelayProcess, RelayExchange, setup_with, relay_resumed}
+use Rattle.pm_processes.specs.RootProcess.{RootProcess, RootExchange, root_resumed}
+use Rattle.pm_processes.specs.DeviceProcess.{DeviceProcess, DeviceExchange, agent_resumed}
+
+-- What there is at a moment: the world, and of the process of each node that runs what it still does. These are the frames that it
+-- still reads, each with its answer, and how many of the frames that it writes are still to be handled.
+pub record Scene : Type 0 where
+  pub world : World
+  pub relay_next : ℕ → List RelayExchange
+  pub root_next : List RootExchange
+  pub device_next : ℕ → List DeviceExchange
+  pub left : ℕ → ℕ
+
+-- A process of a node begins: of it these bytes are taken, and of what it writes these bytes are handled, until it ends. Or it goes
+-- on: it reads its next frame, and what is handled of the answer is handled.
+pub data HistoryEvent : Type 0 where
+  RelayBegins : ℕ → (took wrote : List ℕ) → HistoryEvent
+  RelayGoesOn : ℕ → HistoryEvent
+  RootBegins : (took wrote : List ℕ) → HistoryEvent
+  RootGoesOn : HistoryEvent
+  DeviceBegins : ℕ → (took wrote : List ℕ) → HistoryEvent
+  DeviceGoesOn : ℕ → HistoryEvent
+
+-- ---- what carriers promise, by its numbers in docs/RELAY.md
+
+-- (1) a process begins with the Resume that was stored last, or with none if none was stored; (2) all have the same Hello
+pub record BeginsAsPromised {K : Type 0} (hello market : BasisValue) (resumed stored : K) : Type 0 where
+  pub stored_last : resumed ≡ stored
+  pub same_hello : hello ≡ market
+
+-- (4) What is handled of an answer is a first part of it. Its first frame is handled before the frame that comes next is read by anybody, so
+-- that a Resume which stands first is stored before anything is handed out. (5, 8, 9) The frame that is read was handed out by the node that
+-- it names, unchanged, to this one; limits are those of a message of the giver; and none is let go but a device.
+pub record GoesOnAsPromised (WasHandedOut : Type 0) (Handled : Type 0) : Type 0 where
+  pub handed_out : WasHandedOut
+  pub in_order : Handled
+
+-- (5) A price that a device reads was handed out to it, and is of the basis of all. Of what its control asks, and of an Old, nothing is
+-- asked.
+abbrev pub DeviceIsGiven : BasisValue → System → ℕ → DeviceFrame → Type 0
+DeviceIsGiven own seen d (Parent (Price child number index step basis)) =
+    (same_basis basis own ≡ true) × PriceWasSent seen d (price_message number index step)
+DeviceIsGiven own seen d frame = ⊤
+
+-- ---- the events of a relay
+
+pub record RelayProcessBegins (lists : Lists) (p : Pricing) (numbering : Numbering) (old : Scene) (c : ℕ) (took wrote : List ℕ) (new : Scene) :
+    Type 0 where
+  pub conc : IsConcentrator lists c
+  -- (2) the same arguments, among them the limits of its first start
+  pub limited : p.limits c no_changes ≡ Some (old.world.terms c).limits
+  pub process : RelayProcess (numbering.place c + 1) (old.world.terms c) took wrote
+  pub promised : BeginsAsPromised process.basis old.world.basis
+      (relay_resumed (setup_with (numbering.place c + 1) (old.world.terms c) process.basis) process.resume) (old.world.relay_kept c)
+  pub may : KeptMayBeLearnt lists p numbering old.world c
+  pub new_is : new ≡ record old {
+    world = record old.world {
+      seen = handed_out lists numbering (with_relay old.world.seen c process.held.relay) c (take process.written.cut.n process.outs);
+      up = update old.world.up c true;
+      waiting = update old.world.waiting c process.held.waiting;
+    };
+    relay_next = update old.relay_next c process.exchanges;
+    left = update old.left c (process.written.cut.n - length process.outs);
+  }
+
+pub record RelayProcessGoesOn (lists : Lists) (p : Pricing) (numbering : Numbering) (old : Scene) (c : ℕ) (new : Scene) : Type 0 where
+  pub conc : IsConcentrator lists c
+  pub runs : old.world.up c ≡ true
+  pub exchange : RelayExchange
+  pub exchanges : List RelayExchange
+  pub next : old.relay_next c ≡ exchange ∷ exchanges
+  pub promised : GoesOnAsPromised (RelayIsFree lists p numbering (setup_of numbering old.world c) old.world.seen c exchange.frame)
+      (HandledSome (old.left c) exchange.outs)
+  pub new_is : new ≡ record old {
+    world = record old.world {
+      seen = handed_out lists numbering (with_relay old.world.seen c exchange.after.relay) c (take (old.left c) exchange.outs);
+      waiting = update old.world.waiting c exchange.after.waiting;
+      relay_kept = update old.world.relay_kept c (stored_last (old.world.relay_kept c) (take (old.left c) exchange.outs));
+      let_go = let_go_at_relay lists numbering old.world.seen c exchange.frame old.world.let_go;
+    };
+    relay_next = update old.relay_next c exchanges;
+    left = update old.left c (old.left c - length exchange.outs);
+  }
+
+-- ---- of the auctioneer
+
+pub record RootProcessBegins (p : Pricing) (old : Scene) (took wrote : List ℕ) (new : Scene) : Type 0 where
+  pub process : RootProcess took wrote
+  pub promised : BeginsAsPromised process.basis old.world.basis (root_resumed process.basis process.resume) old.world.root_kept
+  pub new_is : new ≡ record old {
+    world = record old.world { seen = with_root old.world.seen process.root; up = update old.world.up 0 true };
+    root_next = process.exchanges;
+    left = update old.left 0 process.written.cut.n;
+  }
+
+pub record RootProcessGoesOn (lists : Lists) (p : Pricing) (numbering : Numbering) (old : Scene) (new : Scene) : Type 0 where
+  pub runs : old.world.up 0 ≡ true
+  pub exchange : RootExchange
+  pub exchanges : List RootExchange
+  pub next : old.root_next ≡ exchange ∷ exchanges
+  pub promised : GoesOnAsPromised (RootIsFree lists p numbering old.world.seen exchange.frame) (HandledSome (old.left 0) exchange.outs)
+  pub new_is : new ≡ record old {
+    world = record old.world {
+      seen = handed_out lists numbering (with_root old.world.seen exchange.after) 0 (take (old.left 0) exchange.outs);
+      root_kept = stored_last old.world.root_kept (take (old.left 0) exchange.outs);
+      let_go = let_go_at_root lists numbering old.world.seen exchange.frame old.world.let_go;
+    };
+    root_next = exchanges;
+    left = update old.left 0 (old.left 0 - length exchange.outs);
+  }
+
+-- ---- of a device
+
+pub record DeviceProcessBegins (lists : Lists) (p : Pricing) (numbering : Numbering) (old : Scene) (d : ℕ) (took wrote : List ℕ) (new : Scene) :
+    Type 0 where
+  pub leaf : IsLeaf lists d
+  pub process : DeviceProcess p (numbering.place d + 1) took wrote
+  pub promised : BeginsAsPromised process.basis old.world.basis (agent_resumed process.basis process.resume) (old.world.agent_kept d)
+  pub new_is : let stored = old.world.agent_kept d in new ≡ record old {
+    world = record old.world {
+      seen = handed_out lists numbering (with_agent old.world.seen d (agent_stored stored.number stored.newest stored.index)) d
+          (take process.written.cut.n (restart_outs p stored));
+      up = update old.world.up d true;
+    };
+    device_next = update old.device_next d process.exchanges;
+    left = update old.left d (process.written.cut.n - length (restart_outs p stored));
+  }
+
+pub record DeviceProcessGoesOn (lists : Lists) (p : Pricing) (numbering : Numbering) (old : Scene) (d : ℕ) (new : Scene) : Type 0 where
+  pub leaf : IsLeaf lists d
+  pub runs : old.world.up d ≡ true
+  pub exchange : DeviceExchange
+  pub exchanges : List DeviceExchange
+  pub next : old.device_next d ≡ exchange ∷ exchanges
+  pub promised : GoesOnAsPromised (DeviceIsGiven old.world.basis old.world.seen d exchange.frame) (HandledSome (old.left d) exchange.outs)
+  pub new_is : new ≡ record old {
+    world = record old.world {
+      seen = handed_out lists numbering (with_agent old.world.seen d exchange.after) d (take (old.left d) exchange.outs);
+      agent_kept = update old.world.agent_kept d (stored_last (old.world.agent_kept d) (take (old.left d) exchange.outs));
+    };
+    device_next = update old.device_next d exchanges;
+    left = update old.left d (old.left d - length exchange.outs);
+  }
+
+-- ---- histories
+
+abbrev pub Happens1 : Lists → Pricing → Numbering → Scene → HistoryEvent → Scene → Type 0
+Happens1 lists p numbering old (RelayBegins c took wrote) new = RelayProcessBegins lists p numbering old c took wrote new
+Happens1 lists p numbering old (RelayGoesOn c) new = RelayProcessGoesOn lists p numbering old c new
+Happens1 lists p numbering old (RootBegins took wrote) new = RootProcessBegins p old took wrote new
+Happens1 lists p numbering old RootGoesOn new = RootProcessGoesOn lists p numbering old new
+Happens1 lists p numbering old (DeviceBegins d took wrote) new = DeviceProcessBegins lists p numbering old d took wrote new
+Happens1 lists p numbering old (DeviceGoesOn d) new = DeviceProcessGoesOn lists p numbering old d new
+
+-- one event after the other, by all nodes, in the order in which the carriers handled what was written
+abbrev pub Happen : Lists → Pricing → Numbering → Scene → List HistoryEvent → Scene → Type 0
+Happen lists p numbering old [] new = old ≡ new
+Happen lists p numbering old (event ∷ events) new =
+    (mid : Scene) × Happens1 lists p numbering old event mid × Happen lists p numbering mid events new
+
+-- no process runs, nothing is stored, nothing was handed out, and the basis of all has the steps of the market
+pub record IsNewScene (p : Pricing) (numbering : Numbering) (scene : Scene) : Type 0 where
+  pub new_world : IsNewWorld p numbering scene.world
+  pub steps : scene.world.basis.steps ≡ p.steps

@@ -1,0 +1,6 @@
+pub mod Processes
+pub mod RelayProcess
+pub mod RootProcess
+pub mod DeviceProcess
+pub mod History
+pub mod Kept

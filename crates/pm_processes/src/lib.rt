@@ -1,0 +1,49 @@
+//! Processes of the nodes of a market, by the bytes that they take and write.
+//!
+//! What `live` reads and writes, at each moment, is a process of a relay, an auctioneer or a device. Such a process is a life of
+//! its node, frame by frame (`processes_are_lives`). A market whose carriers keep their promises keeps the law, whatever processes
+//! are ended at any byte and whatever is lost, repeated or reordered (`histories_keep_the_law`).
+//!
+//! The definitions stand in `specs/`: `Processes` (a process by its bytes), `RelayProcess`, `RootProcess` and `DeviceProcess` (the
+//! same frame by frame), `History` (processes of all nodes, and what the carriers promise), `Kept` (what holds then).
+#![tactic(auto)]
+
+ghost use Rattle.std.specs.Prelude.{◌⊎◌, ℕ, List};
+ghost use Rattle.pm_net.specs.Pricing.{Pricing};
+ghost use Rattle.pm_frames.specs.declared.terms.RelayTerms.{RelayTerms};
+ghost use Rattle.pm_frames.specs.declared.place.Stage.TheVariants.{Start};
+ghost use Rattle.pm_frames.specs.RelayFrames.{relay_framing};
+ghost use Rattle.pm_frames.specs.RootFrames.{root_framing};
+ghost use Rattle.pm_frames.specs.DeviceFrames.{device_framing};
+ghost use Rattle.pm_processes.specs.Processes.{IsRelayProcess, IsRootProcess, IsDeviceProcess, relay_start, stream_start, HasNoFrame};
+ghost use Rattle.pm_processes.specs.RelayProcess.{RelayProcess};
+ghost use Rattle.pm_processes.specs.RootProcess.{RootProcess};
+ghost use Rattle.pm_processes.specs.DeviceProcess.{DeviceProcess};
+ghost use Rattle.pm_processes.specs.Kept.{HistoriesKeepTheLaw};
+
+use pm_lives::{lists_are_there, lives_keep_the_law, settled_lives_are_current};
+
+/// A law: a process, by the bytes that it took and wrote at any moment, is a life of its node. It took Hello, and what it came back
+/// with or nothing; it is the node that comes back with that. Behind it the process took frames, and answered each as that node
+/// does. What it wrote is the first bytes of these answers: some whole frames, and a part of the next.
+pub fn processes_are_lives()
+    ensures relay { (child : ℕ) (terms : RelayTerms) (took wrote : List ℕ) →
+        IsRelayProcess child terms took wrote →
+        HasNoFrame relay_framing (relay_start child terms) took
+        ⊎ RelayProcess child terms took wrote }
+    ensures root { (took wrote : List ℕ) → IsRootProcess took wrote →
+        HasNoFrame root_framing Start took ⊎ RootProcess took wrote }
+    ensures device { (p : Pricing) (child : ℕ) (took wrote : List ℕ) →
+        IsDeviceProcess child took wrote →
+        HasNoFrame device_framing (stream_start child) took ⊎ DeviceProcess p child took wrote }
+{}
+
+/// A law: a market keeps the law whose processes are those of `live`, and whose carriers keep their promises.
+pub fn histories_keep_the_law()
+    ensures { HistoriesKeepTheLaw }
+{
+    // The calls tell facts: there are lists of these lives, and what holds of lives.
+    lists_are_there();
+    lives_keep_the_law();
+    settled_lives_are_current();
+}
