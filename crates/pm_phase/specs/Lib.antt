@@ -7,3 +7,14 @@ pub mod Hearing
 pub mod Nodes
 pub mod Logs
 pub mod Opening
+pub mod Messages
+pub mod KeepingParents
+pub mod Telling
+pub mod TellingParents
+pub mod Closing
+pub mod Standing
+pub mod PartsEnd
+pub mod Beginning
+pub mod Running
+pub mod PhaseEnds
+pub mod SettledParts

@@ -1,5 +1,5 @@
 -- What a node starts from, and what is seen of it from outside its turns.
-use Rattle.std.specs.Prelude.{◌≡◌, ℕ, true, List, map, Option, None}
+use Rattle.std.specs.Prelude.{◌≡◌, ℕ, ◌+◌, true, List, map, length, slice_get, Option, Some, None}
 use Rattle.pm_nodes.specs.DeviceAgents.{IsAgentOf}
 use Rattle.pm_plan.specs.Plans.{PlanData, is_leaf}
 use Rattle.pm_session.specs.Ports.{held_by}
@@ -16,6 +16,12 @@ use Rattle.pm_phase.specs.declared.node.FreeNode.{FreeNode}
 abbrev pub IsNewDuty : PlanData → ℕ → Duty → Type 0
 IsNewDuty plan node (Device device) = IsAgentOf plan node device.agent × (device ≡ new_device device.agent)
 IsNewDuty plan node (Parent parent) = (is_leaf plan node ≡ true → ⊥) × IsNewParent plan node parent
+
+-- the parts are those of all nodes of the plan, by their numbers, before the first phase
+pub record AreNewParts (plan : PlanData) (parts : List NodePart) : Type 0 where
+  pub many : length parts ≡ length plan.entries + 1
+  pub numbers : (x : ℕ) (part : NodePart) → slice_get parts x ≡ Some part → part.number ≡ x
+  pub duties : (x : ℕ) (part : NodePart) → slice_get parts x ≡ Some part → IsNewDuty plan x part.duty
 
 -- the price that a device holds; none of another node
 abbrev pub held_by_duty : Duty → Option Held

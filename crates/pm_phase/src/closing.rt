@@ -3,6 +3,9 @@
 ghost use Rattle.std.specs.Prelude.{◌≡◌, All, IfOk, IfSome, Some, None, length};
 ghost use Rattle.pm_phase.specs.Ends.{AreOf, IsUpOf, IsDownOf, IsPlaced, ArePlaced};
 ghost use Rattle.pm_cells.specs.Ends.{LinkEnd};
+ghost use Rattle.std.specs.Prelude.{ℕ, List, Contains};
+ghost use Rattle.pm_phase.specs.Closing.{ChildFrom, ParentFrom, IsReturned, AreReturned, IsEmptyPlace, ClosedLink, AreClosed, parts_of_nodes};
+ghost use Rattle.pm_phase.specs.declared.node.FreeNode.{FreeNode as Node};
 ghost use Rattle.pm_phase.specs.Logs.{IsLogOfLink};
 ghost use Rattle.pm_phase.specs.Nodes.{numbers_of_parts, numbers_of_nodes};
 
@@ -29,8 +32,11 @@ pub(crate) fn close_links(
 ) -> Result<PhaseRun, AllocError>
     requires nodes { All (AreOf links.items) nodes.items }
     requires places { ArePlaced links.items places.items }
+    requires empty { All IsEmptyPlace places.items }
     ensures parts { IfOk result (λ run.
         numbers_of_parts run.parts.items ≡ numbers_of_nodes nodes.items) }
+    ensures same { IfOk result (λ run. run.parts.items ≡ parts_of_nodes nodes.items) }
+    ensures closed { IfOk result (λ run. AreClosed nodes.items run.links.items) }
     ensures each { IfOk result (λ run. length run.links.items ≡ length links.items) }
     ensures logs { IfOk result (λ run. All (λ log. IfSome log IsLogOfLink) run.links.items) }
 {
@@ -49,15 +55,40 @@ fn take_ends(links: &[FreeLink], places: &mut Vec<Places>, node: FreeNode) -> No
     requires places { ArePlaced links.now places.old.items }
     ensures part { result ≡ node.part }
     ensures places { ArePlaced links.now places.new.items }
+    ensures from { (nodes : List Node) → Contains nodes node → AreReturned nodes places.old.items →
+        AreReturned nodes places.new.items }
 {
     let FreeNode { part, up, downs } = node;
+    put_up_end(links, places, up);
+    put_down_ends(links, places, downs);
+    part
+}
+
+/// Puts the end of a node's link to its parent into its place, if the node has one.
+fn put_up_end(links: &[FreeLink], places: &mut Vec<Places>, up: Option<UpEnd>)
+    requires up { IfSome up (IsUpOf links.now) }
+    requires places { ArePlaced links.now places.old.items }
+    ensures places { ArePlaced links.now places.new.items }
+    ensures from { (nodes : List Node) → (node : Node) → Contains nodes node → node.up ≡ up →
+        AreReturned nodes places.old.items → AreReturned nodes places.new.items }
+{
     if let Some(up) = up {
         put_up(links, places, up);
     }
+}
+
+/// Puts the ends of a node's links to its children into their places.
+fn put_down_ends(links: &[FreeLink], places: &mut Vec<Places>, downs: Vec<DownEnd>)
+    requires downs { All (IsDownOf links.now) downs.items }
+    requires places { ArePlaced links.now places.old.items }
+    ensures places { ArePlaced links.now places.new.items }
+    ensures from { (nodes : List Node) → (node : Node) → Contains nodes node →
+        node.downs.items ≡ downs.items → AreReturned nodes places.old.items →
+        AreReturned nodes places.new.items }
+{
     for down in downs {
         put_down(links, places, down);
     }
-    part
 }
 
 /// Puts an end that came back into its place.
@@ -65,6 +96,8 @@ fn put_up(links: &[FreeLink], places: &mut Vec<Places>, up: UpEnd)
     requires up { IsUpOf links.now up }
     requires places { ArePlaced links.now places.old.items }
     ensures places { ArePlaced links.now places.new.items }
+    ensures from { (nodes : List Node) → ChildFrom nodes up.at up.end →
+        AreReturned nodes places.old.items → AreReturned nodes places.new.items }
 {
     let UpEnd { at, end } = up;
     places[at].up = Some(end);
@@ -75,6 +108,8 @@ fn put_down(links: &[FreeLink], places: &mut Vec<Places>, down: DownEnd)
     requires down { IsDownOf links.now down }
     requires places { ArePlaced links.now places.old.items }
     ensures places { ArePlaced links.now places.new.items }
+    ensures from { (nodes : List Node) → ParentFrom nodes down.at down.end →
+        AreReturned nodes places.old.items → AreReturned nodes places.new.items }
 {
     let DownEnd { at, end } = down;
     places[at].down = Some(end);
@@ -88,6 +123,8 @@ fn close_all(
 ) -> Result<Vec<Option<LinkLog>>, AllocError>
     requires { ArePlaced links.items places.items }
     ensures each { IfOk result (λ logs. length logs.items ≡ length links.items) }
+    ensures closed { (nodes : List Node) → AreReturned nodes places.items →
+        IfOk result (λ logs. AreClosed nodes logs.items) }
     ensures logs { IfOk result (λ logs. All (λ log. IfSome log IsLogOfLink) logs.items) }
 {
     let mut links = links;
@@ -107,6 +144,8 @@ fn close_all(
 fn close_one(link: FreeLink, ends: Places) -> Option<LinkLog>
     requires { IsPlaced link ends }
     ensures log { IfSome result IsLogOfLink }
+    ensures closed { (nodes : List Node) → (place : ℕ) → IsReturned nodes place ends →
+        IfSome result (ClosedLink nodes place) }
     ensures both { (child : LinkEnd) (parent : LinkEnd) → ends.up ≡ Some child →
         ends.down ≡ Some parent → result ≡ None → ⊥ }
 {

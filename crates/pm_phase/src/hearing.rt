@@ -2,6 +2,8 @@
 
 ghost use Rattle.std.specs.Prelude.{◌≡◌};
 ghost use Rattle.pm_phase.specs.Ends.{IsUpOf, IsDownOf};
+ghost use Rattle.pm_phase.specs.KeepingParents.{ChildMovesOn};
+ghost use Rattle.pm_phase.specs.TellingParents.{KeepsEntries};
 ghost use Rattle.pm_phase.specs.Hearing.{HearsPrice, HearsPriceToPass, HearsBid};
 
 use crate::device::DevicePart;
@@ -53,6 +55,7 @@ pub(crate) fn hear_price_to_pass(
 }
 
 /// A node with children takes a bid from the child in a place, and learns it; whether one came.
+#[tactic(auto, using(crate::proofs::Heard::heard_entries, crate::proofs::Heard::no_entries, crate::proofs::Moves::heard_moves, crate::proofs::Moves::no_moves))]
 pub(crate) fn hear_bid(
     links: &[FreeLink],
     place: usize,
@@ -63,6 +66,8 @@ pub(crate) fn hear_bid(
     ensures link { IsDownOf links.now down.new }
     ensures place { down.new.at ≡ down.old.at }
     ensures heard { HearsBid place down.old.end down.new.end parent.old parent.new result }
+    ensures entries { KeepsEntries place down.old.end down.new.end parent.old parent.new }
+    ensures moves { ChildMovesOn place down.old down.new parent.old parent.new }
 {
     match take_bid_from_child(links, down) {
         Some(bid) => {

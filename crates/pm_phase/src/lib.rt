@@ -15,13 +15,17 @@ mod closing;
 mod device;
 mod ends;
 mod hearing;
+mod laws;
 mod matcher;
 mod node;
 mod opening;
 mod parent;
 mod phase;
+mod settled;
 mod threads;
 mod turns;
 
+pub use laws::{new_parts_end_plainly, settled_parts_end_plainly};
 pub use node::NodePart;
 pub use phase::{PhaseRun, run_phase};
+pub use settled::has_settled;

@@ -1,12 +1,12 @@
 //! A node of a phase: its part of the market, and its ends of the links.
 
 ghost use Rattle.std.specs.Prelude.{◌≡◌, IfOk};
+ghost use Rattle.pm_phase.specs.Beginning.{BegunDuty};
 ghost use Rattle.pm_phase.specs.Nodes.{IsNewDuty, held_by_node};
 
 use crate::device::DevicePart;
 use crate::ends::{DownEnd, UpEnd};
 use crate::parent::ParentPart;
-use pm_cells::UpMessage;
 use pm_nodes::agent_of;
 use pm_plan::Plan;
 use pm_session::Held;
@@ -64,31 +64,12 @@ impl NodePart {
 
     /// A phase begins.
     pub(crate) fn begin(&mut self)
-        ensures { self.new.number ≡ self.old.number }
-    {
-        if let Duty::Device(device) = &mut self.duty {
-            device.begin();
-        }
-    }
-
-    /// Gives the bid that was learnt last from the child in a place.
-    pub(crate) fn take_learnt(&mut self, place: usize) -> Option<UpMessage>
-        ensures { self.new.number ≡ self.old.number }
+        ensures number { self.new.number ≡ self.old.number }
+        ensures begun { BegunDuty self.old.duty self.new.duty }
     {
         match &mut self.duty {
-            Duty::Parent(parent) => parent.learnt.get_mut(place)?.take(),
-            Duty::Device(_) => None,
-        }
-    }
-
-    /// Keeps the bid that was learnt last from the child in a place.
-    pub(crate) fn keep_learnt(&mut self, place: usize, bid: Option<UpMessage>)
-        ensures { self.new.number ≡ self.old.number }
-    {
-        if let Duty::Parent(parent) = &mut self.duty
-            && let Some(newest) = parent.learnt.get_mut(place)
-        {
-            *newest = bid;
+            Duty::Device(device) => device.begin(),
+            Duty::Parent(parent) => parent.begin(),
         }
     }
 }

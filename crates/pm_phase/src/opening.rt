@@ -5,10 +5,16 @@ ghost use Rattle.pm_cells.specs.Ends.{TableId};
 ghost use Rattle.pm_phase.specs.Ends.{AreOf, IsUpOf, IsDownOf, ArePlaced};
 ghost use Rattle.pm_phase.specs.Nodes.{numbers_of_parts, numbers_of_nodes};
 ghost use Rattle.pm_phase.specs.Opening.{PutsAgain};
+ghost use Rattle.pm_phase.specs.Closing.{IsEmptyPlace};
+ghost use Rattle.pm_phase.specs.Beginning.{StartsFrom, IsOpenedNode, OpenUp, IsFreshUp, IsFreshDown, LearntAgain, IsLinkOf};
+ghost use Rattle.std.specs.Prelude.{ℕ, List};
+ghost use Rattle.pm_plan.specs.Plans.{PlanData};
+ghost use Rattle.pm_phase.specs.declared.node.NodePart.{NodePart};
 
 use crate::closing::Places;
 use crate::ends::{DownEnd, UpEnd, put_waiting_bid, take_bid_from_child};
-use crate::node::{FreeNode, NodePart};
+use crate::node::{Duty, FreeNode, NodePart};
+use crate::parent::ParentPart;
 use pm_cells::{FreeLink, UpMessage, open_link};
 use pm_plan::Plan;
 use pm_tree::NodeId;
@@ -27,6 +33,9 @@ pub(crate) fn open_links(
 ) -> Result<(Vec<FreeLink>, Vec<Places>, Vec<FreeNode>), AllocError>
     ensures nodes { IfOk result (λ opened. All (AreOf opened.0.items) opened.2.items) }
     ensures places { IfOk result (λ opened. ArePlaced opened.0.items opened.1.items) }
+    ensures empty { IfOk result (λ opened. All IsEmptyPlace opened.1.items) }
+    ensures opened { IfOk result (λ opened.
+        All (IsOpenedNode plan.now parts.items) opened.2.items) }
     ensures numbers { IfOk result (λ opened.
         numbers_of_nodes opened.2.items ≡ numbers_of_parts parts.items) }
     ensures each { IfOk result (λ opened. length opened.0.items ≡ length plan.now.entries) }
@@ -37,7 +46,8 @@ pub(crate) fn open_links(
     for number in 1..plan.tree().len() + 1 {
         let (up, down) = add_link(alloc, room, &mut links, &mut places)?;
         let above = plan.tree().parent(NodeId(number)).0;
-        hand_out(&links, &mut nodes, number, above, up, down)?;
+        let place = plan.tree().place(NodeId(number));
+        hand_out(&links, &mut nodes, number, above, place, up, down)?;
     }
     Ok((links, places, nodes))
 }
@@ -52,9 +62,15 @@ fn add_link(
     requires places { ArePlaced links.old.items places.old.items }
     ensures up { IfOk result (λ ends. IsUpOf links.new.items ends.0) }
     ensures down { IfOk result (λ ends. IsDownOf links.new.items ends.1) }
+    ensures fresh_up { IfOk result (λ ends. IsFreshUp ends.0) }
+    ensures fresh_down { IfOk result (λ ends. IsFreshDown ends.1) }
+    ensures up_at { IfOk result (λ ends. ends.0.at ≡ length links.old.items) }
+    ensures down_at { IfOk result (λ ends. ends.1.at ≡ length links.old.items) }
     ensures one_more { IfOk result (λ _. (link : TableId)
         × (links.new.items ≡ links.old.items ++ link ∷ [])) }
     ensures places { IfOk result (λ _. ArePlaced links.new.items places.new.items) }
+    ensures empty { All IsEmptyPlace places.old.items →
+        IfOk result (λ _. All IsEmptyPlace places.new.items) }
 {
     let (link, child, parent) = open_link(alloc, room)?;
     let at = links.len();
@@ -69,6 +85,7 @@ fn add_link(
 /// The nodes before they have ends.
 fn without_ends(alloc: Global, parts: Vec<NodePart>) -> Result<Vec<FreeNode>, AllocError>
     ensures links { IfOk result (λ nodes. All (AreOf []) nodes.items) }
+    ensures starts { IfOk result (λ nodes. All (StartsFrom parts.items) nodes.items) }
     ensures numbers { IfOk result (λ nodes.
         numbers_of_nodes nodes.items ≡ numbers_of_parts parts.items) }
 {
@@ -91,6 +108,7 @@ fn hand_out(
     nodes: &mut Vec<FreeNode>,
     number: u32,
     above: u32,
+    place: usize,
     up: UpEnd,
     down: DownEnd,
 ) -> Result<(), AllocError>
@@ -99,9 +117,13 @@ fn hand_out(
     requires nodes { All (AreOf links.now) nodes.old.items }
     ensures nodes { IfOk result (λ _. All (AreOf links.now) nodes.new.items) }
     ensures numbers { numbers_of_nodes nodes.new.items ≡ numbers_of_nodes nodes.old.items }
+    ensures opened { (plan : PlanData) → (parts : List NodePart) →
+        IsLinkOf plan number above place up.at down.at →
+        IsFreshUp up → IsFreshDown down → All (IsOpenedNode plan parts) nodes.old.items →
+        IfOk result (λ _. All (IsOpenedNode plan parts) nodes.new.items) }
 {
     let mut up = up;
-    hand_down(links, nodes, above, &mut up, down)?;
+    hand_down(links, nodes, above, place, &mut up, down)?;
     hand_up(links, nodes, number, up);
     Ok(())
 }
@@ -111,6 +133,7 @@ fn hand_down(
     links: &[FreeLink],
     nodes: &mut Vec<FreeNode>,
     above: u32,
+    place: usize,
     up: &mut UpEnd,
     down: DownEnd,
 ) -> Result<(), AllocError>
@@ -120,11 +143,16 @@ fn hand_down(
     ensures up { IsUpOf links.now up.new }
     ensures nodes { All (AreOf links.now) nodes.new.items }
     ensures numbers { numbers_of_nodes nodes.new.items ≡ numbers_of_nodes nodes.old.items }
+    ensures opened { (plan : PlanData) → (parts : List NodePart) → (node : ℕ) →
+        IsLinkOf plan node above place up.old.at down.at →
+        IsFreshUp up.old → IsFreshDown down → All (IsOpenedNode plan parts) nodes.old.items →
+        IfOk result (λ _. All (IsOpenedNode plan parts) nodes.new.items
+        × OpenUp plan parts node up.new) }
 {
     if above as usize >= nodes.len() {
         return Ok(());
     }
-    add_down(links, &mut nodes[above as usize], up, down)
+    add_down(links, &mut nodes[above as usize], above, place, up, down)
 }
 
 /// Hands the lower end of a link to a node.
@@ -133,27 +161,37 @@ fn hand_up(links: &[FreeLink], nodes: &mut Vec<FreeNode>, number: u32, up: UpEnd
     requires nodes { All (AreOf links.now) nodes.old.items }
     ensures nodes { All (AreOf links.now) nodes.new.items }
     ensures numbers { numbers_of_nodes nodes.new.items ≡ numbers_of_nodes nodes.old.items }
+    ensures opened { (plan : PlanData) → (parts : List NodePart) → OpenUp plan parts number up →
+        All (IsOpenedNode plan parts) nodes.old.items →
+        All (IsOpenedNode plan parts) nodes.new.items }
 {
     if number as usize >= nodes.len() {
         return;
     }
-    add_up(links, &mut nodes[number as usize], up);
+    add_up(links, &mut nodes[number as usize], number, up);
 }
 
-/// Gives a node its end of the link to its parent.
-fn add_up(links: &[FreeLink], node: &mut FreeNode, up: UpEnd)
+/// Gives a node of this number its end of the link to its parent.
+fn add_up(links: &[FreeLink], node: &mut FreeNode, number: u32, up: UpEnd)
     requires up { IsUpOf links.now up }
     requires node { AreOf links.now node.old }
     ensures node { AreOf links.now node.new }
     ensures part { node.new.part ≡ node.old.part }
+    ensures opened { (plan : PlanData) → (parts : List NodePart) → OpenUp plan parts number up →
+        IsOpenedNode plan parts node.old → IsOpenedNode plan parts node.new }
 {
-    node.up = Some(up);
+    if node.part.number == number {
+        node.up = Some(up);
+    }
 }
 
-/// Gives a node its end of the link to its next child, over which the newest bid that it learnt from that child was taken.
+/// Gives a node of this number its end of the link to the child in a place, if that is the next, over which the newest bid that it
+/// learnt from that child was taken.
 fn add_down(
     links: &[FreeLink],
     node: &mut FreeNode,
+    above: u32,
+    place: usize,
     up: &mut UpEnd,
     down: DownEnd,
 ) -> Result<(), AllocError>
@@ -163,14 +201,45 @@ fn add_down(
     ensures up { IsUpOf links.now up.new }
     ensures node { AreOf links.now node.new }
     ensures number { node.new.part.number ≡ node.old.part.number }
+    ensures opened { (plan : PlanData) → (parts : List NodePart) → (child : ℕ) →
+        IsLinkOf plan child above place up.old.at down.at →
+        IsFreshUp up.old → IsFreshDown down → IsOpenedNode plan parts node.old →
+        IfOk result (λ _. IsOpenedNode plan parts node.new × OpenUp plan parts child up.new) }
 {
+    if node.part.number != above || node.downs.len() != place {
+        return Ok(());
+    }
     let mut down = down;
-    let place = node.downs.len();
-    let bid = node.part.take_learnt(place);
-    let bid = put_again(links, up, &mut down, bid);
-    node.part.keep_learnt(place, bid);
+    let Duty::Parent(parent) = &mut node.part.duty else {
+        return Ok(());
+    };
+    put_learnt_again(links, parent, place, up, &mut down);
     node.downs.push(down)?;
     Ok(())
+}
+
+/// Puts the newest bid that a node learnt from the child in a place again on their new link, and keeps what it has then.
+fn put_learnt_again(
+    links: &[FreeLink],
+    parent: &mut ParentPart,
+    place: usize,
+    up: &mut UpEnd,
+    down: &mut DownEnd,
+)
+    requires up { IsUpOf links.now up.old }
+    requires down { IsDownOf links.now down.old }
+    ensures up { IsUpOf links.now up.new }
+    ensures down { IsDownOf links.now down.new }
+    ensures up_at { up.new.at ≡ up.old.at }
+    ensures down_at { down.new.at ≡ down.old.at }
+    ensures again { LearntAgain place up.old.end up.new.end down.old.end down.new.end
+        parent.old parent.new }
+{
+    let Some(newest) = parent.learnt.get_mut(place) else {
+        return;
+    };
+    let bid = newest.take();
+    *newest = put_again(links, up, down, bid);
 }
 
 /// Puts the newest bid that a parent learnt from a child again on their new link, and takes it at once, so that a price of the
@@ -185,6 +254,8 @@ fn put_again(
     requires down { IsDownOf links.now down.old }
     ensures up { IsUpOf links.now up.new }
     ensures down { IsDownOf links.now down.new }
+    ensures up_at { up.new.at ≡ up.old.at }
+    ensures down_at { down.new.at ≡ down.old.at }
     ensures again { PutsAgain up.old.end up.new.end down.old.end down.new.end bid result }
 {
     let mut bid = bid;

@@ -2,6 +2,8 @@
 
 ghost use Rattle.std.specs.Prelude.{◌≡◌, true, false, None, OnErr, if◌then◌else◌, nat_lt, Some, IfOk, replicate};
 ghost use Rattle.pm_phase.specs.Matchers.{cache_of_matcher, MayLearnBid};
+ghost use Rattle.pm_phase.specs.Beginning.{BegunParent};
+ghost use Rattle.pm_phase.specs.TellingParents.{TakesIn};
 ghost use Rattle.pm_phase.specs.Parents.{IsNewParent, LearnsBid, MakesBid, HasNoBidToMake, PassesOn, DropsPending, ClearsMarket, HasNoClearing};
 
 use crate::matcher::{Matcher, clear, next_bid, pass};
@@ -52,12 +54,23 @@ impl ParentPart {
         })
     }
 
+    /// A phase begins: no price of the phase before waits, or is to be passed on.
+    pub(crate) fn begin(&mut self)
+        ensures { BegunParent self.old self.new }
+    {
+        self.pending = None;
+        for place in 0..self.prices.len() {
+            self.prices[place] = None;
+        }
+    }
+
     /// Learns a child's bid, if it may, and keeps it. A bid that may not be learnt is dropped.
     pub(crate) fn learn(&mut self, child: usize, bid: UpMessage)
         ensures learnt { MayLearnBid (cache_of_matcher self.old.matcher) child bid →
             LearnsBid child bid self.old self.new }
         ensures dropped { (MayLearnBid (cache_of_matcher self.old.matcher) child bid → ⊥) →
             self.new ≡ self.old }
+        ensures either { TakesIn child bid self.old self.new }
     {
         if !self.matcher.learn(child, &bid) {
             return;

@@ -3,6 +3,8 @@
 ghost use Rattle.std.specs.Prelude.{◌≡◌, All, IfOk, IfSome, length};
 ghost use Rattle.pm_phase.specs.Ends.{AreOf};
 ghost use Rattle.pm_phase.specs.Nodes.{numbers_of_parts, numbers_of_nodes};
+ghost use Rattle.pm_phase.specs.Telling.{AllStepOn};
+ghost use Rattle.pm_phase.specs.Running.{HasRun};
 ghost use Rattle.pm_phase.specs.Logs.{IsLogOfLink};
 
 use crate::closing::close_links;
@@ -44,6 +46,7 @@ pub fn run_phase<R: Threads + Sync, G: Gate>(
 ) -> Result<PhaseRun, AllocError>
     ensures parts { IfOk result (λ run.
         numbers_of_parts run.parts.items ≡ numbers_of_parts parts.items) }
+    ensures ran { IfOk result (HasRun plan.now changes.now parts.items) }
     ensures each_link { IfOk result (λ run. length run.links.items ≡ length plan.now.entries) }
     ensures logs { IfOk result (λ run. All (λ log. IfSome log IsLogOfLink) run.links.items) }
 {
@@ -63,10 +66,12 @@ pub fn run_phase<R: Threads + Sync, G: Gate>(
 }
 
 /// Makes rounds of all nodes until none moves a message.
+#[tactic(auto, using(crate::proofs::StepsOn::all_trans, crate::proofs::StepsOn::all_refl))]
 fn take_to_end<G: Gate>(phase: &Phase<'_, G>, links: &[FreeLink], nodes: &mut [FreeNode])
     requires { All (AreOf links.now) nodes.old }
     ensures links { All (AreOf links.now) nodes.new }
     ensures numbers { numbers_of_nodes nodes.new ≡ numbers_of_nodes nodes.old }
+    ensures steps { AllStepOn phase.now.plan.now phase.now.changes.now nodes.old nodes.new }
 {
     for _ in 0..phase.plan.bound() {
         if !take_round(phase, links, nodes) {

@@ -3,6 +3,7 @@
 ghost use Rattle.std.specs.Prelude.{◌≡◌, ◌<◌, All};
 ghost use Rattle.std.specs.Thread.{IsSync};
 ghost use Rattle.pm_phase.specs.Ends.{AreOf};
+ghost use Rattle.pm_phase.specs.Telling.{AllStepOn};
 ghost use Rattle.pm_phase.specs.Nodes.{numbers_of_nodes};
 
 use crate::node::FreeNode;
@@ -46,6 +47,7 @@ pub(crate) fn run_nodes<R: Threads + Sync, G: Gate>(
     requires { All (AreOf links.now) nodes.old }
     ensures links { All (AreOf links.now) nodes.new }
     ensures numbers { numbers_of_nodes nodes.new ≡ numbers_of_nodes nodes.old }
+    ensures steps { AllStepOn phase.now.plan.now phase.now.changes.now nodes.old nodes.new }
 {
     let size = nodes.len().div_ceil(threads_for(changes)).max(1);
     let rounds = ROUNDS_OF_A_CHANGE.saturating_mul(changes as u64);
@@ -56,7 +58,9 @@ pub(crate) fn run_nodes<R: Threads + Sync, G: Gate>(
         &|_start: usize, some: &mut [FreeNode]|
             requires { IsSync G.row × All (AreOf links.now) some.now }
             ensures { All (AreOf links.entry.now) some.exit.now
-                × (numbers_of_nodes some.exit.now ≡ numbers_of_nodes some.entry.now) }
+                × (numbers_of_nodes some.exit.now ≡ numbers_of_nodes some.entry.now)
+                × AllStepOn phase.entry.now.plan.now phase.entry.now.changes.now some.entry.now
+                some.exit.now }
         { make_rounds(phase, links, some, rounds) },
     );
 }

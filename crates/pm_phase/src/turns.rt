@@ -1,6 +1,10 @@
 //! The turns of nodes: each moves the messages that its node can move.
 
-ghost use Rattle.std.specs.Prelude.{◌≡◌, All, IfSome};
+ghost use Rattle.std.specs.Prelude.{◌≡◌, ℕ, List, All, IfSome, slice_get};
+ghost use Rattle.pm_device.specs.declared.state.Next.{Next};
+ghost use Rattle.pm_cells.specs.Ends.{LinkEnd};
+ghost use Rattle.pm_phase.specs.Telling.{AreNext, KeepsDevice, StepsOn, AllStepOn};
+ghost use Rattle.pm_phase.specs.KeepingParents.{IsUpHere, OverEnd, PartMovesOn, ChildMovesOn, ChildrenMoveOn, UpMovesOn};
 ghost use Rattle.pm_phase.specs.Ends.{AreOf, IsUpOf, IsDownOf};
 ghost use Rattle.pm_phase.specs.Nodes.{numbers_of_nodes};
 
@@ -34,6 +38,7 @@ pub(crate) struct Phase<'a, G> {
 const PATIENCE: u32 = 30;
 
 /// Makes rounds of some nodes, as many as it may, or until nothing moves any more.
+#[tactic(auto, using(crate::proofs::StepsOn::all_trans, crate::proofs::StepsOn::all_refl))]
 pub(crate) fn make_rounds<G: Gate>(
     phase: &Phase<'_, G>,
     links: &[FreeLink],
@@ -43,6 +48,7 @@ pub(crate) fn make_rounds<G: Gate>(
     requires { All (AreOf links.now) nodes.old }
     ensures links { All (AreOf links.now) nodes.new }
     ensures numbers { numbers_of_nodes nodes.new ≡ numbers_of_nodes nodes.old }
+    ensures steps { AllStepOn phase.now.plan.now phase.now.changes.now nodes.old nodes.new }
 {
     let mut seen = 0;
     let mut idle: u32 = 0;
@@ -66,6 +72,7 @@ pub(crate) fn make_rounds<G: Gate>(
 }
 
 /// A turn of each node; whether one moved a message.
+#[tactic(auto, using(crate::proofs::StepsOn::all_refl))]
 pub(crate) fn take_round<G: Gate>(
     phase: &Phase<'_, G>,
     links: &[FreeLink],
@@ -74,6 +81,7 @@ pub(crate) fn take_round<G: Gate>(
     requires { All (AreOf links.now) nodes.old }
     ensures links { All (AreOf links.now) nodes.new }
     ensures numbers { numbers_of_nodes nodes.new ≡ numbers_of_nodes nodes.old }
+    ensures steps { AllStepOn phase.now.plan.now phase.now.changes.now nodes.old nodes.new }
 {
     let mut has_moved = false;
     let mut at = 0;
@@ -90,6 +98,7 @@ fn take_turn<G: Gate>(phase: &Phase<'_, G>, links: &[FreeLink], node: &mut FreeN
     requires { AreOf links.now node.old }
     ensures links { AreOf links.now node.new }
     ensures number { node.new.part.number ≡ node.old.part.number }
+    ensures steps { StepsOn phase.now.plan.now phase.now.changes.now node.old node.new }
 {
     let number = node.part.number;
     phase.gate.before(number);
@@ -106,6 +115,7 @@ fn turn<G: Gate>(phase: &Phase<'_, G>, links: &[FreeLink], node: &mut FreeNode) 
     requires { AreOf links.now node.old }
     ensures links { AreOf links.now node.new }
     ensures number { node.new.part.number ≡ node.old.part.number }
+    ensures steps { StepsOn phase.now.plan.now phase.now.changes.now node.old node.new }
 {
     let FreeNode { part, up, downs } = node;
     match &mut part.duty {
@@ -129,29 +139,58 @@ fn device_turn<G: Gate>(
     device: &mut DevicePart,
 ) -> bool
     requires { IfSome up.old (IsUpOf links.now) }
-    ensures { IfSome up.new (IsUpOf links.now) }
+    ensures link { IfSome up.new (IsUpOf links.now) }
+    ensures here { (node : ℕ) → IsUpHere node up.old → IsUpHere node up.new }
+    // Whatever the device keeps of a plan before the turn it keeps after it.
+    ensures keeps { (before : ℕ) → (changes : List Next) →
+        IfSome (slice_get phase.now.changes.now number) (λ list. list.items ≡ changes) →
+        AreNext phase.now.plan.now number before changes →
+        OverEnd (KeepsDevice phase.now.plan.now number before device.old) up.old →
+        OverEnd (KeepsDevice phase.now.plan.now number before device.new) up.new }
 {
     let Some(up) = up else {
         return false;
     };
-    let made = match phase.changes.get(number as usize) {
-        Some(changes) => device
-            .make_change(phase.alloc, phase.plan, changes)
-            .unwrap_or(false),
-        None => false,
-    };
+    let made = make_next(phase, number, device);
     let put = put_waiting_bid(links, up, &mut device.waiting);
     let heard = hear_price(links, phase.plan, up, device);
     made || put || heard
 }
 
+/// A device makes its next change; whether it made one. Where memory is wanting it makes none.
+fn make_next<G: Gate>(phase: &Phase<'_, G>, number: u32, device: &mut DevicePart) -> bool
+    ensures keeps { (before : ℕ) → (changes : List Next) → (end : LinkEnd) →
+        IfSome (slice_get phase.now.changes.now number) (λ list. list.items ≡ changes) →
+        AreNext phase.now.plan.now number before changes →
+        KeepsDevice phase.now.plan.now number before device.old end →
+        KeepsDevice phase.now.plan.now number before device.new end }
+{
+    let Some(changes) = phase.changes.get(number as usize) else {
+        return false;
+    };
+    device
+        .make_change(phase.alloc, phase.plan, changes)
+        .unwrap_or(false)
+}
+
 /// A node with children makes its bid, clears the market, or passes a price on; whether it did any of these. Where memory is
 /// wanting it makes no bid.
-fn send(alloc: Global, parent: &mut ParentPart) -> bool {
+#[tactic(auto, using(crate::proofs::PartsMove::send_moves))]
+fn send(alloc: Global, parent: &mut ParentPart) -> bool
+    ensures moves { PartMovesOn parent.old parent.new }
+{
     let cleared = parent.clear();
-    let made = parent.make_bid(alloc).unwrap_or(false);
+    let made = make_next_bid(alloc, parent);
     let passed = parent.pass_on();
     cleared || made || passed
+}
+
+/// A concentrator makes its next bid; whether it made one. Where memory is wanting it makes none.
+#[tactic(auto, using(crate::proofs::PartsMove::made_or_not))]
+fn make_next_bid(alloc: Global, parent: &mut ParentPart) -> bool
+    ensures moves { PartMovesOn parent.old parent.new }
+{
+    parent.make_bid(alloc).unwrap_or(false)
 }
 
 /// A concentrator puts the bid that waits for its parent, and takes a price from it; whether it did either.
@@ -162,7 +201,8 @@ fn parent_turn(
     parent: &mut ParentPart,
 ) -> bool
     requires { IfSome up.old (IsUpOf links.now) }
-    ensures { IfSome up.new (IsUpOf links.now) }
+    ensures link { IfSome up.new (IsUpOf links.now) }
+    ensures moves { UpMovesOn up.old up.new parent.old parent.new }
 {
     let Some(up) = up else {
         return false;
@@ -175,7 +215,8 @@ fn parent_turn(
 /// A node with children learns their bids, and puts the prices that wait for them; whether it did either.
 fn children_turn(links: &[FreeLink], downs: &mut Vec<DownEnd>, parent: &mut ParentPart) -> bool
     requires { All (IsDownOf links.now) downs.old.items }
-    ensures { All (IsDownOf links.now) downs.new.items }
+    ensures links { All (IsDownOf links.now) downs.new.items }
+    ensures moves { ChildrenMoveOn downs.old.items downs.new.items parent.old parent.new }
 {
     let mut moved = false;
     let mut place = 0;
@@ -188,14 +229,30 @@ fn children_turn(links: &[FreeLink], downs: &mut Vec<DownEnd>, parent: &mut Pare
 }
 
 /// A node with children learns the bid of a child, and puts the price that waits for it; whether it did either.
+#[tactic(auto, using(crate::proofs::Moves::child_trans))]
 fn child_turn(links: &[FreeLink], place: usize, down: &mut DownEnd, parent: &mut ParentPart) -> bool
     requires { IsDownOf links.now down.old }
-    ensures { IsDownOf links.now down.new }
+    ensures link { IsDownOf links.now down.new }
+    ensures moves { ChildMovesOn place down.old down.new parent.old parent.new }
 {
     let heard = hear_bid(links, place, down, parent);
-    let put = match parent.prices.get_mut(place) {
+    let put = put_price_to_child(links, place, down, parent);
+    heard || put
+}
+
+/// A node with children puts the price that waits for a child; whether it put one.
+fn put_price_to_child(
+    links: &[FreeLink],
+    place: usize,
+    down: &mut DownEnd,
+    parent: &mut ParentPart,
+) -> bool
+    requires { IsDownOf links.now down.old }
+    ensures link { IsDownOf links.now down.new }
+    ensures moves { ChildMovesOn place down.old down.new parent.old parent.new }
+{
+    match parent.prices.get_mut(place) {
         Some(price) => put_waiting_price(links, down, price),
         None => false,
-    };
-    heard || put
+    }
 }

@@ -3,6 +3,7 @@ use Rattle.std.proofs.Common.{◌∷◌, [], List, All, sym, ◌∙◌, subst, a
 use Rattle.std.proofs.lemmas.List.{length-append}
 use Rattle.pm_cells.specs.Ends.{TableId}
 use Rattle.pm_phase.specs.Ends.{AreOf}
+use Rattle.pm_tree.specs.Entries.{parent_of, place_of}
 use Rattle.pm_phase.proofs.Placing.{AreOf-more}
 use Rattle.pm_phase.proofs.opening.open_links.Goals as goal
 
@@ -23,6 +24,13 @@ loop-number-preserved c = (
     length-append c.loop-number.links.items (c.in_ok-up.ensures.one_more.0 ∷ []),
     c.loop-number.invariant.3,
   ),
+  c.in_ok-up.ensures.empty c.loop-number.invariant.4,
+  c.in_ok-hand_out.ensures.opened c.args.plan.now c.args.parts.items (record {
+    above = c.parent-above.ensures.parent ∙ ap (λ es. parent_of es c.loop-number.number) c.tree-in-loop-number.ensures.tree;
+    stands = c.place-place.ensures ∙ ap (λ es. place_of es c.loop-number.number) c.tree-in-loop-number-2.ensures.tree;
+    up = omega (arith, c.in_ok-up.ensures.up_at, c.loop-number.invariant.3);
+    down = omega (arith, c.in_ok-up.ensures.down_at, c.loop-number.invariant.3);
+  }) c.in_ok-up.ensures.fresh_up c.in_ok-up.ensures.fresh_down c.loop-number.invariant.5,
 )
 
 pub returns-clause-numbers : goal.returns-clause-numbers
