@@ -192,8 +192,8 @@ fn service<S: Source, K: Sink>(alloc: Global, source: &mut S, sink: &mut K) -> S
 /// command, and the usage line is appended. The definition `IsDue` has for each status that writes a text the cause of
 /// the status and the text.
 ///
-/// A cluster runs with a thread for each of its nodes; under `free` with one for each node and phase. The gate is told
-/// of each turn that a node takes.
+/// A cluster runs with a thread for each of its nodes; under `free` each phase runs on four threads at most, each with some of
+/// the nodes. The gate is told of each turn that a node takes.
 pub fn market<R: Threads + Wait + Sync, S: Source, K: Sink, G: Gate>(
     rt: &R,
     alloc: Global,
