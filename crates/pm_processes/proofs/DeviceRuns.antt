@@ -54,8 +54,9 @@ module _ (child' : ℕ) (basis : BasisValue) where
   place_at stage' kind' = record { child = child'; stage = stage'; kind = kind' }
 
   -- an offer that is accepted has as many steps as the basis, however the control said it
-  offer_long : (stage : Stage) (kind : Option Kind) (form : OfferForm) (demand : List ℤ) → basis_at stage ≡ Some basis → steps_at stage ≡ basis.steps →
-      IsOfferFormed (place_at stage kind) form demand → IsOfferAccepted (place_at stage kind) form demand → length demand ≡ basis.steps
+  offer_long : (stage : Stage) (kind : Option Kind) (form : OfferForm) (demand : List ℤ) → basis_at stage ≡ Some basis →
+      steps_at stage ≡ basis.steps → IsOfferFormed (place_at stage kind) form demand →
+      IsOfferAccepted (place_at stage kind) form demand → length demand ≡ basis.steps
   offer_long stage kind Array demand basis_is steps_is formed accepted = formed.0 ∙ steps_is
   offer_long stage kind (Points points) demand basis_is steps_is formed accepted =
       ap length formed.3 ∙ ap (λ (b : Option BasisValue). length (points_demand b points)) basis_is ∙ length-array_of points basis
@@ -66,8 +67,9 @@ module _ (child' : ℕ) (basis : BasisValue) where
       no_arrays : HaveSteps (steps_at stage) []
       no_arrays = All-from_recursion (λ (bid : List ℤ). length bid ≡ steps_at stage) [] tt
 
-  offered : (stage : Stage) (kind : Option Kind) (form : OfferForm) (demand : List ℤ) → basis_at stage ≡ Some basis → steps_at stage ≡ basis.steps →
-      IsOfferFormed (place_at stage kind) form demand → IsOfferAccepted (place_at stage kind) form demand → IsDemand basis.steps demand
+  offered : (stage : Stage) (kind : Option Kind) (form : OfferForm) (demand : List ℤ) → basis_at stage ≡ Some basis →
+      steps_at stage ≡ basis.steps → IsOfferFormed (place_at stage kind) form demand →
+      IsOfferAccepted (place_at stage kind) form demand → IsDemand basis.steps demand
   offered stage kind form demand basis_is steps_is formed accepted =
       is_demand basis.steps demand (offer_long stage kind form demand basis_is steps_is formed accepted) accepted.1
 
