@@ -220,7 +220,7 @@ module _ (lists : Lists) (p : Pricing) (numbering : Numbering) (market : IsTreeM
     relay_goes_on : (c : ℕ) (new : Scene) → RelayProcessGoesOn lists p numbering old c new → Lived old new
     relay_goes_on c new did =
         let e = did.exchange in
-        let n : ℕ = old.left c in
+        let n : ℕ = did.handled in
         let base : System = with_relay world.seen c e.after.relay in
         let values = handed_values lists numbering c (take n e.outs) base in
         let kept : StoredRelay = stored_last (world.relay_kept c) (take n e.outs) in
@@ -232,7 +232,7 @@ module _ (lists : Lists) (p : Pricing) (numbering : Numbering) (market : IsTreeM
             let_go = let_go_at_relay lists numbering world.seen c e.frame world.let_go;
           };
           relay_next = update old.relay_next c did.exchanges;
-          left = update old.left c (n - length e.outs);
+          left = update old.left c (old.left c - length e.outs);
         } in
         let agrees : Agrees c after = record {
           basis = refl;
@@ -308,7 +308,7 @@ module _ (lists : Lists) (p : Pricing) (numbering : Numbering) (market : IsTreeM
     root_goes_on : (new : Scene) → RootProcessGoesOn lists p numbering old new → Lived old new
     root_goes_on new did =
         let e = did.exchange in
-        let n : ℕ = old.left 0 in
+        let n : ℕ = did.handled in
         let base : System = with_root world.seen e.after in
         let values = handed_values lists numbering 0 (take n e.outs) base in
         let after : Scene = record old {
@@ -318,7 +318,7 @@ module _ (lists : Lists) (p : Pricing) (numbering : Numbering) (market : IsTreeM
             let_go = let_go_at_root lists numbering world.seen e.frame world.let_go;
           };
           root_next = did.exchanges;
-          left = update old.left 0 (n - length e.outs);
+          left = update old.left 0 (old.left 0 - length e.outs);
         } in
         let agrees : Agrees 0 after = record {
           basis = refl;
@@ -416,7 +416,7 @@ module _ (lists : Lists) (p : Pricing) (numbering : Numbering) (market : IsTreeM
     device_goes_on : (d : ℕ) (new : Scene) → DeviceProcessGoesOn lists p numbering old d new → Lived old new
     device_goes_on d new did =
         let e = did.exchange in
-        let n : ℕ = old.left d in
+        let n : ℕ = did.handled in
         let base : System = with_agent world.seen d e.after in
         let values = handed_values lists numbering d (take n e.outs) base in
         let kept : StoredAgent = stored_last (world.agent_kept d) (take n e.outs) in
@@ -426,7 +426,7 @@ module _ (lists : Lists) (p : Pricing) (numbering : Numbering) (market : IsTreeM
             agent_kept = update world.agent_kept d kept;
           };
           device_next = update old.device_next d did.exchanges;
-          left = update old.left d (n - length e.outs);
+          left = update old.left d (old.left d - length e.outs);
         } in
         let agrees : Agrees d after = record {
           basis = refl;

@@ -1,5 +1,5 @@
 -- A history of a market by the bytes of its processes, and what its carriers promise.
-use Rattle.std.specs.Prelude.{◌≡◌, ℕ, ◌+◌, ◌-◌, true, List, [], ◌∷◌, length, take, Some, ⊤}
+use Rattle.std.specs.Prelude.{◌≡◌, ℕ, ◌+◌, ◌-◌, ◌≤◌, true, List, [], ◌∷◌, length, take, Some, ⊤}
 use Rattle.pm_market.specs.Lists.{Lists, IsLeaf, IsConcentrator}
 use Rattle.pm_market.specs.State.{update, no_changes}
 use Rattle.pm_net.specs.Pricing.{Pricing}
@@ -46,8 +46,9 @@ pub record BeginsAsPromised {K : Type 0} (hello market : BasisValue) (resumed st
   pub stored_last : resumed ≡ stored
   pub same_hello : hello ≡ market
 
--- (4) What is handled of an answer is a first part of it. Its first frame is handled before the frame that comes next is read by anybody, so
--- that a Resume which stands first is stored before anything is handed out. (5, 8, 9) The frame that is read was handed out by the node that
+-- (4) What is handled of an answer is a first part of it, of what was written; the rest is lost. Its first frame is handled before the
+-- frame that comes next is read by anybody, so that a Resume which stands first is stored before anything is handed out.
+-- (5, 8, 9) The frame that is read was handed out by the node that
 -- it names, unchanged, to this one; limits are those of a message of the giver; and none is let go but a device.
 pub record GoesOnAsPromised (WasHandedOut : Type 0) (Handled : Type 0) : Type 0 where
   pub handed_out : WasHandedOut
@@ -87,13 +88,15 @@ pub record RelayProcessGoesOn (lists : Lists) (p : Pricing) (numbering : Numberi
   pub exchange : RelayExchange
   pub exchanges : List RelayExchange
   pub next : old.relay_next c ≡ exchange ∷ exchanges
+  pub handled : ℕ
+  pub was_written : handled ≤ old.left c
   pub promised : GoesOnAsPromised (RelayIsFree lists p numbering (setup_of numbering old.world c) old.world.seen c exchange.frame)
-      (HandledSome (old.left c) exchange.outs)
+      (HandledSome handled exchange.outs)
   pub new_is : new ≡ record old {
     world = record old.world {
-      seen = handed_out lists numbering (with_relay old.world.seen c exchange.after.relay) c (take (old.left c) exchange.outs);
+      seen = handed_out lists numbering (with_relay old.world.seen c exchange.after.relay) c (take handled exchange.outs);
       waiting = update old.world.waiting c exchange.after.waiting;
-      relay_kept = update old.world.relay_kept c (stored_last (old.world.relay_kept c) (take (old.left c) exchange.outs));
+      relay_kept = update old.world.relay_kept c (stored_last (old.world.relay_kept c) (take handled exchange.outs));
       let_go = let_go_at_relay lists numbering old.world.seen c exchange.frame old.world.let_go;
     };
     relay_next = update old.relay_next c exchanges;
@@ -116,11 +119,13 @@ pub record RootProcessGoesOn (lists : Lists) (p : Pricing) (numbering : Numberin
   pub exchange : RootExchange
   pub exchanges : List RootExchange
   pub next : old.root_next ≡ exchange ∷ exchanges
-  pub promised : GoesOnAsPromised (RootIsFree lists p numbering old.world.seen exchange.frame) (HandledSome (old.left 0) exchange.outs)
+  pub handled : ℕ
+  pub was_written : handled ≤ old.left 0
+  pub promised : GoesOnAsPromised (RootIsFree lists p numbering old.world.seen exchange.frame) (HandledSome handled exchange.outs)
   pub new_is : new ≡ record old {
     world = record old.world {
-      seen = handed_out lists numbering (with_root old.world.seen exchange.after) 0 (take (old.left 0) exchange.outs);
-      root_kept = stored_last old.world.root_kept (take (old.left 0) exchange.outs);
+      seen = handed_out lists numbering (with_root old.world.seen exchange.after) 0 (take handled exchange.outs);
+      root_kept = stored_last old.world.root_kept (take handled exchange.outs);
       let_go = let_go_at_root lists numbering old.world.seen exchange.frame old.world.let_go;
     };
     root_next = exchanges;
@@ -150,11 +155,13 @@ pub record DeviceProcessGoesOn (lists : Lists) (p : Pricing) (numbering : Number
   pub exchange : DeviceExchange
   pub exchanges : List DeviceExchange
   pub next : old.device_next d ≡ exchange ∷ exchanges
-  pub promised : GoesOnAsPromised (DeviceIsGiven old.world.basis old.world.seen d exchange.frame) (HandledSome (old.left d) exchange.outs)
+  pub handled : ℕ
+  pub was_written : handled ≤ old.left d
+  pub promised : GoesOnAsPromised (DeviceIsGiven old.world.basis old.world.seen d exchange.frame) (HandledSome handled exchange.outs)
   pub new_is : new ≡ record old {
     world = record old.world {
-      seen = handed_out lists numbering (with_agent old.world.seen d exchange.after) d (take (old.left d) exchange.outs);
-      agent_kept = update old.world.agent_kept d (stored_last (old.world.agent_kept d) (take (old.left d) exchange.outs));
+      seen = handed_out lists numbering (with_agent old.world.seen d exchange.after) d (take handled exchange.outs);
+      agent_kept = update old.world.agent_kept d (stored_last (old.world.agent_kept d) (take handled exchange.outs));
     };
     device_next = update old.device_next d exchanges;
     left = update old.left d (old.left d - length exchange.outs);
