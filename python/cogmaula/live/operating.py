@@ -32,6 +32,8 @@ class Words:
         self._lock = threading.Lock()
         # The newest message of each topic: its payload, its user properties, and whether the broker had kept it.
         self._newest: dict[str, tuple[bytes, dict[str, str], bool]] = {}
+        # The newest message of each topic that came since and is no clearing: one that is cleared at once is not missed.
+        self._told: dict[str, bytes] = {}
         self._words: list[str] = []
         self._ended = threading.Event()
         self._is_there = False
@@ -69,12 +71,19 @@ class Words:
         properties = user_properties_of(message)
         with self._lock:
             self._newest[message.topic] = bytes(message.payload), properties, bool(message.retain)
+            if message.payload and not message.retain:
+                self._told[message.topic] = bytes(message.payload)
         self._came = time.monotonic()
 
     def newest(self, topic: str) -> tuple[bytes, dict[str, str], bool]:
         """The newest message of a topic: its payload, its user properties, and whether the broker had kept it."""
         with self._lock:
             return self._newest.get(topic, (b"", {}, True))
+
+    def told(self, topic: str) -> bytes:
+        """The newest message of a topic that the broker had not kept and that is no clearing, b"" if none came."""
+        with self._lock:
+            return self._told.get(topic, b"")
 
     def publish(self, topic: str, payload: bytes, retain: bool) -> None:
         """Publishes a message."""
@@ -114,10 +123,10 @@ def drop(broker: BrokerSettings, node: str, child: int, seconds: float = 10.0) -
             raise LiveError(f"child {child} of {node} is a relay, which counts for all below it: let its devices go at it")
         words.publish(topics.at(node, "drop", child), b'{"drop": true}', False)
         words.wait(
-            lambda: words.newest(lapsed)[0] != b"" and not words.newest(lapsed)[2],
+            lambda: words.told(lapsed) != b"",
             f"{node} has not let child {child} go in {seconds:g} s: its log says why, or this login may not write {node}/drop",
         )
-        told = LapseMessage.of(words.newest(lapsed)[0])
+        told = LapseMessage.of(words.told(lapsed))
         return f"child {child} of {node} is let go as of number {told.number}: {told.why}"
 
 

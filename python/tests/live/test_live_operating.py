@@ -1,0 +1,22 @@
+"""What an operator's word brings about, over a real broker and a pretended parent."""
+
+from __future__ import annotations
+
+from brokers import SECONDS, Mosquitto, Onlooker, require_broker
+
+from cogmaula.live.messages import LapseMessage, StateMessage
+from cogmaula.live.operating import drop
+from cogmaula.live.sessions import now_text
+from cogmaula.live.settings import BrokerSettings
+
+
+def test_a_device_that_is_back_at_once_was_let_go(tmp_path):
+    """The parent tells the lapse and clears it in one breath, since the device lives and bids anew."""
+    require_broker()
+    lapse = LapseMessage(3, "by the word of an operator", now_text()).to_bytes()
+    state = StateMessage("up", "run", now_text(), "session", now_text(), "", "relay", "auctioneer", 1, None, None, "", "", starts=1)
+    with Mosquitto(tmp_path) as broker, Onlooker(broker.port, "market/street/drop/1") as street:
+        street.publish("market/street/state", state.to_bytes())
+        street.client.on_message = lambda it, *_: [it.publish("market/street/lapsed/1", payload, 1, True) for payload in (lapse, b"")]
+        told = drop(BrokerSettings(port=broker.port), "street", 1, SECONDS)
+    assert told == "child 1 of street is let go as of number 3: by the word of an operator"
