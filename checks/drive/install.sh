@@ -112,16 +112,15 @@ share/market/market.stamp
 share/market/run.sh
 share/market/units/market-bridge.service
 share/market/units/market-hub.service
-share/market/units/market-node@.service
 share/market/units/market-serve.socket
 share/market/units/market-serve@.service
 share/market/words.sh
 share/zsh/site-functions/_market
 FILES
-    for file in examples/*.json examples/*.txt examples/serve/*.py examples/live/[!m]* examples/live/mosquitto.* examples/hub/[!m]* examples/cookbook/* examples/devices/* examples/neighbourhood/* pictures/*.svg pictures/*.png; do
+    for file in examples/*.json examples/*.txt examples/serve/*.py examples/live/* examples/hub/[!m]* examples/cookbook/* examples/devices/* examples/neighbourhood/* pictures/*.svg pictures/*.png; do
         echo "share/doc/market/$file"
     done
-    for file in python/cogmaula/*.py python/cogmaula/*/*.py python/cogmaula/py.typed python/cogmaula/*.json python/cogmaula/*/*.html; do
+    for file in python/cogmaula/*.py python/cogmaula/*/*.py python/cogmaula/py.typed python/cogmaula/*.json python/cogmaula/*/*.html python/cogmaula/deploy/node.service python/cogmaula/deploy/Dockerfile; do
         echo "share/market/$file"
     done
 }

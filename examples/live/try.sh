@@ -1,6 +1,6 @@
 #!/usr/bin/env bash
-# Runs the example on this machine: a broker with TLS, logins and rights, an auctioneer, a relay and two devices. Prints the
-# setpoints, and what the nodes say.
+# Runs the market of TREE.toml on this machine: a broker with TLS, logins and rights, an auctioneer, a relay and two devices. Prints
+# the setpoints, and what the nodes say.
 #
 #     bash try.sh COGMAULA ..
 #
@@ -20,12 +20,6 @@ finish() {
 }
 trap finish EXIT
 
-# A file of the example for this machine alone.
-here_alone() {
-    sed "s#/etc/market#$work#; s#/var/lib/m[a-z]*#$work/state#; s#\"broker.example\"#\"127.0.0.1\"\nport = $port#
-        s#^listener .*#listener $port 127.0.0.1#" "$here/$1" >"$work/$1"
-}
-
 # Waits until a file has so many lines.
 wait_for_lines() {
     local one
@@ -42,29 +36,27 @@ wait_for_lines() {
 }
 
 port="$(python3 -c 'import socket; one = socket.socket(); one.bind(("127.0.0.1", 0)); print(one.getsockname()[1])')"
-PORT="$port" bash "$here/keys.sh" "$work" 127.0.0.1 auctioneer street house store housecontrol storecontrol operator gridoperator page
-for file in mosquitto.conf mosquitto.acl auctioneer.toml street.toml house.toml store.toml; do here_alone "$file"; done
-mkdir -p "$work/state"
-[ "$(id -u)" != 0 ] || echo "user root" >>"$work/mosquitto.conf"
-mosquitto -c "$work/mosquitto.conf" >"$work/broker.said" 2>&1 &
+market="$work/market"
+"$@" market init "$here/TREE.toml" --out "$market" --here "$port" >/dev/null
+mosquitto -c "$market/broker/mosquitto.conf" >"$work/broker.said" 2>&1 &
 started+=($!)
 
-# Starts a node, whose input comes from a pipe that stays open: SORT NAME.
+# The house's input comes from a pipe that stays open.
 mkfifo "$work/house.offers"
 exec 3<>"$work/house.offers"
-"$@" node auctioneer --config "$work/auctioneer.toml" 2>"$work/auctioneer.said" &
+"$@" node auctioneer --config "$market/auctioneer/auctioneer.toml" 2>"$work/auctioneer.said" &
 started+=($!)
-"$@" node relay --config "$work/street.toml" 2>"$work/street.said" &
+"$@" node relay --config "$market/street/street.toml" 2>"$work/street.said" &
 started+=($!)
-"$@" node device --config "$work/house.toml" <&3 >"$work/house.out" 2>"$work/house.said" &
+"$@" node device --config "$market/house/house.toml" <&3 >"$work/house.out" 2>"$work/house.said" &
 started+=($!)
-"$@" node device --config "$work/store.toml" </dev/null >"$work/store.out" 2>"$work/store.said" &
+"$@" node device --config "$market/store/store.toml" </dev/null >"$work/store.out" 2>"$work/store.said" &
 started+=($!)
 
 # The house offers at its standard input. The control of the store offers by a topic.
 echo '{"power": [100, 100, 100, 100, 100, 100, 100, 100, 100, 100]}' >&3
 for _ in $(seq 100); do
-    XDG_CONFIG_HOME="$work/storecontrol.conf" mosquitto_pub -q 1 -r -t market/store/offer -m '{"power": [0, 0, 0, 0, -150, -150, -150, -150, -150, -150]}' && break
+    XDG_CONFIG_HOME="$market/store.control" mosquitto_pub -r -t market/store/offer -m '{"power": [0, 0, 0, 0, -150, -150, -150, -150, -150, -150]}' && break
     sleep 0.2
 done
 wait_for_lines "$work/house.out" 1

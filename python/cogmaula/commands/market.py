@@ -1,28 +1,48 @@
-"""`cogmaula market drop|limits`: the words of an operator to a market at an MQTT broker, each with its answer."""
+"""`cogmaula market WORD`: makes the files of a market at an MQTT broker, and says an operator's words to it."""
 
 from __future__ import annotations
 
 import argparse
 import sys
+from dataclasses import replace
+from pathlib import Path
 from typing import Any, cast
 
 from .. import cli
+from ..deploy import Member, add_device, init_market, read_tree
 from ..live.errors import BadSettings, LiveError
 from ..live.given import LimitsMessage
 from ..live.operating import drop, give_limits
 from ..live.settings import BrokerSettings, read_toml, value_of
 
 CALLS_PROGRAM = False
-HELP = "lets a device of a market go, or gives limits to a relay"
+HELP = "makes the files of a market at a broker, adds a device, lets a device go, or gives limits to a relay"
 MORE = (
-    "The broker is that of --config, whose table [broker] is as a node's, with a login that may do this; docs/LIVE.md names the rights."
-    " The exit status is 0 once the node has said that it is done, 1 if it does not or refuses, and 2 for settings that are wrong."
+    "init makes all files from one that names the tree, machines, limits and logins; add adds a device to them. They need openssl and"
+    " mosquitto. drop and limits go to the broker of --config, whose table [broker] is as a node's, with a login that may do this;"
+    " docs/LIVE.md names the rights. The exit status is 0 once it is done, 1 if it fails or a node refuses, and 2 for settings that are"
+    " wrong."
 )
 
 
 def add_arguments(parser: argparse.ArgumentParser) -> None:
     """Adds the arguments of market."""
     below = parser.add_subparsers(dest="word", metavar="WORD", required=True)
+    making = below.add_parser("init", help="makes keys, passwords, rights, settings and units of a new market")
+    making.add_argument("tree", metavar="TREE", help="the TOML file that names the market")
+    making.add_argument("--out", metavar="FOLDER", required=True, help="the new folder of all files")
+    making.add_argument("--here", metavar="PORT", type=int, help="for this machine alone, by a broker at 127.0.0.1:PORT")
+    adding = below.add_parser("add", help="adds a device to the files of a market")
+    adding.add_argument("name", metavar="NAME", help="the device")
+    adding.add_argument("--out", metavar="FOLDER", required=True, help="the folder that init made")
+    adding.add_argument("--parent", metavar="NODE", required=True, help="the node above")
+    adding.add_argument("--child", metavar="CHILD", type=int, help="its number there; default the one behind the greatest")
+    adding.add_argument("--host", metavar="HOST", help="the machine that it runs on")
+    adding.add_argument("--least", metavar="WATTS", type=int, help="the least power that it may bid, 0 or below")
+    adding.add_argument("--greatest", metavar="WATTS", type=int, help="the greatest power that it may bid, 0 or above")
+    adding.add_argument("--fallback", metavar="WATTS", type=int, help="what its control is told while the market is silent; default 0")
+    adding.add_argument("--offer-validity", metavar="SECONDS", type=float, help="it leaves if its control is silent for so long; default never")
+    adding.add_argument("--control", action="store_true", help="its control logs in at the broker by itself")
     dropping = below.add_parser("drop", help="lets a device go at once: its bid does not count any more. It must take nothing")
     dropping.add_argument("node", metavar="NODE", help="the parent, a relay or the auctioneer")
     dropping.add_argument("child", metavar="CHILD", type=int, help="the device's number there")
@@ -42,19 +62,39 @@ def _broker_of(path: str) -> BrokerSettings:
     return cast(BrokerSettings, value_of(BrokerSettings, tables.get("broker", {}), "broker"))
 
 
+def _init(arguments: argparse.Namespace) -> str:
+    tree = read_tree(arguments.tree)
+    if arguments.here is not None:
+        broker = replace(tree.broker, host="127.0.0.1", port=arguments.here)
+        tree = replace(tree, market=replace(tree.market, here=True), broker=broker)
+    return "\n".join(init_market(tree, Path(arguments.out)))
+
+
+def _add(arguments: argparse.Namespace) -> str:
+    more = {it: value for it in ("fallback", "offer_validity") if (value := getattr(arguments, it)) is not None}
+    told = {it: getattr(arguments, it) for it in ("name", "parent", "child", "least", "greatest", "host", "control")}
+    return "\n".join(add_device(Path(arguments.out), Member("device", more=more, **told)))
+
+
+def _limits(arguments: argparse.Namespace) -> str:
+    limits = LimitsMessage(arguments.floor, arguments.ceiling, arguments.until, arguments.reference)
+    return give_limits(_broker_of(arguments.config), arguments.node, limits, arguments.seconds)
+
+
+def _drop(arguments: argparse.Namespace) -> str:
+    return drop(_broker_of(arguments.config), arguments.node, arguments.child, arguments.seconds)
+
+
+_WORDS = {"init": _init, "add": _add, "drop": _drop, "limits": _limits}
+
+
 def main(arguments: argparse.Namespace) -> int:
-    """Says the word, and waits for its answer."""
+    """Does what the word says."""
     try:
-        broker = _broker_of(arguments.config)
+        print(_WORDS[arguments.word](arguments))
     except BadSettings as error:
         print(f"cogmaula: {error}", file=sys.stderr)
         return 2
-    try:
-        if arguments.word == "drop":
-            print(drop(broker, arguments.node, arguments.child, arguments.seconds))
-        else:
-            limits = LimitsMessage(arguments.floor, arguments.ceiling, arguments.until, arguments.reference)
-            print(give_limits(broker, arguments.node, limits, arguments.seconds))
     except LiveError as error:
         print(f"cogmaula: {error}", file=sys.stderr)
         return cli.FAILED

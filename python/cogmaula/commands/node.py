@@ -58,6 +58,7 @@ _OPTIONS: list[tuple[str, str, type, str, str]] = [
     ("broker", "key", str, "FILE", "its key"),
     ("page", "listen", str, "ADDRESS:PORT", "serves a page of what the node sees; default 127.0.0.1:8080, if the file has a page"),
     ("page", "origin", str, "URL", "the address that browsers have for the page, if a proxy stands before it"),
+    ("page", "password_file", str, "FILE", "its first line is the password of the login that reads for the page"),
     ("broker", "keepalive", int, "SECONDS", "a connection that is silent for 1.5 times as long is lost; default 10"),
 ]
 _FLAGS = [
@@ -70,8 +71,10 @@ _FLAGS = [
 ]
 
 
-def _option(member: str) -> str:
-    return f"--{member.replace('_', '-')}"
+def _option(table: str, member: str) -> str:
+    """The word of an option. Of two members of one name, that of the page has its table before it."""
+    is_second = (table, member) == ("page", "password_file")
+    return f"--{'page-' if is_second else ''}{member.replace('_', '-')}"
 
 
 def add_arguments(parser: argparse.ArgumentParser) -> None:
@@ -79,9 +82,9 @@ def add_arguments(parser: argparse.ArgumentParser) -> None:
     parser.add_argument("sort", choices=SORTS, help="what the node is")
     parser.add_argument("--config", metavar="FILE", help="a TOML file with the tables [node], [basis], [broker], [page] and [children.NAME]")
     for table, member, kind, word, what in _OPTIONS:
-        parser.add_argument(_option(member), dest=f"{table}.{member}", type=kind, metavar=word, help=what)
+        parser.add_argument(_option(table, member), dest=f"{table}.{member}", type=kind, metavar=word, help=what)
     for table, member, what in _FLAGS:
-        parser.add_argument(_option(member), dest=f"{table}.{member}", action="store_true", default=None, help=what)
+        parser.add_argument(_option(table, member), dest=f"{table}.{member}", action="store_true", default=None, help=what)
 
 
 def _tables_of(arguments: argparse.Namespace) -> dict[str, dict[str, Any]]:

@@ -22,6 +22,7 @@ from .connection import (
     words_of_end,
     words_of_refusal,
 )
+from .rights import SHOWN
 from .settings import BrokerSettings
 from .topics import Topics
 
@@ -71,8 +72,7 @@ class Reader:
     @property
     def topics(self) -> list[str]:
         """The topics that are read, one after the other: a broker keeps few messages for a client that has not taken them."""
-        prefix = self.settings.prefix
-        return [f"{prefix}/{it}" for it in ("basis", "+/state", "+/bid/+", "+/price/+", "+/setpoint", "+/lapsed/+")]
+        return [f"{self.settings.prefix}/{it}" for it in SHOWN]
 
     def _run(self) -> None:
         keep_connected(self._connection, self._closing, self._say, self.settings.address, self._pauses)

@@ -1,4 +1,4 @@
-"""The broker of the example by its own files, but without TLS, and a market with the example's logins: each password is `word`."""
+"""The broker of the example by the files that are made for it, but without TLS, and a market with the example's logins: each password is `word`."""
 
 from __future__ import annotations
 
@@ -11,31 +11,31 @@ from pathlib import Path
 from brokers import SECONDS, TOP, Mosquitto, Onlooker, wait_until
 from markets import Market
 
-from cogmaula.live.settings import children_of, read_toml
+from cogmaula.deploy import Member as TreeMember
+from cogmaula.deploy import read_tree
+from cogmaula.deploy.broker_files import configuration_text, rights_text
+from cogmaula.deploy.files import Places
+from cogmaula.live.settings import children_of
 
-EXAMPLE = TOP / "examples" / "live"
-USERS = ("auctioneer", "street", "house", "store", "mill", "housecontrol", "storecontrol", "gridoperator", "operator", "page")
-# The words of the example's file that are of TLS and of the machine.
-OF_THE_MACHINE = ("listener", "cafile", "certfile", "keyfile", "persistence_location", "#")
+# The words of the broker's file that are of TLS and of the machine.
+OF_THE_MACHINE = ("listener", "cafile", "certfile", "keyfile", "persistence_location", "user root", "#")
 
 
-def rights_of_mill():
-    """The rights of a device more, which is child 2 of the auctioneer: those of the store, at another place."""
-    text = (EXAMPLE / "mosquitto.acl").read_text()
-    of_store = text[text.index("user store\n") : text.index("# The controls of the devices")]
-    of_auctioneer = text[: text.index("user street\n")].replace("/1\n", "/2\n").replace("street/state", "mill/state")
-    return of_store.replace("store", "mill").replace("street", "auctioneer") + of_auctioneer
+def example_tree():
+    """The example's tree, with a device more, which is child 2 of the auctioneer."""
+    tree = read_tree(TOP / "examples" / "live" / "TREE.toml")
+    return tree.with_device(TreeMember("device", "mill", "auctioneer"))
 
 
 def example_broker(folder):
-    """A broker by the example's files, in a folder of the test."""
-    folder = Path(folder)
-    (folder / "passwords").write_text("".join(f"{it}:word\n" for it in USERS))
+    """A broker by the files that are made of the example's tree, in a folder of the test."""
+    folder, tree = Path(folder), example_tree()
+    (folder / "passwords").write_text("".join(f"{it}:word\n" for it in tree.rights()))
     (folder / "passwords").chmod(0o600)
     subprocess.run(["mosquitto_passwd", "-U", str(folder / "passwords")], check=True, capture_output=True)
-    (folder / "mosquitto.acl").write_text((EXAMPLE / "mosquitto.acl").read_text() + "\n" + rights_of_mill())
+    (folder / "mosquitto.acl").write_text(rights_text(tree))
     (folder / "word").write_text("word\n")
-    lines = (EXAMPLE / "mosquitto.conf").read_text().splitlines()
+    lines = configuration_text(tree, Places(folder, False)).splitlines()
     kept = [it.replace("/etc/market", str(folder)) for it in lines if it and not it.startswith(OF_THE_MACHINE)]
     return Mosquitto(folder / "broker", *kept, f"persistence_location {folder}/")
 
@@ -46,7 +46,8 @@ class ExampleMarket(Market):
     def settings(self, name, **more):
         self.more = {"user": name, "password_file": str(self.folder / "word")}
         if name == "street":
-            children = children_of(read_toml(EXAMPLE / "street.toml")["children"])
+            tree = example_tree()
+            children = children_of({it.name: {"child": it.child, "sort": it.sort, "least": it.least, "greatest": it.greatest} for it in tree.children(name)})
             more = {"children": tuple(replace(it, pause=0.1) for it in children), **more}
         return super().settings(name, **more)
 

@@ -53,7 +53,7 @@ def of_session(market):
 
 def test_a_login_does_not_take_the_connection_of_another(broker, market):
     begun(market)
-    attack = Attack(lambda: Member(broker.port, "storecontrol", name="cogmaula.market.auctioneer"), 0.25)
+    attack = Attack(lambda: Member(broker.port, "store.control", name="cogmaula.market.auctioneer"), 0.25)
     for step in (5, 6, 7):
         market.offers(store=falls_at(step, 0, -150))
         market.settles_at(step, house=100, store=-150)
@@ -155,7 +155,7 @@ class Hostile:
                 for topic in ("street/price/1", "street/price/2", "street/heartbeat", "street/bid/2", "basis", "auctioneer/bid/1", "store/offer"):
                     self._puts(topic, self.chance.choice([b"", *bids]))
             case 4:
-                Member(self.port, "storecontrol", name=self.chance.choice(["auctioneer", "cogmaula.market.street", "store"]))
+                Member(self.port, "store.control", name=self.chance.choice(["auctioneer", "cogmaula.market.street", "store"]))
             case 5:
                 for it in range(200):
                     self._puts(f"house/{it}/x", b"x" * 10_000)

@@ -1,29 +1,36 @@
-"""The unit of a node beside the settings that the pages and examples show: it lets the node write and read what they name."""
+"""The unit that is made for each node, beside the settings that are made for it and those that a page shows."""
 
 from __future__ import annotations
 
+import tomllib
+from dataclasses import replace
+from pathlib import Path
+
 import pytest
-from units import Unit, block_of, example
+from made import TREE
+from units import Unit, block_of
+
+from cogmaula.deploy import read_tree
+from cogmaula.deploy.files import Places
+from cogmaula.deploy.node_files import settings_text, unit_of, unit_text
+
+TOLD = read_tree(TREE)
+WITH_PAGE = replace(TOLD, members=tuple(replace(it, page={"listen": "127.0.0.1:8080", "whole": True}) for it in TOLD.members))
 
 
-def unit_of(sort, name):
-    return Unit("examples/live/market-node@.service", f"market-{sort}@{name}.service", name)
+def unit_and_settings(tree, name):
+    member = tree.member(name)
+    unit = Unit(unit_text(tree, member), f"{unit_of(member)}.service")
+    return unit, tomllib.loads(settings_text(tree, member, Places(Path("out"), False)))
 
 
-SETTINGS = {
-    "a recording": ("relay", "street", lambda: block_of("JUDGE.md", "[node]")),
-    "a page": ("auctioneer", "auctioneer", lambda: block_of("LIVE.md", "[page]")),
-    **{name: (sort, name, lambda name=name: example(f"live/{name}.toml")) for name, sort in (("auctioneer", "auctioneer"), ("street", "relay"), ("house", "device"), ("store", "device"))},
-}
+@pytest.mark.parametrize("tree", [TOLD, WITH_PAGE], ids=["without a page", "with a page"])
+@pytest.mark.parametrize("name", [it.name for it in TOLD.members])
+def test_a_unit_can_write_and_read_what_its_node_needs(tree, name):
+    unit, settings = unit_and_settings(tree, name)
+    unit.require(settings)
+    assert ("page" in settings) == any(it.startswith("page:") for it in unit.all("LoadCredential"))
 
 
-@pytest.mark.parametrize(("sort", "name", "told"), SETTINGS.values(), ids=SETTINGS)
-def test_a_unit_can_write_and_read_what_a_page_shows(sort, name, told):
-    unit_of(sort, name).require(told())
-
-
-def test_a_node_without_a_page_needs_no_password_for_it():
-    """Else the unit of each such node would not start. An empty one is none to systemd 252."""
-    unit = unit_of("relay", "street")
-    assert "page:/etc/market/street.page.password" in unit.all("LoadCredential")
-    assert unit.all("SetCredential") == ["page:none"]
+def test_a_unit_can_write_a_recording():
+    unit_and_settings(TOLD, "street")[0].require(block_of("JUDGE.md", "[node]"))

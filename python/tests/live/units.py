@@ -9,10 +9,10 @@ from brokers import TOP
 
 
 class Unit:
-    """What a service unit hands to its program, and lets it write. `%i` is the instance."""
+    """What a service unit hands to its program, and lets it write, by its text and its name."""
 
-    def __init__(self, path, unit, instance=""):
-        self.lines = [it.split("=", 1) for it in (TOP / path).read_text().replace("%i", instance).splitlines() if re.match("[A-Z]", it)]
+    def __init__(self, text, unit):
+        self.lines = [it.split("=", 1) for it in text.splitlines() if re.match("[A-Z]", it)]
         self.state = [f"/var/lib/{it}" for it in self.all("StateDirectory")]
         handed = [it.partition(":") for it in self.all("LoadCredential")]
         self.credentials = {f"/run/credentials/{unit}/{name}" for name, _, _ in handed}
@@ -32,7 +32,7 @@ class Unit:
                     assert any(f"{value}/".startswith(f"{it}/") for it in self.state), f"{member} = {value} is not below {self.state}"
                     seen += 1
                 elif member in ("password_file", "key"):
-                    is_given = value in self.credentials or (table != "page" and value in self.options)
+                    is_given = value in self.credentials or value in self.options
                     assert is_given, f"{table}.{member} = {value} is none of {self.credentials}"
                     seen += 1
         assert seen, f"nothing of {tables} is written or secret"

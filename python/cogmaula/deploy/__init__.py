@@ -1,0 +1,12 @@
+"""Makes all files of a market over a broker from one that names its tree, machines and limits. docs/LIVE.md says how.
+
+    from cogmaula.deploy import init_market, read_tree
+
+    init_market(read_tree("TREE.toml"), Path("market"))
+"""
+
+from ..live.errors import BadSettings
+from .making import add_device, init_market
+from .tree import Login, Member, Tree, read_tree
+
+__all__ = ["BadSettings", "Login", "Member", "Tree", "add_device", "init_market", "read_tree"]

@@ -1,0 +1,45 @@
+"""The same market in containers of one machine: a file of compose, beside the images' own."""
+
+from __future__ import annotations
+
+import json
+
+from .tree import Tree
+
+FIRST = """\
+# Made by `cogmaula market`. The market in containers of one machine. Each has what /etc/market has on a machine of its own, read-only.
+x-contained: &contained
+  restart: unless-stopped
+  read_only: true
+  cap_drop: [ALL]
+  security_opt: ["no-new-privileges:true"]
+
+x-node: &node
+  <<: *contained
+  image: market-node
+  build: {context: ., target: node}
+  stdin_open: true
+  depends_on: [broker]
+
+services:
+  broker:
+    <<: *contained
+    image: market-broker
+    build: {context: ., target: broker}
+    volumes: ["./broker:/etc/market:ro", "broker:/var/lib/mosquitto"]
+    networks: {default: {aliases: [@host@]}}
+"""
+NODE = """
+  @name@:
+    <<: *node
+    command: [@sort@, --config, /etc/market/@name@.toml]
+    volumes: ["./@name@:/etc/market:ro", "@name@:/var/lib/market"]
+"""
+
+
+def compose_text(tree: Tree) -> str:
+    """The file of compose. The broker's container has the name by which nodes know the broker."""
+    text = FIRST.replace("@host@", json.dumps(tree.broker.host))
+    for it in tree.members:
+        text += NODE.replace("@name@", it.name).replace("@sort@", it.sort)
+    return text + "\nvolumes:\n  broker:\n" + "".join(f"  {it.name}:\n" for it in tree.members)

@@ -1,0 +1,58 @@
+"""The scripts that put a folder's files on its machine. Each may run again: after a change it does what is new."""
+
+from __future__ import annotations
+
+from collections.abc import Iterable
+
+from .files import ETC
+from .node_files import unit_of
+from .tree import Member
+
+# The clients of mosquitto, each of which reads a file of its name.
+CLIENTS = ("mosquitto_pub", "mosquitto_sub")
+
+_FIRST = """\
+#!/bin/sh
+# Made by `cogmaula market`. {what} To be run as root; it may run again.
+set -e
+cd "$(dirname "$0")"
+install -d -m 755 {etc}
+"""
+
+BROKER = _FIRST.format(what="Puts the broker's files on this machine, for Debian's mosquitto.", etc=ETC) + f"""\
+install -m 644 ca.crt broker.crt {ETC}
+install -m 600 -o mosquitto broker.key passwords mosquitto.acl {ETC}
+# A mosquitto that finds a place to keep its data twice does not start.
+sed -i '/^persistence_location/d' /etc/mosquitto/mosquitto.conf
+install -d -m 755 /etc/systemd/system/mosquitto.service.d
+if cmp -s mosquitto.conf /etc/mosquitto/conf.d/market.conf && cmp -s mosquitto.service.conf /etc/systemd/system/mosquitto.service.d/market.conf
+then
+    # Logins and rights alone are new: no connection ends.
+    systemctl reload-or-restart mosquitto
+else
+    install -m 644 mosquitto.conf /etc/mosquitto/conf.d/market.conf
+    install -m 644 mosquitto.service.conf /etc/systemd/system/mosquitto.service.d/market.conf
+    systemctl daemon-reload
+    systemctl enable mosquitto
+    systemctl restart mosquitto
+fi
+"""
+
+
+def node_text(member: Member, logins: Iterable[str]) -> str:
+    """The script of a node, with these logins."""
+    unit = unit_of(member)
+    return _FIRST.format(what=f"Puts the files of the {member.sort} {member.name} on this machine, and starts it.", etc=ETC) + (
+        f"install -m 644 ca.crt {member.name}.toml {ETC}\n"
+        f"install -m 600 {' '.join(f'{it}.password' for it in logins)} {ETC}\n"
+        f"install -m 644 {unit}.service /etc/systemd/system\n"
+        f"systemctl daemon-reload\nsystemctl enable {unit}\nsystemctl restart {unit}\n"
+    )
+
+
+def login_text(login: str) -> str:
+    """The script of a login that is no node's."""
+    return _FIRST.format(what=f"Puts the files of the login {login} on this machine.", etc=ETC) + (
+        f"install -m 644 ca.crt {login}.toml {ETC}\ninstall -m 600 {login}.password {ETC}\n"
+        f"install -d -m 700 {ETC}/{login}\ninstall -m 600 {' '.join(CLIENTS)} {ETC}/{login}\n"
+    )

@@ -1,0 +1,104 @@
+"""Makes a market's files: all of a new market, and those that one more device needs. What is there already of keys and passwords stays.
+
+Each node, each further login and the broker has a folder of its own, with what `install.sh` there puts on its machine.
+"""
+
+from __future__ import annotations
+
+from collections.abc import Mapping
+from pathlib import Path
+
+from ..live.errors import BadSettings
+from . import broker_files, installing, node_files
+from .containers import compose_text
+from .files import OPEN, RUN, SECRET, Places, text_of, write_file
+from .keys import make_authority, make_certificate, make_passwords
+from .toml_text import toml_text
+from .tree import Member, Tree, read_tree
+
+# The file of the market itself, with the number of each node, and the folder of its CA.
+TREE, AUTHORITY = "tree.toml", "authority"
+
+
+def init_market(tree: Tree, out: Path) -> list[str]:
+    """Makes all files of a market in a new folder. Gives lines about what to do. Raises BadSettings, LiveError and OSError."""
+    if out.exists() and any(out.iterdir()):
+        raise BadSettings(f"{out} has files: give a new folder, or add a device to that market by `cogmaula market add`")
+    _make(tree, out)
+    first = [f"mosquitto -c {out / 'broker' / 'mosquitto.conf'}"] if tree.market.here else []
+    return [*first, *_lines(tree, out, list(_folders(tree)))]
+
+
+def add_device(out: Path, device: Member) -> list[str]:
+    """Adds a device to a market. Gives lines about what to do. Raises BadSettings, LiveError and OSError."""
+    before = read_tree(out / TREE)
+    tree = before.with_device(device)
+    _make(tree, out)
+    changed = ["broker", device.parent or "", *(it for it in _folders(tree) if it not in _folders(before))]
+    first = ["Let the broker read its files again, by SIGHUP."] if tree.market.here else []
+    return [*first, *_lines(tree, out, changed)]
+
+
+def _folders(tree: Tree) -> dict[str, str]:
+    """Each folder, and the machine that it is for."""
+    machines = {it.name: it.host or f"the machine of {it.name}" for it in tree.members}
+    others = {it: f"the machine of {it}" for it in node_files.folders_of(tree) if it not in machines}
+    return {"broker": tree.broker.host, **machines, **others}
+
+
+def _make(tree: Tree, out: Path) -> None:
+    """Makes what is lacking, and all that follows from the tree anew."""
+    places = Places(out, tree.market.here)
+    texts = {it.name: node_files.settings_text(tree, it, places) for it in tree.members}
+    out.mkdir(mode=0o700, parents=True, exist_ok=True)
+    authority, broker = out / AUTHORITY, out / "broker"
+    broker.mkdir(mode=0o700, exist_ok=True)
+    make_authority(authority)
+    make_certificate(authority, broker, tree.broker.host)
+    folders = node_files.folders_of(tree)
+    make_passwords(
+        [(login, out / folder / f"{login}.password") for folder, logins in folders.items() for login in logins], broker / "passwords"
+    )
+    ca = (authority / "ca.crt").read_text()
+    for folder in ("broker", *folders):
+        write_file(out / folder / "ca.crt", ca, OPEN)
+    _make_broker(tree, places)
+    for member in tree.members:
+        own = out / member.name
+        write_file(own / f"{member.name}.toml", texts[member.name], OPEN)
+        write_file(own / f"{node_files.unit_of(member)}.service", node_files.unit_text(tree, member), OPEN)
+        write_file(own / "install.sh", installing.node_text(member, folders[member.name]), RUN)
+        if tree.market.here:
+            Path(places.state(member.name)).mkdir(mode=0o700, parents=True, exist_ok=True)
+    for login in [it for it in folders if it not in texts]:
+        write_file(out / login / f"{login}.toml", node_files.login_text(tree, login, places), OPEN)
+        options = node_files.client_text(tree, login, (out / login / f"{login}.password").read_text().strip(), places)
+        for client in installing.CLIENTS:
+            write_file(out / login / client, options, SECRET)
+        write_file(out / login / "install.sh", installing.login_text(login), RUN)
+    write_file(out / "Dockerfile", text_of("Dockerfile"), OPEN)
+    write_file(out / "compose.yaml", compose_text(tree), OPEN)
+    # The file of the market comes last: until then the market is the one before.
+    write_file(out / TREE, "# Made by `cogmaula market`. The market, with the number of each node.\n" + toml_text(tree.to_tables()), OPEN)
+
+
+def _make_broker(tree: Tree, places: Places) -> None:
+    folder = places.out / "broker"
+    write_file(folder / "mosquitto.acl", broker_files.rights_text(tree), SECRET)
+    write_file(folder / "mosquitto.conf", broker_files.configuration_text(tree, places), OPEN)
+    write_file(folder / "mosquitto.service.conf", broker_files.unit_text(tree), OPEN)
+    write_file(folder / "install.sh", installing.BROKER, RUN)
+    if tree.market.here:
+        Path(places.state("broker")).mkdir(mode=0o700, parents=True, exist_ok=True)
+
+
+def _lines(tree: Tree, out: Path, changed: list[str]) -> list[str]:
+    """What to do with the folders that changed."""
+    if tree.market.here:
+        return [f"cogmaula node {it.sort} --config {out / it.name / it.name}.toml" for it in tree.members if it.name in changed]
+    machines: Mapping[str, str] = _folders(tree)
+    by_machine: dict[str, list[str]] = {}
+    for folder in changed:
+        by_machine.setdefault(machines[folder], []).append(folder)
+    lines = [f"{machine}: {' '.join(them)}" for machine, them in by_machine.items()]
+    return [*lines, "Copy each folder to its machine, and run `sh FOLDER/install.sh` there as root.", f"Keep {out / AUTHORITY} off the market."]

@@ -1,0 +1,103 @@
+"""The files of a market's nodes and of its further logins: settings, and units of systemd."""
+
+from __future__ import annotations
+
+from typing import Any
+
+from ..live.errors import BadSettings
+from ..live.settings import Settings, settings_of
+from .files import ETC, Places, text_of
+from .toml_text import toml_text
+from .tree import CONTROL, PAGE, Member, Tree
+
+MADE = "# Made by `cogmaula market`."
+# The seconds between two bids of a device that count, unless its parent has `child_pause`: a device that floods does not hold up others.
+DEVICE_PAUSE = 1.0
+
+
+def _broker_table(tree: Tree, login: str, etc: str) -> dict[str, Any]:
+    return {
+        "host": tree.broker.host,
+        "port": tree.broker.port,
+        "prefix": tree.market.prefix,
+        "user": login,
+        "password_file": f"{etc}/{login}.password",
+        "ca": f"{etc}/ca.crt",
+    }
+
+
+def tables_of(tree: Tree, member: Member, places: Places) -> dict[str, dict[str, Any]]:
+    """The tables of a node's settings."""
+    etc = places.etc(member.name)
+    node = {"name": member.name, "state": places.state(member.name), "parent": member.parent, "child": member.child, **member.more}
+    found = {"node": node, "basis": dict(vars(tree.basis)), "broker": _broker_table(tree, member.name, etc)}
+    if member.page is not None:
+        own = {"user": member.name + PAGE, "password_file": f"{etc}/{member.name}{PAGE}.password"} if member.page.get("whole") else {}
+        found["page"] = {**member.page, **own}
+    bounds: dict[str, Any] = {}
+    for it in tree.children(member.name):
+        pause = DEVICE_PAUSE if it.sort == "device" and "child_pause" not in member.more else None
+        told = {"child": it.child, "sort": it.sort, "least": it.least, "greatest": it.greatest, "pause": pause}
+        bounds[it.name] = {name: value for name, value in told.items() if value is not None}
+    return {**found, "children": bounds} if bounds else found
+
+
+def settings_text(tree: Tree, member: Member, places: Places) -> str:
+    """A node's settings. Raises BadSettings if the tree's file has a wrong one."""
+    tables = tables_of(tree, member, places)
+    require_settings(member, tables)
+    return f"{MADE} The {member.sort} {member.name}.\n{toml_text(tables)}"
+
+
+def require_settings(member: Member, tables: dict[str, dict[str, Any]]) -> Settings:
+    """The settings that a node takes from these tables. Raises BadSettings, with the name of the node."""
+    told = {name: {it: value for it, value in table.items() if value is not None} for name, table in tables.items()}
+    told["children"] = tables.get("children", {})
+    try:
+        return settings_of(member.sort, told)
+    except BadSettings as error:
+        raise BadSettings(f"{member.name}: {error}") from None
+
+
+def login_text(tree: Tree, login: str, places: Places) -> str:
+    """The settings of who is no node, for `cogmaula market` and for clients of the broker."""
+    return f"{MADE} The login {login}.\n{toml_text({'broker': _broker_table(tree, login, places.etc(login))})}"
+
+
+def client_text(tree: Tree, login: str, password: str, places: Places) -> str:
+    """The options of mosquitto's own clients, which they read from a folder that XDG_CONFIG_HOME names: no password is an argument."""
+    table = _broker_table(tree, login, places.etc(login))
+    options = {"-h": table["host"], "-p": table["port"], "--cafile": table["ca"], "-u": login, "-P": password, "-q": 1}
+    return "".join(f"{option} {value}\n" for option, value in options.items())
+
+
+def unit_of(member: Member) -> str:
+    """The name of a node's unit."""
+    return f"market-node-{member.name}"
+
+
+def unit_text(tree: Tree, member: Member) -> str:
+    """A node's unit."""
+    has_page_login = member.page is not None and bool(member.page.get("whole"))
+    words = {
+        "name": member.name,
+        "sort": member.sort,
+        "command": tree.market.command,
+        "memory": "512M" if member.page is not None else "256M",
+        "page_option": " --page-password-file %d/page" if has_page_login else "",
+        "page_credential": f"LoadCredential=page:{ETC}/{member.name}{PAGE}.password\n" if has_page_login else "",
+    }
+    text = text_of("node.service")
+    for word, value in words.items():
+        text = text.replace(f"@{word}@", value)
+    return text
+
+
+def folders_of(tree: Tree) -> dict[str, list[str]]:
+    """Each folder of files beside that of the broker, and the logins whose passwords are there."""
+    found: dict[str, list[str]] = {}
+    for it in tree.members:
+        found[it.name] = [it.name] + ([it.name + PAGE] if it.page is not None and it.page.get("whole") else [])
+        if it.control:
+            found[it.name + CONTROL] = [it.name + CONTROL]
+    return {**found, **{it.name: [it.name] for it in tree.logins}}

@@ -1,0 +1,108 @@
+"""Who may read and write which topic of a market at its broker: the one list, of which a broker's file of rights is made.
+
+What a login writes are exact topics, so that none can fill the broker with others. In what it reads a + may stand for one level.
+"""
+
+from __future__ import annotations
+
+from collections.abc import Iterable, Mapping
+from dataclasses import dataclass, field
+from typing import Literal
+
+from .frames import Sort
+from .topics import Topics
+
+Access = Literal["read", "write", "readwrite"]
+Words = tuple[tuple[Access, str], ...]
+
+
+@dataclass(frozen=True)
+class Right:
+    """That a login may read, write, or read and write the topics that a pattern of MQTT has."""
+
+    access: Access
+    topic: str
+
+    def allows(self, access: Literal["read", "write"], topic: str) -> bool:
+        """Whether it lets a message of this topic be read or written."""
+        if access not in self.access:
+            return False
+        levels, words = self.topic.split("/"), topic.split("/")
+        if levels[-1] == "#":
+            levels, words = levels[:-1], words[: len(levels) - 1]
+        return len(levels) == len(words) and all(level in ("+", word) for level, word in zip(levels, words, strict=True))
+
+
+@dataclass(frozen=True)
+class Place:
+    """A node in its tree.
+
+    parent:      the name of the node above, and `child` the number there; None of the auctioneer
+    children:    the nodes directly below: the name of each number
+    limits_from: whether a relay takes limits while the market lives
+    """
+
+    sort: Sort
+    name: str
+    parent: str | None = None
+    child: int | None = None
+    children: Mapping[int, str] = field(default_factory=dict)
+    limits_from: bool = False
+
+
+# What nodes may do with the topics below their own name.
+_OF_NODE: Words = (("readwrite", "state"), ("readwrite", "resume"))
+_OF_PARENT: Words = (("readwrite", "heartbeat"), ("read", "bid/+"), ("read", "drop/+"))
+_OF_EACH_CHILD: Words = (("readwrite", "price"), ("readwrite", "lapsed"), ("readwrite", "refused"))
+_OF_LIMITED: Words = (("readwrite", "limits"), ("readwrite", "limits/state"))
+_OF_DEVICE: Words = (("readwrite", "setpoint"), ("readwrite", "answer"), ("read", "offer"))
+# What a child may do with the topics below its parent's name: those of its own number, and those that are for all children.
+_OF_CHILD: Words = (("read", "state"), ("read", "heartbeat"))
+_OF_NUMBER: Words = (("readwrite", "bid"), ("read", "price"), ("read", "refused"))
+_OF_DEVICE_NUMBER: Words = (("read", "lapsed"),)
+
+# What shows and keeps a whole market reads, below the prefix: neither offers nor Resumes.
+SHOWN = ("basis", "+/state", "+/bid/+", "+/price/+", "+/setpoint", "+/lapsed/+")
+
+
+def _below(topics: Topics, node: str, words: Iterable[tuple[Access, str]]) -> list[Right]:
+    return [Right(access, topics.of(node, what)) for access, what in words]
+
+
+def rights_of_node(topics: Topics, place: Place) -> list[Right]:
+    """What the login of a node may do."""
+    is_device = place.sort == "device"
+    found = [Right("readwrite" if place.sort == "auctioneer" else "read", topics.basis)]
+    found += _below(topics, place.name, _OF_NODE + (_OF_DEVICE if is_device else _OF_PARENT))
+    if place.limits_from:
+        found += _below(topics, place.name, _OF_LIMITED)
+    if place.parent is not None and place.child is not None:
+        found += _below(topics, place.parent, _OF_CHILD)
+        words = _OF_NUMBER + (_OF_DEVICE_NUMBER if is_device else ())
+        found += [Right(access, topics.at(place.parent, what, place.child)) for access, what in words]
+    for child, name in place.children.items():
+        found += [Right(access, topics.at(place.name, what, child)) for access, what in _OF_EACH_CHILD]
+        # A parent sees which of its children are down.
+        found.append(Right("read", topics.of(name, "state")))
+    return found
+
+
+def rights_of_control(topics: Topics, device: str) -> list[Right]:
+    """What the login of a device's own control may do."""
+    return _below(topics, device, (("write", "offer"), ("read", "setpoint"), ("read", "answer"), ("read", "state")))
+
+
+def rights_of_reader(topics: Topics) -> list[Right]:
+    """What the login of a page may do, which shows the whole market."""
+    return [Right("read", f"{topics.prefix}/{it}") for it in SHOWN]
+
+
+def rights_of_operator(topics: Topics, children: Iterable[tuple[str, int]]) -> list[Right]:
+    """What an operator may do: read all, and let these children go, each by its parent's name and its number."""
+    return [Right("read", f"{topics.prefix}/#"), *(Right("write", topics.at(parent, "drop", child)) for parent, child in children)]
+
+
+def rights_of_grid_operator(topics: Topics, relays: Iterable[str]) -> list[Right]:
+    """What a grid operator may do, who limits these relays for a while."""
+    words: Words = (("write", "limits"), ("read", "limits/state"), ("read", "state"))
+    return [right for relay in relays for right in _below(topics, relay, words)]

@@ -1,0 +1,180 @@
+"""The files of a market from one that names it: what is refused, numbers, secrets, rights, and what stays when a device comes."""
+
+from __future__ import annotations
+
+import subprocess
+import tomllib
+
+import pytest
+from brokers import MOSQUITTO
+from made import TREE, tree_here
+
+from cogmaula.cli import main
+from cogmaula.deploy import BadSettings, Member, add_device, init_market, keys, read_tree
+from cogmaula.deploy.broker_files import limits_of
+from cogmaula.deploy.files import Places
+from cogmaula.deploy.node_files import tables_of
+from cogmaula.deploy.toml_text import toml_text
+from cogmaula.deploy.tree import tree_of
+from cogmaula.live import Node, settings_of
+from cogmaula.live.rights import Right
+
+BASIS = "[basis]\nmin = 0\nmax = 9\nsteps = 10\n"
+RELAYS = "[relays.a]\n[relays.b]\nparent = 'a'\n"
+DEVICES = "".join(f"[devices.d{it}]\nparent = 'a'\n" for it in range(257))
+
+
+def chain(count):
+    """So many relays, each below the one before."""
+    return "[relays.r1]\n" + "".join(f"[relays.r{it}]\nparent = 'r{it - 1}'\n" for it in range(2, count + 1))
+
+
+def tree(text):
+    return tree_of(tomllib.loads(BASIS + text))
+
+
+NO_MARKETS = [
+    ("[devices.a]\nparent = 'b'", "a has the parent b, which is no relay and no auctioneer"),
+    ("[devices.a]\n[devices.b]\nparent = 'a'", "b has the parent a, which is no relay"),
+    ("[relays.a]\nparent = 'b'\n[relays.b]\nparent = 'a'", "is below itself"),
+    ("[devices.a]\nchild = 1\n[devices.b]\nchild = 1", "child 1 of auctioneer is there twice"),
+    ("[relays.a]\n[devices.a]", "a is there twice"),
+    ("[devices.broker]", "broker is a name of another folder"),
+    ("[devices.'a b']", "a device is 'a b'"),
+    ("[devices.a]\nchild = 257", "a would be child 257"),
+    (f"[relays.a]\n{DEVICES}", "d256 would be child 257"),
+    (f"[relays.a]\nlimits_from = true\n{DEVICES}", "d255 would be child 257"),
+    (f"{chain(7)}[devices.a]\nparent = 'r7'", "r7 is below more than 6 relays"),
+    ("[devices.a]\nleast = 'x'", "least of a is 'x'"),
+    ("[relays.a]\ncontrol = true", "control of a is for a device"),
+    ("[devices.a]\nname = 'b'", "a has name, which no file of a tree has"),
+    ("[devices]\na = 1", "devices.a is no table"),
+    ("[street]", "street is not known there"),
+    ("[broker]\nport = 0", "broker.port is 0"),
+    ("[broker]\nmemory_limit = 0", "broker.memory_limit is 0"),
+    ("[market]\nprefix = 1", "market.prefix is 1"),
+    ("[logins.a]\nrole = 'king'", "logins.a has a role"),
+    ("[logins.a]\nrole = 'grid operator'", "relays go with the role grid operator"),
+    ("[relays.b]\n[logins.a]\nrole = 'grid operator'\nrelays = ['b']", "limits b, no relay with limits_from"),
+    ("[logins.a]\nrole = 'reader'\nrelays = 'b'", "logins.a.relays is 'b'"),
+]
+
+
+@pytest.mark.parametrize(("text", "due"), NO_MARKETS, ids=[due for _, due in NO_MARKETS])
+def test_what_no_market_is(text, due):
+    with pytest.raises(BadSettings, match=due):
+        tree(text)
+
+
+def test_a_device_is_below_six_relays_at_most():
+    assert tree(f"{chain(6)}[devices.a]\nparent = 'r6'").member("a").child == 1
+
+
+def test_a_wrong_setting_of_a_node_is_named(tmp_path):
+    for text, due in (("[devices.a]\nfloor = 1", "a: floor"), ("[devices.a]\nleast = 5", "auctioneer: child 1 has least 5"), ("[relays.a]\npage = 'x'", "a: page.listen is 'x'")):
+        with pytest.raises(BadSettings, match=due):
+            init_market(tree(text), tmp_path / "market")
+        assert not (tmp_path / "market").exists()
+
+
+def test_numbers_are_given_and_kept():
+    """Those of the file stay; others get the first that is free. A device more gets the one behind the greatest."""
+    one = tree(f"{RELAYS}[devices.c]\nchild = 2\n[devices.d]\n[devices.e]\nparent = 'b'\n")
+    assert {it.name: (it.parent, it.child) for it in one.members[1:]} == {
+        "a": ("auctioneer", 1), "b": ("a", 1), "c": ("auctioneer", 2), "d": ("auctioneer", 3), "e": ("b", 1),
+    }
+    assert tree_of(tomllib.loads(toml_text(one.to_tables()))) == one
+    more = one.with_device(Member("device", "f", "auctioneer"))
+    assert more.member("f").child == 4
+    with pytest.raises(BadSettings, match="no node is called x"):
+        one.with_device(Member("device", "g", "x"))
+    with pytest.raises(BadSettings, match="child 1 of a is there twice"):
+        one.with_device(Member("device", "g", "a", 1))
+    limited = tree("[relays.a]\nlimits_from = true\ngiver = 2\n[devices.b]\nparent = 'a'")
+    assert limited.with_device(Member("device", "c", "a")).member("c").child == 3
+
+
+def test_limits_of_the_broker_grow_with_the_tree():
+    """A thousand devices need more than 256 connections; a file may say otherwise."""
+    small, large = limits_of(tree("[devices.a]")), limits_of(tree("".join(f"[relays.r{it}]\n" for it in range(250)) + "".join(
+        f"[devices.d{it}]\nparent = 'r{it % 250}'\n" for it in range(1000))))
+    assert (small.connections, small.queued, small.memory) == (256, 2**20, 2**27)
+    assert (large.connections, large.files) == (4096, 4352)
+    assert large.queued >= 1251 * 2048
+    assert large.memory > 4096 * 65536 + 4 * large.queued
+    named = limits_of(tree("[broker]\nmax_connections = 10\nmax_queued_bytes = 20\nmemory_limit = 30\n"))
+    assert (named.connections, named.queued, named.memory, named.files) == (10, 20, 30, 266)
+
+
+def test_each_node_may_read_what_it_subscribes_to_and_write_its_will(tmp_path):
+    """The code of a node asks for these topics; a + stands for the number of each child."""
+    told = tree_here(8883)
+    for member in told.members:
+        settings = settings_of(member.sort, tables_of(told, member, Places(tmp_path, True)))
+        node = Node(settings, None, lambda _: None, lambda *_: None)
+        rights = told.rights()[member.name]
+        numbers = [str(it.child) for it in told.children(member.name)]
+        for topic in {it.replace("+", number) for it in [*node._subscriptions(), *node._written()] for number in numbers or ["+"]}:
+            assert any(it.allows("read", topic) for it in rights), (member.name, topic)
+        assert any(it.allows("write", settings.own_topic("state")) for it in rights), "its last will"
+        node._store.close()
+
+
+@pytest.mark.parametrize(
+    ("right", "topic", "due"),
+    [
+        (Right("read", "m/a/bid/+"), "m/a/bid/1", True),
+        (Right("read", "m/a/bid/+"), "m/a/bid/1/2", False),
+        (Right("read", "m/a/bid/+"), "m/b/bid/1", False),
+        (Right("write", "m/a/bid/+"), "m/a/bid/1", False),
+        (Right("readwrite", "m/#"), "m/a/b", True),
+        (Right("readwrite", "m/#"), "n/a", False),
+        (Right("read", "m/a"), "m/a/b", False),
+    ],
+)
+def test_a_right_allows(right, topic, due):
+    assert right.allows("read", topic) is due
+
+
+def require_programs():
+    if MOSQUITTO is None:
+        pytest.skip("mosquitto is not installed: apt-get install mosquitto")
+
+
+def test_secrets_are_in_files_of_their_own_and_in_no_argument(tmp_path, monkeypatch):
+    require_programs()
+    words, run = [], subprocess.run
+    monkeypatch.setattr(keys.subprocess, "run", lambda them, **more: words.extend(them) or run(them, **more))
+    out = tmp_path / "market"
+    assert main(["market", "init", str(TREE), "--out", str(out)]) == 0
+    passwords = {it: it.read_text().strip() for it in out.glob("*/*.password")}
+    assert sorted(it.name for it in passwords) == [
+        f"{it}.password" for it in ("auctioneer", "gridoperator", "house", "operator", "store.control", "store", "street")
+    ]
+    assert len(set(passwords.values())) == 7
+    assert not any(password in word for password in passwords.values() for word in words)
+    secret = [*passwords, *out.glob("*/*.key"), *out.glob("*/mosquitto_?ub"), out / "broker" / "passwords"]
+    assert {oct(it.stat().st_mode & 0o777) for it in secret} == {"0o600"}
+    assert {oct(it.stat().st_mode & 0o777) for it in [out, *out.iterdir()] if it.is_dir()} == {"0o700"}
+    holders = {it for it in out.rglob("*") if it.is_file() and any(password in it.read_text() for password in passwords.values())}
+    assert holders == {*passwords, *out.glob("*/mosquitto_?ub")}
+
+
+def test_a_device_more_leaves_what_is_there(tmp_path, capsys):
+    require_programs()
+    out = tmp_path / "market"
+    assert main(["market", "init", str(TREE), "--out", str(out)]) == 0
+    assert main(["market", "init", str(TREE), "--out", str(out)]) == 2
+    assert "has files: give a new folder" in capsys.readouterr().err
+    before = {it: it.read_bytes() for it in out.rglob("*") if it.is_file()}
+    assert main(["market", "add", "car", "--out", str(out), "--parent", "street", "--greatest", "3700", "--control", "--host", "garage"]) == 0
+    told = capsys.readouterr().out.splitlines()
+    assert told[:4] == ["broker.example: broker", "the machine of street: street", "garage: car", "the machine of car.control: car.control"]
+    changed = {str(it.relative_to(out)) for it, text in before.items() if it.read_bytes() != text}
+    assert changed == {"tree.toml", "compose.yaml", "broker/passwords", "broker/mosquitto.acl", "street/street.toml"}
+    assert (out / "broker" / "passwords").read_bytes().startswith(before[out / "broker" / "passwords"])
+    assert "[children.car]\nchild = 3\nsort = \"device\"\ngreatest = 3700\npause = 1.0\n" in (out / "street" / "street.toml").read_text()
+    assert read_tree(out / "tree.toml").member("car") == Member("device", "car", "street", 3, None, 3700, "garage", True)
+    assert main(["market", "add", "car", "--out", str(out), "--parent", "street"]) == 2
+    with pytest.raises(BadSettings, match="no node is called nobody"):
+        add_device(out, Member("device", "bus", "nobody"))
