@@ -47,10 +47,9 @@ class Containers:
     """The market of the example in containers, below a folder."""
 
     def __init__(self, folder, package):
-        self.folder, self._serial = Path(folder) / "market-trial", 0
-        self.folder.mkdir()
-        for it in (TOP / "examples/live").iterdir():
-            shutil.copy(it, self.folder)
+        self.folder, self._serial = Path(folder) / "market", 0
+        words = [sys.executable, "-B", "-m", "cogmaula", "market", "init", TOP / "examples/live/TREE.toml", "--out", self.folder]
+        subprocess.run(words, env={**os.environ, "PYTHONPATH": str(TOP / "python")}, check=True, stdout=subprocess.DEVNULL)
         shutil.copy(package, self.folder / "market.deb")
         self.steps = steps_of((TOP / "docs/LIVE.md").read_text(), "Run it in containers")
         (self.folder.parent / "storage.conf").write_text(
@@ -126,8 +125,7 @@ class Containers:
         power = -150 - self._serial
         began = time.monotonic()
         self.run(self.steps[3].replace("-150", str(power)))
-        # The house has no control here, so its node offers what it would take.
-        house = self.steps[3].replace("storecontrol", "housecontrol").replace("store/", "house/")
+        house = self.steps[3].replace("store.control", "house.control").replace("store/", "house/")
         self.run(re.sub(r"\[.*?\]", str([100] * 10), house).replace('"power"', f'"reference": {self._serial}, "power"'))
         told = wait_for(lambda: self._setpoint(power), PATIENCE, f"the store is not told {power} W")
         return f"told {json.dumps(told)} after {time.monotonic() - began:.1f} s"

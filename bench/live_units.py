@@ -34,8 +34,7 @@ NODES = {"auctioneer": "auctioneer", "street": "relay", "house": "device", "stor
 # Where a Resume has the index of the newest clearing.
 INDEX = {"auctioneer": 1, "relay": 9, "device": 5}
 PATIENCE = 60
-# The file with a login of the clients, as keys.sh writes it.
-LOGIN = "XDG_CONFIG_HOME=/root/market/market/{0}.conf"
+LOGIN = "XDG_CONFIG_HOME=/etc/market/{0}"
 
 
 class Market:
@@ -49,10 +48,9 @@ class Market:
         steps = steps_of(self.machine.run(f"cat {DOCS}/LIVE.md").stdout, "Deploy it on three machines")
         self.run(f"cp {DOCS}/examples/live/* .")
         # The packages are there.
-        self.run(re.sub("^apt-get.*", "", steps[1]))
-        for name, sort in NODES.items():
-            self.run(f"cp market/{name}.password /etc/market")
-            self.run(steps[3].replace("street", name).replace("relay", sort))
+        self.run(steps[2])
+        for name in ("broker", *NODES, "operator", "house.control", "store.control"):
+            self.run(f"cd market; {steps[3].replace('street', name)}")
         self.listen()
         self.all_are_up()
         took = self._since_start()
@@ -70,7 +68,7 @@ class Market:
     def listen(self):
         """Hears all topics from now on."""
         self.heard = {}
-        words = f"exec env {LOGIN.format('operator')} mosquitto_sub -F '%t %x' -t 'market/#'"
+        words = f"{LOGIN.format('operator')} exec mosquitto_sub -F '%t %x' -t 'market/#'"
         process = self.machine.start("operator", words, stdout=-1)
         threading.Thread(target=self._read, args=(process.stdout,), daemon=True).start()
 
@@ -103,9 +101,9 @@ class Market:
         self._serial += 1
         power = -100 - self._serial
         house = self.told("house/setpoint").get("clearing", 0)
-        for user, topic, demands in (("housecontrol", "house", [100] * 10), ("storecontrol", "store", [0] * 4 + [power] * 6)):
+        for user, topic, demands in (("house.control", "house", [100] * 10), ("store.control", "store", [0] * 4 + [power] * 6)):
             text = json.dumps({"power": demands, "reference": self._serial})
-            self.run(f"{LOGIN.format(user)} mosquitto_pub -q 1 -r -t market/{topic}/offer -m '{text}'")
+            self.run(f"{LOGIN.format(user)} mosquitto_pub -r -t market/{topic}/offer -m '{text}'")
         wait_for(lambda: self.told("store/setpoint").get("power") == power, PATIENCE, f"the store is not told {power} W")
         told = self.told("store/setpoint")
         wait_for(lambda: self.told("house/setpoint").get("clearing", 0) > house, PATIENCE, "the house is told nothing")
@@ -115,7 +113,7 @@ class Market:
 
 def unit_of(name):
     """The unit of a node or of the hub."""
-    return "market-hub" if name == "hub" else f"market-{NODES[name]}@{name}"
+    return "market-hub" if name == "hub" else f"market-node-{name}"
 
 
 class Units:
@@ -201,7 +199,7 @@ def password_wrong(market, units, name):
     units.do("restart", name)
     wait_for(lambda: f"refuses the login of {name}" in units.journal(name), PATIENCE, "the journal has no line")
     require(units.show(name, "ActiveState") == "active", "it does not go on trying")
-    market.run(f"cp market/{name}.password /etc/market")
+    market.run(f"cp market/{name}/{name}.password /etc/market")
     units.do("restart", name)
     market.all_are_up()
     return "it says so and tries on, and is up after a restart with the right one"
@@ -216,7 +214,7 @@ def refused(market, units, name, edit, status):
     time.sleep(6)
     is_left = units.show(name, "ActiveState") == "failed" and units.show(name, "NRestarts") == restarts
     line = units.journal(name).strip().splitlines()
-    market.run(f"cp {name}.toml /etc/market")
+    market.run(f"cp market/{name}/{name}.toml /etc/market")
     units.do("restart", name)
     market.all_are_up()
     require(is_left and ended == str(status), f"it ended with {ended}, and was started again")

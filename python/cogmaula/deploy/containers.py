@@ -4,6 +4,7 @@ from __future__ import annotations
 
 import json
 
+from .node_files import login_folders
 from .tree import Tree
 
 FIRST = """\
@@ -29,6 +30,15 @@ services:
     volumes: ["./broker:/etc/market:ro", "broker:/var/lib/mosquitto"]
     networks: {default: {aliases: [@host@]}}
 """
+CLIENT = """
+  client:
+    <<: *contained
+    restart: "no"
+    image: market-broker
+    profiles: [client]
+    entrypoint: []
+    volumes: ["./broker/ca.crt:/etc/market/ca.crt:ro"@clients@]
+"""
 NODE = """
   @name@:
     <<: *node
@@ -42,4 +52,6 @@ def compose_text(tree: Tree) -> str:
     text = FIRST.replace("@host@", json.dumps(tree.broker.host))
     for it in tree.members:
         text += NODE.replace("@name@", it.name).replace("@sort@", it.sort)
+    clients = "".join(f', "./{it}:/etc/clients/{it}:ro"' for it in login_folders(tree))
+    text += CLIENT.replace("@clients@", clients)
     return text + "\nvolumes:\n  broker:\n" + "".join(f"  {it.name}:\n" for it in tree.members)

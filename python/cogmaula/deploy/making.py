@@ -70,7 +70,7 @@ def _make(tree: Tree, out: Path) -> None:
         write_file(own / "install.sh", installing.node_text(member, folders[member.name]), RUN)
         if tree.market.here:
             Path(places.state(member.name)).mkdir(mode=0o700, parents=True, exist_ok=True)
-    for login in [it for it in folders if it not in texts]:
+    for login in node_files.login_folders(tree):
         write_file(out / login / f"{login}.toml", node_files.login_text(tree, login, places), OPEN)
         options = node_files.client_text(tree, login, (out / login / f"{login}.password").read_text().strip(), places)
         for client in installing.CLIENTS:

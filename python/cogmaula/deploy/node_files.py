@@ -101,3 +101,9 @@ def folders_of(tree: Tree) -> dict[str, list[str]]:
         if it.control:
             found[it.name + CONTROL] = [it.name + CONTROL]
     return {**found, **{it.name: [it.name] for it in tree.logins}}
+
+
+def login_folders(tree: Tree) -> list[str]:
+    """The folders of those who are no nodes."""
+    nodes = {it.name for it in tree.members}
+    return [it for it in folders_of(tree) if it not in nodes]

@@ -36,6 +36,7 @@ WRITES = {
     ],
     "house": ["house/state", "house/resume", "house/setpoint", "house/answer", "street/bid/1"],
     "store": ["store/state", "store/resume", "store/setpoint", "store/answer", "street/bid/2"],
+    "house.control": ["house/offer"],
     "store.control": ["store/offer"],
     "operator": ["auctioneer/drop/1", "street/drop/1", "street/drop/2"],
     "gridoperator": ["street/limits"],
@@ -49,6 +50,7 @@ READS = {
     ],
     "house": ["basis", "house/offer", *ABOVE, "street/price/1", "street/lapsed/1", "street/refused/1"],
     "store": ["basis", "store/offer", *ABOVE, "street/price/2", "street/lapsed/2", "street/refused/2"],
+    "house.control": ["house/setpoint", "house/answer", "house/state"],
     "store.control": ["store/setpoint", "store/answer", "store/state"],
     "operator": TOPICS,
     "gridoperator": ["street/limits/state", "street/state"],
@@ -84,7 +86,7 @@ def test_each_right_is_given_and_no_other(made):
         wait_until(lambda: {it.removeprefix("market/") for it, _ in client.read} >= written & set(READS[login]), f"what {login} reads")
         assert {it.removeprefix("market/") for it, _ in client.read} == written & set(READS[login]), login
     unwritten = {it for login, them in READS.items() for it in them if login != "operator"} - written
-    assert unwritten == {"house/offer", "auctioneer/bid/2"}, "these have no writer: the others were tried"
+    assert unwritten == {"auctioneer/bid/2"}, "it has no writer: the others were tried"
 
 
 def test_a_login_ends_no_connection_of_another(made):
