@@ -291,7 +291,6 @@ explains_on_terminal() {
 units_are_installed() {
     [ "$(grep -h '^ExecStart=' "$1"/share/market/units/*)" = "ExecStart=/usr/bin/python3 $1/libexec/market/bridge.py 127.0.0.1:1883 0 99 100 1 /run/market.socket
 ExecStart=$1/bin/cogmaula hub --config /etc/market/hub.toml --key %d/key
-ExecStart=$1/bin/cogmaula node %j --config /etc/market/%i.toml --password-file %d/password
 ExecStart=$1/libexec/market/market serve" ]
 }
 

@@ -2,6 +2,7 @@
 
 from __future__ import annotations
 
+from string import Template
 from typing import Any
 
 from ..live.errors import BadSettings
@@ -87,10 +88,7 @@ def unit_text(tree: Tree, member: Member) -> str:
         "page_option": " --page-password-file %d/page" if has_page_login else "",
         "page_credential": f"LoadCredential=page:{ETC}/{member.name}{PAGE}.password\n" if has_page_login else "",
     }
-    text = text_of("node.service")
-    for word, value in words.items():
-        text = text.replace(f"@{word}@", value)
-    return text
+    return Template(text_of("node.service")).substitute(words)
 
 
 def folders_of(tree: Tree) -> dict[str, list[str]]:

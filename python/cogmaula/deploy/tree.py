@@ -3,6 +3,7 @@
 from __future__ import annotations
 
 import os
+import shutil
 import tomllib
 from collections.abc import Mapping
 from dataclasses import dataclass, field, replace
@@ -58,12 +59,12 @@ class MarketPlan:
     """What all nodes have in common.
 
     prefix:  the first levels of all topics
-    command: the command cogmaula on the machines of nodes
+    command: the command cogmaula on the machines of nodes, by default where it is on this one
     here:    whether all is for this machine alone: then each file stays in the folder that it is made in
     """
 
     prefix: str = "market"
-    command: str = "/usr/bin/cogmaula"
+    command: str = field(default_factory=lambda: shutil.which("cogmaula") or "/usr/bin/cogmaula")
     here: bool = False
 
 
