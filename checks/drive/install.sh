@@ -109,6 +109,8 @@ share/man/man1/market.1
 share/market/installed
 share/market/live.stamp
 share/market/market.stamp
+share/market/prometheus/market.dashboard.json
+share/market/prometheus/market.rules.yml
 share/market/run.sh
 share/market/units/market-bridge.service
 share/market/units/market-hub.service

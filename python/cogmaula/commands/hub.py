@@ -3,6 +3,7 @@
 from __future__ import annotations
 
 import argparse
+import os
 import resource
 import signal
 import sys
@@ -134,12 +135,17 @@ def _draw_tokens(settings: HubSettings, children: Mapping[str, int], into: str |
 
 def _run(settings: HubSettings) -> int:
     from ..hub.hub import Hub
+    from ..live.notifying import Notifier
 
     allow_files()
-    hub = Hub(settings)
+    notifier = Notifier(os.environ)
+    hub = Hub(settings, turns=notifier.turns)
     for number in (signal.SIGTERM, signal.SIGINT):
         signal.signal(number, lambda *_: hub.stop())
-    hub.run()
+    try:
+        hub.run()
+    finally:
+        notifier.stops()
     return 0
 
 

@@ -3,6 +3,7 @@
 from __future__ import annotations
 
 import argparse
+import os
 import signal
 import sys
 from typing import Any
@@ -100,7 +101,9 @@ def _tables_of(arguments: argparse.Namespace) -> dict[str, dict[str, Any]]:
 def main(arguments: argparse.Namespace) -> int:
     """Runs the node until a signal ends it."""
     from ..live.node import make_node
+    from ..live.notifying import Notifier
 
+    notifier = Notifier(os.environ)
     try:
         settings = settings_of(arguments.sort, _tables_of(arguments))
         settings.require_files()
@@ -108,7 +111,7 @@ def main(arguments: argparse.Namespace) -> int:
         print(f"cogmaula: {error}", file=sys.stderr)
         return 2
     try:
-        node = make_node(settings)
+        node = make_node(settings, turns=notifier.turns)
         for number in (signal.SIGTERM, signal.SIGINT):
             signal.signal(number, lambda *_: node.stop())
         node.run()
@@ -119,4 +122,6 @@ def main(arguments: argparse.Namespace) -> int:
         where = "" if error.filename is None else f"{error.filename}: "
         print(f"cogmaula: node {settings.name}: {where}{error.strerror or error}", file=sys.stderr)
         return cli.FAILED
+    finally:
+        notifier.stops()
     return 0

@@ -77,6 +77,11 @@ class Agents:
         for it in running:
             it.join(LAST_SECONDS)
 
+    @property
+    def nodes(self) -> list[Node]:
+        """The nodes that work. It may be read from any thread."""
+        return [it.running.node for it in list(self._agents.values()) if it.running is not None]
+
     def end_connections(self, why: str) -> None:
         """Ends the connection of each agent, and tells it why."""
         for agent in self._agents.values():

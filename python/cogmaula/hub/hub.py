@@ -12,10 +12,12 @@ import sys
 from collections.abc import Callable
 from typing import Any
 
+from ..live.counting import NodeFacts
 from ..live.errors import LiveError
 from ..live.messages import BasisMessage
 from ..live.node import Node
 from ..live.page import MOST_CONNECTIONS as CONNECTIONS_OF_PAGE
+from ..live.page import PATIENCE_OF_LOOP
 from ..live.sessions import Session, now_text
 from .admission import Admission, Guest, files_allowed
 from .agent import Agent
@@ -37,19 +39,24 @@ LOOK, LAST_SECONDS = 1.0, 3.0
 class Hub:
     """A hub, from its start to its end. `run` does the work, and `stop` ends it from anywhere."""
 
-    def __init__(self, settings: HubSettings, say: Callable[[str], None] | None = None) -> None:
+    def __init__(
+        self, settings: HubSettings, say: Callable[[str], None] | None = None, turns: Callable[[], None] = lambda: None
+    ) -> None:
         """Takes the settings, and a call for lines about what is wrong, by default to standard error.
+
+        turns: is called about each second, as long as the hub and its auctioneer's node do their work
 
         Raises LiveError if the certificate cannot be used, NoPackage if websockets is missing and needed, and OSError.
         """
         self.settings = settings
+        self._turns = turns
         self.exchange = Exchange()
         self._lines = Lines(say or self._say_at_standard_error)
         self._say = self._lines.say
         self._admission = Admission(files_allowed() - (0 if settings.page is None else CONNECTIONS_OF_PAGE))
         self._memory = Memory()
         self._server = Server(settings, self._serve, self._admission, self._lines)
-        self.showing = Showing(settings.page, settings.topics.prefix, self.exchange, self._say)
+        self.showing = Showing(settings.page, settings.topics.prefix, self.exchange, self._say, self.facts)
         self._connections: dict[Connection, asyncio.Task[Any] | None] = {}
         self._loop: asyncio.AbstractEventLoop | None = None
         self._stopping: asyncio.Event | None = None
@@ -64,6 +71,12 @@ class Hub:
         # In one piece, since lines come from many threads.
         sys.stderr.write(f"cogmaula hub: {text}\n")
         sys.stderr.flush()
+
+    def facts(self) -> list[NodeFacts]:
+        """What the nodes of the hub tell of themselves, the auctioneer's first. It may be called from any thread."""
+        nodes = [] if self._auctioneer is None else [self._auctioneer.node]
+        nodes += [] if self._agents is None else self._agents.nodes
+        return [it.facts() for it in nodes]
 
     @property
     def addresses(self) -> list[Address]:
@@ -133,7 +146,9 @@ class Hub:
         self.is_up = True
 
     def _look(self) -> None:
-        assert self._agents is not None
+        assert self._agents is not None and self._auctioneer is not None
+        if self._auctioneer.node.facts().loop_age < PATIENCE_OF_LOOP:
+            self._turns()
         self._agents.look()
         self._server.look()
         self._lines.tick()

@@ -6,6 +6,7 @@ from collections.abc import Callable
 
 from ..errors import NoPackage
 from ..live.board import Board
+from ..live.counting import NodeFacts
 from ..live.page import Page
 from ..live.page_settings import PageSettings
 from .exchange import Exchange
@@ -18,11 +19,17 @@ class Showing:
     """Shows the market of an exchange. No call raises or waits for long: what is wrong with the page is a line."""
 
     def __init__(
-        self, settings: PageSettings | None, prefix: str, exchange: Exchange, say: Callable[[str], None], note: str = ""
+        self,
+        settings: PageSettings | None,
+        prefix: str,
+        exchange: Exchange,
+        say: Callable[[str], None],
+        facts: Callable[[], list[NodeFacts]],
+        note: str = "",
     ) -> None:
-        """Takes the settings, the prefix of the market's topics, the exchange, a call for lines, and what the page has to say of the market.
+        """Takes the settings, the prefix of the market's topics, the exchange, a call for lines, and what the nodes tell of themselves.
 
-        Without settings there is no page.
+        note: what the page has to say of the market. Without settings there is no page.
         """
         self._exchange = exchange
         self._page: Page | None = None
@@ -30,7 +37,7 @@ class Showing:
             return
         self._board = Board(lambda text: say(f"page: {text}"))
         try:
-            self._page = Page(settings, prefix, self._board, lambda text: say(f"page: {text}"), note=note)
+            self._page = Page(settings, prefix, self._board, lambda text: say(f"page: {text}"), facts=facts, note=note)
         except NoPackage as error:
             say(f"page: {error}")
 

@@ -72,6 +72,11 @@ class Board:
             self._bytes = sum(_size(it) for it, _ in self._kept.values())
         self.on_change()
 
+    @property
+    def is_connected(self) -> bool:
+        """Whether a connection is there that has told all that the broker retains."""
+        return self._lost_since is None
+
     def copy(self) -> tuple[dict[str, Message], str | None]:
         """The messages, and since when there is no connection, None if one is there."""
         with self._lock:

@@ -17,6 +17,7 @@ from .beginning import Beginning, resume_of
 from .broker import Arrived, Broker, Confirmed, Event, Link, Message, Publication, Settled
 from .children import SESSION, TIME
 from .control import Control, StandardControl
+from .counting import NodeFacts
 from .errors import BadFrame, BadMessage, LiveError, NodeRefused
 from .frames import CHILDREN, MOST, PRICES, Leave, Old, Price, frame_of
 from .messages import LOST, VERSION, BasisMessage, StateMessage, object_of
@@ -59,6 +60,7 @@ class Node:
         say: Callable[[str], None] | None = None,
         make_link: MakeLink | None = None,
         tick: float = TICK,
+        turns: Callable[[], None] = lambda: None,
     ) -> None:
         """Takes the node's place on disk. `make_node` has the arguments.
 
@@ -67,6 +69,7 @@ class Node:
         """
         self.settings = settings
         self._tick = tick
+        self._turns = turns
         self._say = say or self._say_at_standard_error
         self._events: queue.SimpleQueue[Event | Came | Ended | _Offered | _Stop] = queue.SimpleQueue()
         self._run_id, self._started = secrets.token_hex(8), now_text()
@@ -85,7 +88,7 @@ class Node:
         self._link: Link = (make_link or self._broker)(self._events.put, self._say)
         self._store = Store(settings.state, settings.name, settings.sort)
         self._starts, self._is_first = self._store.next_start(), True
-        self.showing = Showing(settings, self._say)
+        self.showing = Showing(settings, self._say, lambda: [self.facts()])
         self.serving = Serving(settings, self._store, self._link, control, self._say, self._events.put)
 
     def _broker(self, notify: Callable[[Event], None], say: Callable[[str], None]) -> Link:
@@ -109,6 +112,8 @@ class Node:
             if self._control is not None:
                 self._control.start(lambda data: self._events.put(_Offered(data)), self._say)
             while not (self.settings.leave and self.serving.has_left):
+                self.serving.counts.turned = time.monotonic()
+                self._turns()
                 event = self._next_event()
                 if isinstance(event, _Stop):
                     break
@@ -136,6 +141,22 @@ class Node:
     def stop(self) -> None:
         """Ends `run`, from any thread or from the handler of a signal."""
         self._events.put(_Stop())
+
+    def facts(self) -> NodeFacts:
+        """What the node tells of itself now. It may be called from any thread."""
+        serving, stored = self.serving, self.serving.stored
+        return NodeFacts(
+            node=self.settings.name,
+            sort=self.settings.sort,
+            why_down=serving.why_down,
+            is_connected=self._link.is_settled,
+            counts=serving.counts,
+            stores=self._store.saves,
+            store_seconds=self._store.seconds,
+            lapsed=0 if stored is None else len(stored.lapsed),
+            heartbeat=serving.beating.silence.newest,
+            loop_age=time.monotonic() - serving.counts.turned,
+        )
 
     def _next_event(self) -> Event | Came | Ended | _Offered | _Stop | None:
         try:
@@ -436,12 +457,18 @@ class Node:
             self._link.publish(Publication(self.settings.topics.basis, told.to_bytes()))
 
 
-def make_node(settings: Settings, control: Control | None = None, say: Callable[[str], None] | None = None) -> Node:
+def make_node(
+    settings: Settings,
+    control: Control | None = None,
+    say: Callable[[str], None] | None = None,
+    turns: Callable[[], None] = lambda: None,
+) -> Node:
     """A node of the live market, to be worked by `run`.
 
     control: of a device, by default standard input and output
     say:     takes each line about what is wrong, by default to standard error
+    turns:   is called at each turn of the node's loop
 
     Raises BadStore if another process has the folder of its state, NoPackage if paho is missing, and OSError.
     """
-    return Node(settings, control, say)
+    return Node(settings, control, say, turns=turns)

@@ -20,10 +20,13 @@ from importlib.resources import files
 from typing import Any
 from urllib.parse import urlsplit
 
+from ..errors import NoPackage
 from .board import Board
+from .counting import NodeFacts
+from .metrics import metrics_bytes
 from .page_settings import PageSettings
 from .sessions import now_text
-from .view import view_of
+from .view import MarketView, view_of
 from .websocket import NoHandshake, WebSocket, protocol_of
 
 # The least seconds between two views, and the greatest part of a processor that making them may take.
@@ -37,7 +40,11 @@ SILENCE = 10.0
 # The seconds between tries to listen.
 PAUSE = 10.0
 
+# The seconds that a turn of a node's loop may take.
+PATIENCE_OF_LOOP = 10.0
+
 HTML, JSON, TEXT = "text/html; charset=utf-8", "application/json", "text/plain; charset=utf-8"
+METRICS = "text/plain; version=0.0.4; charset=utf-8"
 Answer = tuple[HTTPStatus, list[tuple[str, str]], bytes]
 COMMON = [
     ("X-Content-Type-Options", "nosniff"),
@@ -75,18 +82,20 @@ class Page:
         board: Board,
         say: Callable[[str], None],
         own: str | None = None,
+        facts: Callable[[], list[NodeFacts]] = list,
         pause: float = PAUSE,
         note: str = "",
     ) -> None:
         """Takes the settings, the market's prefix, the board and a call for lines. Raises NoPackage if websockets is missing.
 
         own:   the node whose messages alone the board holds, None if it holds all of the market
+        facts: what the nodes of this process tell of themselves
         pause: the seconds between tries to listen
         note:  what the page says of the market, such as that its devices are models
         """
         protocol_of("a page")
         self.settings = settings
-        self._prefix, self._own, self._note = prefix, own, note
+        self._prefix, self._own, self._facts, self._note = prefix, own, facts, note
         self._board = board
         self._say = say
         self._said: set[str] = set()
@@ -102,6 +111,7 @@ class Page:
         self._thread = threading.Thread(target=self._run, daemon=True)
         # Of the page's thread alone: the newest view as JSON, when it was made, and the seconds that this took.
         self._text = ""
+        self._view: MarketView | None = None
         self._made_at = self._work = 0.0
         self._is_old = True
         self._sockets = 0
@@ -185,8 +195,10 @@ class Page:
         """A view as JSON, with the time when it was made and since when there is no connection to the broker."""
         messages, lost_since = self._board.copy()
         told = {"time": now_text(), "own": self._own, "note": self._note, "lost_since": lost_since}
+        self._view = None
         try:
-            return json.dumps({**told, **view_of(self._prefix, messages, self._own).to_json()})
+            view = self._view = view_of(self._prefix, messages, self._own)
+            return json.dumps({**told, **view.to_json()})
         except Exception as error:
             self._say_once(f"the page cannot show the market: {error!r}")
             return json.dumps({**told, "fault": repr(error)})
@@ -276,13 +288,32 @@ class Page:
             return HTTPStatus.OK, [*COMMON, ("Content-Security-Policy", self._policy), ("Content-Type", HTML)], self._html
         if path == "/view":
             return HTTPStatus.OK, [*COMMON, ("Content-Type", JSON)], self._newest().encode()
+        if path == "/metrics":
+            return self._metrics()
+        if path == "/healthz":
+            return self._health()
         if path != "/live":
-            return _words(HTTPStatus.NOT_FOUND, "there are /, /view and /live")
+            return _words(HTTPStatus.NOT_FOUND, "there are /, /view, /metrics, /healthz and /live")
         if not self._is_own_origin(headers.get("origin", ""), headers.get("host", "")):
             return _words(HTTPStatus.FORBIDDEN, "only the page itself may connect: read /view, or give page.origin")
         if self._sockets >= MOST_SOCKETS:
             return _words(HTTPStatus.SERVICE_UNAVAILABLE, f"{MOST_SOCKETS} are looking, and no more may")
         return None
+
+    def _metrics(self) -> Answer:
+        """The metrics of the process and of the market that is shown."""
+        self._newest()
+        try:
+            body = metrics_bytes(self._view, self._board.is_connected, self._facts())
+        except NoPackage as error:
+            return _words(HTTPStatus.NOT_IMPLEMENTED, str(error))
+        return HTTPStatus.OK, [*COMMON, ("Content-Type", METRICS)], body
+
+    def _health(self) -> Answer:
+        """Whether the nodes of the process are well, and else why not."""
+        why = [line for it in self._facts() for line in it.faults(PATIENCE_OF_LOOP)]
+        status = HTTPStatus.SERVICE_UNAVAILABLE if why else HTTPStatus.OK
+        return status, [*COMMON, ("Content-Type", JSON)], json.dumps({"healthy": not why, "why": why}).encode()
 
     def _is_own_host(self, host: str) -> bool:
         """Whether a request names this page. So no other name leads a browser of this machine here."""

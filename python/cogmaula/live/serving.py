@@ -20,6 +20,7 @@ from .broker import Link, Publication
 from .children import BIDS_OF_SUM, NODE, RELAYS, SORT, VALID, Children
 from .control import Control
 from .controlling import Controlling
+from .counting import Counts
 from .errors import LiveError, OtherTerms
 from .frames import (
     AuctioneerResume,
@@ -93,6 +94,7 @@ class Serving:
         self.controlling = Controlling(settings, self.keeping, self.offers, self.beating.silence, control, say)
         self.letting = Letting(settings, self.keeping, link, self.children, say, self._feed, self._asking.has_news)
         self.limiting = Limiting(settings, self.keeping, say, self._feed, self._asking.has_news)
+        self.counts = Counts()
         self.service: Service | None = None
         self.resume: Resume | None = None
         # Why there is no service, "" if there is one.
@@ -342,6 +344,7 @@ class Serving:
     def _ended(self, why: str) -> None:
         """Lets the service start anew, at once or after a pause that grows if it does not live long."""
         now = time.monotonic()
+        self.counts.restarts += 1
         self.service = None
         self._pending.clear()
         self._recording.ends(why)
@@ -368,6 +371,7 @@ class Serving:
         return self.children.price_topics if is_relay else [self._settings.own_topic("setpoint")]
 
     def _handle(self, frame: Frame) -> None:
+        self.counts.wrote(frame, self._count_lacking if isinstance(frame, NotCaughtUp) else 0)
         match frame:
             case RelayResume() | AuctioneerResume() | DeviceResume() | ResumeGone():
                 self._keep(frame)
@@ -412,6 +416,11 @@ class Serving:
                         f"the service refuses the Resume of session {self.stored.session.id}: give this node the limits and the program "
                         "live that it was made with, or begin a new session at the auctioneer by --new-session"
                     )
+
+    @property
+    def _count_lacking(self) -> int:
+        """How many children were in the newest sum and are not heard."""
+        return len(self.children.lacking(self.resume.numbers)) if isinstance(self.resume, RelayResume | AuctioneerResume) else 0
 
     @property
     def _sender(self) -> tuple[tuple[str, str], ...]:

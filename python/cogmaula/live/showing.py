@@ -8,6 +8,7 @@ from dataclasses import replace
 from ..errors import MarketError
 from .board import Board
 from .broker import Message
+from .counting import NodeFacts
 from .page import Page
 from .page_settings import PageSettings
 from .reader import Reader
@@ -22,8 +23,8 @@ def reading_settings(page: PageSettings, broker: BrokerSettings) -> BrokerSettin
 class Showing:
     """The page of a node. No call raises or waits for long: what is wrong with the page is a line."""
 
-    def __init__(self, settings: Settings, say: Callable[[str], None]) -> None:
-        """Takes the settings of the node, and a call for lines. Without a page in them there is none."""
+    def __init__(self, settings: Settings, say: Callable[[str], None], facts: Callable[[], list[NodeFacts]] = list) -> None:
+        """Takes the settings of the node, a call for lines, and what the node tells of itself. Without a page in them there is none."""
         self._say = say
         self._board = Board(say)
         self._page: Page | None = None
@@ -33,7 +34,7 @@ class Showing:
             return
         try:
             own = None if page.whole else settings.name
-            self._page = Page(page, broker.prefix, self._board, self._say_of_page, own)
+            self._page = Page(page, broker.prefix, self._board, self._say_of_page, own, facts)
             if page.whole:
                 client_id = f"cogmaula.{broker.prefix.replace('/', '.')}.{settings.name}.page"
                 self._reader = Reader(reading_settings(page, broker), client_id, self._board, self._say_of_page)

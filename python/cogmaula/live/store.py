@@ -12,6 +12,7 @@ import fcntl
 import hashlib
 import json
 import os
+import time
 from collections.abc import Mapping
 from dataclasses import dataclass, field
 from pathlib import Path
@@ -85,6 +86,8 @@ class Store:
         self.folder = Path(folder)
         self.node = node
         self.sort = sort
+        # How often something was made safe, and the seconds that this took in all.
+        self.saves, self.seconds = 0, 0.0
         self.folder.mkdir(mode=0o700, parents=True, exist_ok=True)
         self._lock = os.open(self.folder / "lock", os.O_RDWR | os.O_CREAT | os.O_CLOEXEC, 0o600)
         try:
@@ -103,7 +106,10 @@ class Store:
 
     def save(self, stored: Stored) -> None:
         """Replaces the session's file, safely: once this returns, a crash of the machine leaves the new Resume. Raises OSError."""
+        began = time.monotonic()
         replace_safely(self.path(stored.session), self._bytes_of(stored))
+        self.saves += 1
+        self.seconds += time.monotonic() - began
 
     def next_start(self, known: int = 0) -> int:
         """The count of the node's starts from now on, above those that are stored and known elsewhere. It is stored. Raises OSError."""

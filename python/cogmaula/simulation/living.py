@@ -20,6 +20,7 @@ from ..hub.exchange import Exchange
 from ..hub.running import Running
 from ..hub.showing import Showing
 from ..live.broker import Message
+from ..live.counting import NodeFacts
 from ..live.errors import LiveError
 from ..live.frames import MOST, PRICES, Price, Sort, frame_of
 from ..live.messages import StateMessage
@@ -110,8 +111,8 @@ class LivingCluster:
         self._settings = self._all_settings(Path(self._folder.name))
         self.topics = self._settings[0].topics
         self._page = page
-        self._showing = Showing(page, self.topics.prefix, self.exchange, say, NOTE)
         self._running: list[Running] = []
+        self._showing = Showing(page, self.topics.prefix, self.exchange, say, self.facts, NOTE)
         self._stopping = threading.Event()
         self._newest: Price | None = None
 
@@ -145,6 +146,10 @@ class LivingCluster:
         for it in self._running:
             if it.error is not None:
                 raise it.error
+
+    def facts(self) -> list[NodeFacts]:
+        """What the nodes tell of themselves. It may be called from any thread."""
+        return [it.node.facts() for it in list(self._running)]
 
     def stop(self) -> None:
         """Ends `run`, from any thread or from the handler of a signal."""

@@ -33,13 +33,13 @@ def require_browser():
 class Served:
     """A page of a test's messages, from its start to its end. What it says is in `said`."""
 
-    def __init__(self, told=None, own=None, **settings):
+    def __init__(self, told=None, own=None, facts=list, **settings):
         from cogmaula.live.page import Page
 
         self.said = []
         self.board = Board(self.said.append)
         settings = {"listen": "127.0.0.1:0", **settings}
-        self.page = Page(PageSettings(**settings), "market", self.board, self.said.append, own, pause=0.1)
+        self.page = Page(PageSettings(**settings), "market", self.board, self.said.append, own, facts, pause=0.1)
         if told is not None:
             self.board.take(told.messages.values())
             self.board.settled()

@@ -1,0 +1,167 @@
+"""Metrics, health and the watchdog of a node: what is counted, what a scrape has, and what rules and dashboard ask for."""
+
+from __future__ import annotations
+
+import json
+import re
+import shutil
+import socket
+import subprocess
+
+import pytest
+from brokers import TOP
+from looking import Served, require_page
+from pretended import auctioneer_resume, bid, gone, numbers, price, relay_resume
+from told import village
+
+from cogmaula.live import Settings
+from cogmaula.live.counting import OF_BIDS, OF_PRICES, Counts, NodeFacts
+from cogmaula.live.frames import Dropped, NotCaughtUp, NotChanged, OutOfLimits, TooMuch, WindowFull
+from cogmaula.live.metrics import ALL
+from cogmaula.live.notifying import Notifier
+
+RULES, DASHBOARD = TOP / "packaging" / "prometheus" / "market.rules.yml", TOP / "packaging" / "prometheus" / "market.dashboard.json"
+COUNTERS = {name for name, (kind, _, _) in ALL.items() if kind == "counter"}
+SAMPLES = {f"{it}_total" if it in COUNTERS else it for it in ALL}
+
+
+def facts(**more):
+    told = {"node": "street", "sort": "relay", "why_down": "", "is_connected": True, "counts": Counts(), "stores": 3, "store_seconds": 0.5}
+    told |= {"lapsed": 1, "heartbeat": "2026-01-31T06:30:00.000Z", "loop_age": 0.25}
+    return NodeFacts(**{**told, **more})
+
+
+def scraped(text):
+    """The samples of a scrape, by their names and labels."""
+    return {line.rpartition(" ")[0]: float(line.rpartition(" ")[2]) for line in text.decode().splitlines() if not line.startswith("#")}
+
+
+@pytest.mark.parametrize(
+    ("frame", "due"),
+    [
+        (bid(1, 2, 5, 5), ("bids", "sent")), (gone(1, 2), ("bids", "left")), (NotChanged(), ("bids", "not_changed")),
+        (WindowFull(), ("bids", "window_full")), (TooMuch(1, 2), ("bids", "refused")), (OutOfLimits(3), ("bids", "out_of_limits")),
+        (NotCaughtUp(), ("bids", "not_caught_up")), (price(1, 2, 3, 0), ("prices", "passed")), (Dropped(1, 2), ("prices", "dropped")),
+    ],
+)
+def test_each_frame_counts_once(frame, due):
+    counts = Counts()
+    counts.wrote(frame, 4)
+    kind, outcome = due
+    assert {it: number for it, number in getattr(counts, kind).items() if number} == {outcome: 1}
+    assert sum([*counts.bids.values(), *counts.prices.values(), counts.clearings]) == 1
+    assert counts.waiting == (4 if outcome == "not_caught_up" else 0)
+
+
+def test_a_relay_counts_what_it_does(joined):
+    one = joined("relay").begun()
+    one.link.confirms = True
+    one.writes(NotCaughtUp(), relay_resume(1, 0, 0, numbers((1, 1))), bid(3, 1, 7, 7), price(1, 1, 1, 0))
+    one.service.ends()
+    one.turned()
+    told = one.node.facts()
+    assert (told.counts.bids["sent"], told.counts.prices["passed"], told.counts.restarts, told.counts.clearings) == (1, 1, 1, 0)
+    assert (told.node, told.sort, told.stores > 0, told.store_seconds > 0, told.lapsed, told.is_connected) == ("street", "relay", True, True, 0, True)
+    assert "the service has ended" in told.faults(10)[0]
+
+
+def test_an_auctioneer_counts_clearings(joined):
+    one = joined("auctioneer").begun()
+    for index in (1, 2):
+        one.writes(auctioneer_resume(index, numbers()))
+    assert one.node.facts().counts.clearings == 2
+
+
+def test_a_scrape_has_the_market_and_the_process():
+    require_page()
+    pytest.importorskip("prometheus_client", reason="apt-get install python3-prometheus-client")
+    told = village().state("street", "relay", "auctioneer", 1, -4000, 50)
+    with Served(told, facts=lambda: [facts()]) as page:
+        status, headers, body = page.get("/metrics")
+        assert (status, headers["Content-Type"]) == (200, "text/plain; version=0.0.4; charset=utf-8")
+        found = scraped(body)
+        view = page.view()
+    for it in view["nodes"]:
+        power = None if it["power"] is None else it["power"]["power"]
+        assert found.get(f'market_power_watts{{node="{it["name"]}"}}') == power
+        assert found[f'market_node_lapsed{{node="{it["name"]}"}}'] == (it["lapsed"] is not None)
+    due = {
+        'market_children_lapsed{node="street"}': 1, 'market_stores_total{node="street"}': 3, 'market_store_seconds_total{node="street"}': 0.5,
+        'market_heartbeat_timestamp_seconds{node="street"}': 1769841000, 'market_loop_age_seconds{node="street"}': 0.25,
+        'market_bids_total{node="street",outcome="sent"}': 0, "market_page_connected": 1, "market_messages_not_taken": 0,
+        'market_ceiling_watts{node="street"}': 50, 'market_floor_watts{node="street"}': -4000, 'market_node_up{node="street",parent="auctioneer",sort="relay"}': 1,
+    }
+    assert {it: found[it] for it in due} == due
+    names = {it.partition("{")[0] for it in found}
+    assert names == SAMPLES, "each metric is in a scrape, and no other"
+
+
+@pytest.mark.parametrize(
+    ("more", "why"),
+    [
+        ({}, []), ({"why_down": "the service has ended"}, ["street: the service has ended"]),
+        ({"is_connected": False}, ["street: the broker is away"]), ({"loop_age": 11.0}, ["street: its loop stands still for 11 s"]),
+    ],
+)
+def test_health(more, why):
+    require_page()
+    with Served(village(), facts=lambda: [facts(**more)]) as page:
+        status, _, body = page.get("/healthz")
+    assert (status, json.loads(body)) == (503 if why else 200, {"healthy": not why, "why": why})
+
+
+def test_systemd_is_told(tmp_path):
+    path = tmp_path / "notify"
+    with socket.socket(socket.AF_UNIX, socket.SOCK_DGRAM) as one:
+        one.bind(str(path))
+        one.settimeout(5)
+        notifier = Notifier({"NOTIFY_SOCKET": str(path), "WATCHDOG_USEC": "400000"})
+        notifier.turns()
+        notifier.turns()
+        notifier._next = 0.0
+        notifier.turns()
+        notifier.stops()
+        assert [one.recv(100) for _ in range(4)] == [b"READY=1", b"WATCHDOG=1", b"WATCHDOG=1", b"STOPPING=1"]
+    Notifier({}).turns()
+    Notifier({"NOTIFY_SOCKET": str(tmp_path / "nobody")}).turns()
+
+
+# The files for Prometheus and Grafana.
+
+
+def names_of(query):
+    """The metrics that a query asks for."""
+    return set(re.findall(r"\bmarket_\w+", query))
+
+
+def queries_of(panels):
+    """The queries of a dashboard."""
+    return [target["expr"] for panel in panels for target in panel.get("targets", [])]
+
+
+def test_the_dashboard_asks_for_metrics_that_exist():
+    told = json.loads(DASHBOARD.read_text())
+    queries = queries_of(told["panels"])
+    assert len(queries) > 8
+    for query in queries:
+        assert names_of(query), query
+        assert names_of(query) <= SAMPLES, query
+        for name, labels in re.findall(r"\b(market_\w+)\{([^}]*)\}", query):
+            known = {"node", "instance", "job", *ALL[name.removesuffix("_total")][1]}
+            assert {it.partition("=")[0].rstrip("!") for it in labels.split(",")} <= known, query
+
+
+def test_the_rules_ask_for_metrics_that_exist():
+    text = RULES.read_text()
+    assert names_of(text) <= SAMPLES
+    for outcome in re.findall(r'outcome="(\w+)"', text):
+        assert outcome in {*OF_BIDS.values(), *OF_PRICES.values()}
+
+
+def test_promtool_takes_the_rules_and_each_alarm_fires():
+    if shutil.which("promtool") is None:
+        pytest.skip("promtool is not installed: apt-get install prometheus")
+    done = subprocess.run(["promtool", "test", "rules", RULES.with_name("market.test.yml")], capture_output=True, text=True, check=False)
+    assert done.returncode == 0, done.stdout + done.stderr
+    tested = set(re.findall(r"alertname: (\w+)", RULES.with_name("market.test.yml").read_text()))
+    assert tested == set(re.findall(r"alert: (\w+)", RULES.read_text()))
