@@ -7,10 +7,15 @@ import re
 import shutil
 import socket
 import subprocess
+import time
+import urllib.parse
+import urllib.request
 
 import pytest
-from brokers import TOP
-from looking import Served, require_page
+from brokers import TOP, free_port, live_program, require_broker, wait_until
+from looking import Served, get, require_page
+from made import TREE, MadeMarket
+from markets import STEPS, falls_at
 from pretended import auctioneer_resume, bid, gone, numbers, price, relay_resume
 from told import village
 
@@ -165,3 +170,53 @@ def test_promtool_takes_the_rules_and_each_alarm_fires():
     assert done.returncode == 0, done.stdout + done.stderr
     tested = set(re.findall(r"alertname: (\w+)", RULES.with_name("market.test.yml").read_text()))
     assert tested == set(re.findall(r"alert: (\w+)", RULES.read_text()))
+
+
+SCRAPES = """
+global: {scrape_interval: 1s, evaluation_interval: 1s}
+rule_files: [RULES]
+scrape_configs:
+  - job_name: market
+    static_configs: [{targets: ["127.0.0.1:PORT"]}]
+"""
+
+
+def test_prometheus_scrapes_a_market_and_each_query_of_the_dashboard_answers(tmp_path):
+    """The price and the powers that Prometheus has are those that the devices were told, and no alarm fires."""
+    require_page()
+    require_broker()
+    if shutil.which("prometheus") is None:
+        pytest.skip("prometheus is not installed: apt-get install prometheus")
+    tree, live, port, own = tmp_path / "TREE.toml", live_program(), free_port(), free_port()
+    tree.write_text(TREE.read_text().replace("[auctioneer]\n", f'[auctioneer]\npage = "127.0.0.1:{port}"\n'))
+    (tmp_path / "prometheus.yml").write_text(SCRAPES.replace("PORT", str(port)).replace("RULES", str(RULES)))
+    words = [f"--config.file={tmp_path}/prometheus.yml", f"--storage.tsdb.path={tmp_path}/data", f"--web.listen-address=127.0.0.1:{own}"]
+
+    def asked(path, **query):
+        told = urllib.request.urlopen(f"http://127.0.0.1:{own}/api/v1/{path}?{urllib.parse.urlencode(query)}", timeout=10).read()
+        return json.loads(told)["data"]
+
+    with MadeMarket(tmp_path, tree) as made, open(tmp_path / "said", "wb") as said:
+        for name in ("auctioneer", "street", "house", "store"):
+            made.start(name, live)
+        made.controls["house"].offers([100] * STEPS)
+        made.controls["store"].offers(falls_at(4, 0, -150))
+        wait_until(lambda: made.controls["store"].has(step=4, power=-150), "the setpoint")
+        assert get(port, "/healthz")[0] == 200
+        with subprocess.Popen(["prometheus", *words], stdout=said, stderr=said) as process:
+            try:
+                wait_until(lambda: b"ready to receive" in (tmp_path / "said").read_bytes(), "prometheus is ready")
+                due = {"house": "100", "store": "-150", "street": "-50", "auctioneer": "-50"}
+
+                def powers():
+                    return {it["metric"]["node"]: it["value"][1] for it in asked("query", query="market_power_watts")["result"]}
+
+                wait_until(lambda: powers() == due, "the powers")
+                time.sleep(3)
+                for query in queries_of(json.loads(DASHBOARD.read_text())["panels"]):
+                    found = asked("query", query=query.replace("$node", ".*"))["result"]
+                    assert found, query
+                assert asked("query", query="market_price{node='store'}")["result"][0]["value"][1] == "4"
+                assert asked("query", query="ALERTS")["result"] == []
+            finally:
+                process.terminate()
