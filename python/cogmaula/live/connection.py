@@ -70,14 +70,18 @@ def new_client(settings: BrokerSettings, client_id: str, ended: threading.Event,
     return client
 
 
-def connect(client: Any, settings: BrokerSettings) -> None:
-    """Connects a client. Raises OSError or ValueError, which `words_of` tells in words."""
+def connect(client: Any, settings: BrokerSettings, session: int = 0) -> None:
+    """Connects a client. Raises OSError or ValueError, which `words_of` tells in words.
+
+    session: for how many seconds the broker keeps what it could not tell; 0 begins anew
+    """
+    more = {"SessionExpiryInterval": session} if session else {}
     client.connect(
         settings.host,
         settings.port_due,
         settings.keepalive,
-        clean_start=True,
-        properties=properties_of("CONNECT", MaximumPacketSize=LONGEST),
+        clean_start=not session,
+        properties=properties_of("CONNECT", MaximumPacketSize=LONGEST, **more),
     )
     # A small message goes out at once, and does not wait until the one before is acknowledged.
     client.socket().setsockopt(socket.IPPROTO_TCP, socket.TCP_NODELAY, 1)

@@ -61,8 +61,9 @@ _OF_CHILD: Words = (("read", "state"), ("read", "heartbeat"))
 _OF_NUMBER: Words = (("readwrite", "bid"), ("read", "price"), ("read", "refused"))
 _OF_DEVICE_NUMBER: Words = (("read", "lapsed"),)
 
-# What shows and keeps a whole market reads, below the prefix: neither offers nor Resumes.
+# What a page of a whole market reads, and what a history does, below the prefix: neither offers nor Resumes.
 SHOWN = ("basis", "+/state", "+/bid/+", "+/price/+", "+/setpoint", "+/lapsed/+")
+KEPT = (*SHOWN, "+/limits/state", "+/measured")
 
 
 def _below(topics: Topics, node: str, words: Iterable[tuple[Access, str]]) -> list[Right]:
@@ -89,12 +90,12 @@ def rights_of_node(topics: Topics, place: Place) -> list[Right]:
 
 def rights_of_control(topics: Topics, device: str) -> list[Right]:
     """What the login of a device's own control may do."""
-    return _below(topics, device, (("write", "offer"), ("read", "setpoint"), ("read", "answer"), ("read", "state")))
+    return _below(topics, device, (("write", "offer"), ("write", "measured"), ("read", "setpoint"), ("read", "answer"), ("read", "state")))
 
 
 def rights_of_reader(topics: Topics) -> list[Right]:
-    """What the login of a page may do, which shows the whole market."""
-    return [Right("read", f"{topics.prefix}/{it}") for it in SHOWN]
+    """What the login of a page or a history may do, which is told of the whole market."""
+    return [Right("read", f"{topics.prefix}/{it}") for it in KEPT]
 
 
 def rights_of_operator(topics: Topics, children: Iterable[tuple[str, int]]) -> list[Right]:

@@ -24,6 +24,7 @@ _LONGEST = {
     "offer": 16_384,
     "answer": 1_024,
     "setpoint": 1_024,
+    "measured": 256,
     "bid": 4_096,
     "price": 64,
     "lapsed": 1_024,

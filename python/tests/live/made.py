@@ -73,7 +73,7 @@ class MadeMarket:
             self.raised[name] = str(error)
 
     def client(self, login, folder=None, client_id=""):
-        """A client of the broker by one login. What it reads is in its `read`, as pairs of a topic and a payload."""
+        """A client of the broker by one login. What it reads is in its `read`, as pairs of a topic and the bytes."""
         import paho.mqtt.client as mqtt
 
         first = (mqtt.CallbackAPIVersion.VERSION1,) if hasattr(mqtt, "CallbackAPIVersion") else ()
@@ -82,7 +82,7 @@ class MadeMarket:
         one.read, one.ends = [], []
         one.username_pw_set(login, (self.out / (folder or login) / f"{login}.password").read_text().strip())
         one.tls_set(str(self.out / "authority" / "ca.crt"))
-        one.on_message = lambda _client, _data, message: one.read.append((message.topic, message.payload.decode()))
+        one.on_message = lambda _client, _data, message: one.read.append((message.topic, message.payload))
         one.on_disconnect = lambda _client, _data, code, *_: one.ends.append(str(code))
         one.on_connect = lambda it, *_: it.subscribe([("#", 1)])
         subscribed = threading.Event()

@@ -149,9 +149,9 @@ def test_secrets_are_in_files_of_their_own_and_in_no_argument(tmp_path, monkeypa
     assert main(["market", "init", str(TREE), "--out", str(out)]) == 0
     passwords = {it: it.read_text().strip() for it in out.glob("*/*.password")}
     assert sorted(it.name for it in passwords) == [
-        f"{it}.password" for it in ("auctioneer", "gridoperator", "house.control", "house", "operator", "store.control", "store", "street")
+        f"{it}.password" for it in ("auctioneer", "gridoperator", "history", "house.control", "house", "operator", "store.control", "store", "street")
     ]
-    assert len(set(passwords.values())) == 8
+    assert len(set(passwords.values())) == 9
     assert not any(password in word for password in passwords.values() for word in words)
     secret = [*passwords, *out.glob("*/*.key"), *out.glob("*/mosquitto_?ub"), out / "broker" / "passwords"]
     assert {oct(it.stat().st_mode & 0o777) for it in secret} == {"0o600"}

@@ -24,8 +24,8 @@ auctioneer/refused/1 auctioneer/drop/1 auctioneer/offer
 street/state street/resume street/heartbeat street/limits street/limits/state street/bid/1 street/bid/2 street/price/1 street/price/2
 street/lapsed/1 street/lapsed/2 street/refused/1 street/refused/2 street/drop/1 street/drop/2 street/offer street/other
 street/price/3 street/price/x street/drop/3 house/answer store/answer
-house/state house/resume house/setpoint house/offer house/heartbeat house/bid/1 house/other house/other/other
-store/state store/resume store/setpoint store/offer
+house/state house/resume house/setpoint house/offer house/measured house/heartbeat house/bid/1 house/other house/other/other
+store/state store/resume store/setpoint store/offer store/measured
 """.split()
 PARENT = ["state", "resume", "heartbeat", "price/1", "lapsed/1", "refused/1"]
 # What each login writes and reads, by hand from docs/LIVE.md. Each of these is allowed, and nothing else.
@@ -36,10 +36,11 @@ WRITES = {
     ],
     "house": ["house/state", "house/resume", "house/setpoint", "house/answer", "street/bid/1"],
     "store": ["store/state", "store/resume", "store/setpoint", "store/answer", "street/bid/2"],
-    "house.control": ["house/offer"],
-    "store.control": ["store/offer"],
+    "house.control": ["house/offer", "house/measured"],
+    "store.control": ["store/offer", "store/measured"],
     "operator": ["auctioneer/drop/1", "street/drop/1", "street/drop/2"],
     "gridoperator": ["street/limits"],
+    "history": [],
 }
 ABOVE = ["street/state", "street/heartbeat"]
 READS = {
@@ -54,6 +55,10 @@ READS = {
     "store.control": ["store/setpoint", "store/answer", "store/state"],
     "operator": TOPICS,
     "gridoperator": ["street/limits/state", "street/state"],
+    "history": [
+        "basis", *(it for it in TOPICS if it.partition("/")[2].partition("/")[0] in ("state", "bid", "price", "lapsed", "setpoint", "measured")),
+        "street/limits/state",
+    ],
 }
 # A node reads what it writes.
 READS |= {it: [*READS[it], *WRITES[it]] for it in ("auctioneer", "street", "house", "store")}
@@ -79,14 +84,14 @@ def test_each_right_is_given_and_no_other(made):
     publish_all(clients)
     all_written = {(login, topic) for login, them in WRITES.items() for topic in them}
     wait_until(lambda: len(clients["operator"].read) >= len(all_written), "what is written")
-    seen = {(login, topic.removeprefix("market/")) for topic, login in clients["operator"].read}
+    seen = {(login.decode(), topic.removeprefix("market/")) for topic, login in clients["operator"].read}
     assert sorted(seen) == sorted(all_written)
     written = {topic for _, topic in all_written}
     for login, client in clients.items():
         wait_until(lambda: {it.removeprefix("market/") for it, _ in client.read} >= written & set(READS[login]), f"what {login} reads")
         assert {it.removeprefix("market/") for it, _ in client.read} == written & set(READS[login]), login
     unwritten = {it for login, them in READS.items() for it in them if login != "operator"} - written
-    assert unwritten == {"auctioneer/bid/2"}, "it has no writer: the others were tried"
+    assert unwritten == {"auctioneer/bid/2", "house/bid/1", "street/price/3", "street/price/x"}, "these have no writer: the others were tried"
 
 
 def test_a_login_ends_no_connection_of_another(made):
@@ -114,7 +119,7 @@ def test_a_market_lives_by_these_rights_alone(made):
     made.controls["house"].offers([100] * STEPS)
     control.publish("market/store/offer", json.dumps({"power": falls_at(4, 0, -150)}), 1, True).wait_for_publish(30)
     wait_until(lambda: made.controls["store"].has(step=4, power=-150), "the setpoint")
-    wait_until(lambda: any('"power": -150' in it for _, it in control.read), "the control hears it")
+    wait_until(lambda: any(b'"power": -150' in it for _, it in control.read), "the control hears it")
     until = (datetime.now(timezone.utc) + timedelta(hours=1)).isoformat()
     assert "street" in give_limits(broker_of(made, "gridoperator"), "street", LimitsMessage(None, 2000, until), 20)
     assert "let go" in drop(broker_of(made, "operator"), "street", 1, 20)

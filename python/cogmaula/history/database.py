@@ -1,0 +1,194 @@
+"""The database of a history: SQLite, which needs nothing, or PostgreSQL by psycopg."""
+
+from __future__ import annotations
+
+import sqlite3
+from collections.abc import Iterable, Sequence
+from importlib.resources import files
+from typing import Any, Protocol
+from urllib.parse import urlsplit
+
+from ..errors import NoPackage
+from ..live.errors import BadSettings, LiveError
+from .rows import Row
+
+# The version of the tables.
+VERSION = 1
+
+
+class DatabaseLost(LiveError, OSError):
+    """The database does not take rows now. What was not put is put again after a new connection."""
+
+
+class Database(Protocol):
+    """Where rows are kept. All calls may come from any thread, one at a time."""
+
+    def open(self) -> None:
+        """Connects, and makes the tables that are missing. Raises DatabaseLost, and BadSettings if the tables are of another version."""
+
+    def put(self, rows: Iterable[Row]) -> None:
+        """Keeps rows, all or none, and leaves a row whose key is there as it is. Raises DatabaseLost."""
+
+    def read(self, query: str, values: Sequence[Any] = ()) -> list[tuple[Any, ...]]:
+        """The rows of a query, in which ? stands for a value. Raises DatabaseLost."""
+
+    def close(self) -> None:
+        """Ends the connection."""
+
+
+def open_database(url: str) -> Database:
+    """The database of a URL such as sqlite:///market.db or postgresql://user@host/name, with its tables. Raises as `open` does."""
+    kind = urlsplit(url).scheme
+    if kind == "sqlite":
+        found: Database = SqliteDatabase(url.removeprefix("sqlite:///"))
+    elif kind in ("postgresql", "postgres"):
+        found = PostgresDatabase(url)
+    else:
+        raise BadSettings(f"the database is {url!r}: give sqlite:///FILE or postgresql://USER@HOST/NAME")
+    found.open()
+    return found
+
+
+def schema_text() -> str:
+    """The statements that make the tables, for both kinds."""
+    return files("cogmaula.history").joinpath("schema.sql").read_text()
+
+
+def _statements() -> list[str]:
+    lines = [line for line in schema_text().splitlines() if not line.startswith("--")]
+    return [it for it in "\n".join(lines).split(";") if it.strip()]
+
+
+def _insert(row: Row, sign: str) -> str:
+    names = ", ".join(row.values)
+    return f"INSERT INTO {row.table} ({names}) VALUES ({', '.join([sign] * len(row.values))}) ON CONFLICT DO NOTHING"
+
+
+def _require_version(found: list[tuple[Any, ...]]) -> None:
+    if found != [(VERSION,)]:
+        raise BadSettings(f"the tables are of version {found}, and this program writes version {VERSION}: give another database")
+
+
+class SqliteDatabase:
+    """A file of SQLite. A reader may read it while it is written."""
+
+    def __init__(self, path: str) -> None:
+        """Takes the file."""
+        self._path = path
+        self._connection: sqlite3.Connection | None = None
+
+    def open(self) -> None:
+        """See Database."""
+        self.close()
+        try:
+            connection = sqlite3.connect(self._path, timeout=30, isolation_level=None, check_same_thread=False)
+            # A killed process loses nothing; a machine that loses power may lose its last seconds.
+            connection.execute("PRAGMA journal_mode = WAL")
+            connection.execute("PRAGMA synchronous = NORMAL")
+            connection.execute("BEGIN IMMEDIATE")
+            for it in _statements():
+                connection.execute(it)
+            if not connection.execute("SELECT version FROM history").fetchall():
+                connection.execute("INSERT INTO history VALUES (?)", (VERSION,))
+            connection.execute("COMMIT")
+        except sqlite3.Error as error:
+            raise DatabaseLost(f"{self._path}: {error}") from None
+        self._connection = connection
+        _require_version(self.read("SELECT version FROM history"))
+
+    def put(self, rows: Iterable[Row]) -> None:
+        """See Database."""
+        connection = self._required()
+        try:
+            connection.execute("BEGIN IMMEDIATE")
+            try:
+                for row in rows:
+                    connection.execute(_insert(row, "?"), tuple(row.values.values()))
+                connection.execute("COMMIT")
+            except BaseException:
+                connection.execute("ROLLBACK")
+                raise
+        except sqlite3.Error as error:
+            raise DatabaseLost(f"{self._path}: {error}") from None
+
+    def read(self, query: str, values: Sequence[Any] = ()) -> list[tuple[Any, ...]]:
+        """See Database."""
+        try:
+            return self._required().execute(query, tuple(values)).fetchall()
+        except sqlite3.Error as error:
+            raise DatabaseLost(f"{self._path}: {error}") from None
+
+    def _required(self) -> sqlite3.Connection:
+        if self._connection is None:
+            raise DatabaseLost(f"{self._path} is not open")
+        return self._connection
+
+    def close(self) -> None:
+        """See Database."""
+        connection, self._connection = self._connection, None
+        if connection is not None:
+            connection.close()
+
+
+class PostgresDatabase:
+    """A database of PostgreSQL."""
+
+    def __init__(self, url: str) -> None:
+        """Takes its URL. A password is in ~/.pgpass or PGPASSWORD rather than there. Raises NoPackage if psycopg is missing."""
+        try:
+            import psycopg
+        except ImportError:
+            raise NoPackage("a history in PostgreSQL needs the package psycopg (Debian: python3-psycopg)") from None
+        self._psycopg = psycopg
+        self._url = url
+        self._connection: Any = None
+
+    def open(self) -> None:
+        """See Database."""
+        self.close()
+        try:
+            self._connection = self._psycopg.connect(self._url, autocommit=True, connect_timeout=10)
+            # A killed process loses nothing; a server that crashes may lose its last second.
+            self._connection.execute("SET synchronous_commit = off")
+            with self._connection.transaction():
+                # One process alone makes tables.
+                self._connection.execute("SELECT pg_advisory_xact_lock(62)")
+                for it in _statements():
+                    self._connection.execute(it)
+                if not self._connection.execute("SELECT version FROM history").fetchall():
+                    self._connection.execute("INSERT INTO history VALUES (%s)", (VERSION,))
+        except self._psycopg.Error as error:
+            raise self._lost(error) from None
+        _require_version(self.read("SELECT version FROM history"))
+
+    def put(self, rows: Iterable[Row]) -> None:
+        """See Database."""
+        try:
+            with self._required().transaction():
+                for row in rows:
+                    self._connection.execute(_insert(row, "%s"), tuple(row.values.values()))
+        except self._psycopg.Error as error:
+            raise self._lost(error) from None
+
+    def read(self, query: str, values: Sequence[Any] = ()) -> list[tuple[Any, ...]]:
+        """See Database."""
+        try:
+            found = self._required().execute(query.replace("%", "%%").replace("?", "%s"), tuple(values)).fetchall()
+        except self._psycopg.Error as error:
+            raise self._lost(error) from None
+        return [tuple(it) for it in found]
+
+    def _required(self) -> Any:
+        if self._connection is None:
+            raise DatabaseLost(f"{urlsplit(self._url).path} is not open")
+        return self._connection
+
+    def _lost(self, error: Exception) -> DatabaseLost:
+        told = urlsplit(self._url)
+        return DatabaseLost(f"{told.hostname or 'PostgreSQL'}{told.path}: {str(error).strip()}")
+
+    def close(self) -> None:
+        """See Database."""
+        connection, self._connection = self._connection, None
+        if connection is not None:
+            connection.close()

@@ -1,0 +1,132 @@
+"""What a message of a market says, as rows of the tables of its history."""
+
+from __future__ import annotations
+
+import json
+from collections.abc import Callable
+from dataclasses import dataclass, field
+from typing import Any
+
+from ..live.broker import Message
+from ..live.children import SESSION, TIME
+from ..live.errors import BadFrame, BadMessage
+from ..live.frames import BIDS, PRICES, Bid, Gone, Price, frame_of
+from ..live.messages import BasisMessage, LapseMessage, SetpointMessage, SilentMessage, StateMessage, object_of
+from ..live.sessions import time_of
+from ..live.topics import Topics
+
+# The bytes of a Bid before its demands, and those of each.
+BID_HEAD, DEMAND = 7, 4
+# The most watts of a measured power.
+MOST_MEASURED = 10**12
+
+
+@dataclass(frozen=True)
+class Row:
+    """A row of a table: its values by the names of columns."""
+
+    table: str
+    values: dict[str, Any] = field(default_factory=dict)
+
+
+def rows_of(topics: Topics, message: Message) -> list[Row]:
+    """The rows that a message tells; none if it clears its topic or is of no table. Raises BadMessage if it is not what its topic holds."""
+    if not message.payload:
+        return []
+    try:
+        return _rows_of(topics, message)
+    except BadFrame as error:
+        raise BadMessage(str(error)) from None
+
+
+def _rows_of(topics: Topics, message: Message) -> list[Row]:
+    session = message.properties.get(SESSION, "")
+    if message.topic == topics.basis:
+        told = BasisMessage.of(message.payload)
+        basis = {"least": told.basis.min, "greatest": told.basis.max, "steps": told.basis.steps}
+        return [Row("sessions", {"session": told.session.id, "begun": _seconds(told.session.begun), **basis})]
+    relay = message.topic.removeprefix(f"{topics.prefix}/").removesuffix("/limits/state")
+    if topics.of(relay, "limits/state") == message.topic and "/" not in relay:
+        return [_limits(session, relay, message)]
+    parts = topics.parts_of(message.topic)
+    if parts is None:
+        return []
+    node, word, child = parts
+    if child is not None:
+        return _of_child(session, node, word, child, message)
+    read = _OF_NODE.get(word)
+    return [] if read is None else [read(session, node, message)]
+
+
+def _of_child(session: str, parent: str, word: str, child: int, message: Message) -> list[Row]:
+    key: dict[str, Any] = {"session": session, "parent": parent, "child": child}
+    at = _seconds_or_none(message.properties.get(TIME))
+    if word == "lapsed":
+        lapse = LapseMessage.of(message.payload)
+        return [Row("lapses", {**key, "number": lapse.number, "at": _seconds(lapse.time), "why": lapse.why})]
+    if word not in ("bid", "price"):
+        return []
+    steps = max(2, (len(message.payload) - BID_HEAD) // DEMAND)
+    frame = frame_of(message.payload, BIDS if word == "bid" else PRICES, steps if word == "bid" else 1_000)
+    told = getattr(frame, "child", child)
+    if told != child:
+        raise BadMessage(f"it names child {told}")
+    if isinstance(frame, Bid | Gone):
+        demands = json.dumps(frame.demands) if isinstance(frame, Bid) else None
+        return [Row("bids", {**key, "number": frame.number, "at": at, "demands": demands})]
+    if isinstance(frame, Price):
+        price = {"step": frame.step, "price": frame.basis.price(frame.step)}
+        return [Row("prices", {**key, "clearing": frame.index, "number": frame.number, **price, "at": at})]
+    return []
+
+
+def _state(_session: str, node: str, message: Message) -> Row:
+    it = StateMessage.of(message.payload)
+    place = {"sort": it.sort, "parent": it.parent, "child": it.child, "floor": it.floor, "ceiling": it.ceiling}
+    more = {"alarm": it.alarm, "silent": _seconds_or_none(it.silent), "why": it.why, "session": it.session}
+    return Row("states", {"node": node, "run": it.run, "at": _seconds(it.time), "state": it.state, **place, **more})
+
+
+def _setpoint(session: str, device: str, message: Message) -> Row:
+    silent = SilentMessage.of(message.payload)
+    key = {"session": session, "device": device}
+    if silent is not None:
+        return Row("fallbacks", {**key, "since": _seconds(silent.since), "power": silent.power, "why": silent.why})
+    it = SetpointMessage.of(message.payload)
+    numbers = {"clearing": it.clearing, "number": it.bid, "step": it.step, "price": it.price, "power": it.power}
+    return Row("setpoints", {**key, **numbers, "at": _seconds_or_none(it.time)})
+
+
+def _measured(_session: str, device: str, message: Message) -> Row:
+    told = object_of(message.payload, "the measured power")
+    power, time = told.get("power"), told.get("time")
+    if type(power) is not int or not -MOST_MEASURED <= power <= MOST_MEASURED or not isinstance(time, str):
+        raise BadMessage('a measured power is {"power": WATTS, "time": "2026-01-31T06:30:00Z"}')
+    return Row("measured", {"device": device, "at": _seconds(time), "power": power})
+
+
+_OF_NODE: dict[str, Callable[[str, str, Message], Row]] = {"state": _state, "setpoint": _setpoint, "measured": _measured}
+
+
+def _limits(session: str, relay: str, message: Message) -> Row:
+    what = "the answer about limits"
+    told = object_of(message.payload, what)
+    floor, ceiling, clearing, until = (told.get(it) for it in ("floor", "ceiling", "clearing", "until"))
+    state, reference, why, time = (told.get(it) for it in ("state", "reference", "why", "time"))
+    texts, wholes = (state, why, time), (floor, ceiling)
+    if not all(isinstance(it, str) for it in texts) or not all(type(it) is int for it in wholes) or type(clearing) not in (int, type(None)):
+        raise BadMessage(f"{what} lacks a member")
+    limits = {"floor": floor, "ceiling": ceiling, "until": _seconds_or_none(until), "reference": reference, "clearing": clearing, "why": why}
+    return Row("limits", {"session": session, "relay": relay, "at": _seconds(str(time)), "state": state, **limits})
+
+
+def _seconds(text: str) -> float:
+    """A time as seconds since 1970. Raises BadMessage."""
+    return time_of(text).timestamp()
+
+
+def _seconds_or_none(text: object) -> float | None:
+    try:
+        return _seconds(text) if isinstance(text, str) and text else None
+    except BadMessage:
+        return None

@@ -1,0 +1,271 @@
+"""The history of a market in tables: what a message becomes, what a day says, and that a kill at any moment loses and repeats nothing."""
+
+from __future__ import annotations
+
+import json
+import os
+import random
+import shutil
+import signal
+import subprocess
+import sys
+import tempfile
+import time
+from pathlib import Path
+
+import pytest
+from brokers import TOP, free_port, live_program, require_broker, wait_until
+from made import MadeMarket
+from markets import STEPS, falls_at
+from pretended import MOMENT, SESSION
+from told import Told, village
+
+from cogmaula.cli import main
+from cogmaula.history import Row, open_database, rows_of
+from cogmaula.history.days import span_of
+from cogmaula.live.broker import Message
+from cogmaula.live.errors import BadMessage, BadSettings
+from cogmaula.live.frames import BIDS, PRICES, Bid, frame_of
+from cogmaula.live.messages import LapseMessage, SilentMessage
+from cogmaula.live.topics import Topics
+
+POSTGRES = Path("/usr/lib/postgresql/15/bin")
+TOPICS = Topics("market")
+AT = 1769841000.0
+KEY = {"session": SESSION.id}
+
+
+def message(below, payload, **properties):
+    data = payload if isinstance(payload, bytes) else json.dumps(payload).encode()
+    return Message(f"market/{below}", data, {"session": SESSION.id, "time": MOMENT, **properties})
+
+
+LIMITS = {"state": "kept", "floor": -1, "ceiling": 2, "until": MOMENT, "reference": "r", "clearing": 7, "why": "", "time": MOMENT}
+
+
+@pytest.mark.parametrize(
+    ("below", "due"),
+    [
+        ("basis", Row("sessions", {**KEY, "begun": AT - 1800, "least": 0, "greatest": 9, "steps": 10})),
+        ("street/bid/2", Row("bids", {**KEY, "parent": "street", "child": 2, "number": 4, "at": AT, "demands": json.dumps(falls_at(4, 0, -150))})),
+        ("street/price/1", Row("prices", {**KEY, "parent": "street", "child": 1, "clearing": 7, "number": 3, "step": 4, "price": 4, "at": AT})),
+        ("mill/setpoint", Row("setpoints", {**KEY, "device": "mill", "clearing": 7, "number": 6, "step": 2, "price": 2, "power": -60, "at": AT})),
+        (
+            "street/state",
+            Row("states", {
+                "node": "street", "run": "0" * 16, "at": AT, "state": "up", "sort": "relay", "parent": "auctioneer", "child": 1, "floor": None,
+                "ceiling": 50, "alarm": "", "silent": None, "why": "", "session": SESSION.id,
+            }),
+        ),
+    ],
+)
+def test_what_a_message_of_the_village_becomes(below, due):
+    assert rows_of(TOPICS, village().messages[f"market/{below}"]) == [due]
+
+
+@pytest.mark.parametrize(
+    ("told", "due"),
+    [
+        (message("a/bid/1", b""), []),
+        (Told().gone("a", 1, 8).messages["market/a/bid/1"], [Row("bids", {**KEY, "parent": "a", "child": 1, "number": 8, "at": AT, "demands": None})]),
+        (message("a/lapsed/1", LapseMessage(9, "w", MOMENT).to_bytes()), [Row("lapses", {**KEY, "parent": "a", "child": 1, "number": 9, "at": AT, "why": "w"})]),
+        (message("b/setpoint", SilentMessage(MOMENT, 5, "w").to_bytes()), [Row("fallbacks", {**KEY, "device": "b", "since": AT, "power": 5, "why": "w"})]),
+        (message("b/measured", {"power": -7, "time": MOMENT}), [Row("measured", {"device": "b", "at": AT, "power": -7})]),
+        (
+            message("a/limits/state", LIMITS),
+            [Row("limits", {**KEY, "relay": "a", "at": AT, "state": "kept", "floor": -1, "ceiling": 2, "until": AT, "reference": "r", "clearing": 7, "why": ""})],
+        ),
+        (message("a/offer", {"power": [1]}), []),
+        (message("a/heartbeat", {"time": MOMENT}), []),
+        (Message("other/a/state", b"x"), []),
+    ],
+)
+def test_what_other_messages_become(told, due):
+    assert rows_of(TOPICS, told) == due
+
+
+@pytest.mark.parametrize(
+    "told",
+    [
+        message("b/measured", {"power": 1.5, "time": MOMENT}), message("b/measured", {"power": True, "time": MOMENT}),
+        message("b/measured", {"power": 1}), message("b/measured", {"power": 10**13, "time": MOMENT}), message("a/state", b"x"),
+        message("a/bid/1", b"\2\0"), message("a/bid/2", village().messages["market/street/bid/1"].payload), message("a/price/1", b"\x17"),
+        message("a/limits/state", {**LIMITS, "floor": "x"}), message("a/limits/state", {**LIMITS, "time": "x"}), message("b/setpoint", {}),
+    ],
+)
+def test_what_is_no_row(told):
+    with pytest.raises(BadMessage):
+        rows_of(TOPICS, told)
+
+
+# Databases.
+
+
+@pytest.fixture(scope="session")
+def postgres():
+    """The URL of a server of PostgreSQL at loopback, by a folder of its own."""
+    pytest.importorskip("psycopg", reason="apt-get install python3-psycopg")
+    if not (POSTGRES / "initdb").exists() or os.getuid() != 0:
+        pytest.skip("PostgreSQL is not installed, or this is not root: apt-get install postgresql")
+    # Not below a folder of pytest, which root alone may enter.
+    folder, port = Path(tempfile.mkdtemp(prefix="market-")), free_port()
+    shutil.chown(folder, "postgres")
+
+    def run(*words):
+        subprocess.run(["runuser", "-u", "postgres", "--", *map(str, words)], check=True, capture_output=True, cwd="/", timeout=60)
+
+    run(POSTGRES / "initdb", "-D", folder / "data", "--auth=trust", "--no-sync")
+    more = f"-c listen_addresses=127.0.0.1 -p {port} -c unix_socket_directories={folder} -c fsync=off"
+    run(POSTGRES / "pg_ctl", "-D", folder / "data", "-w", "-o", more, "-l", folder / "log", "start")
+    yield f"postgresql://postgres@127.0.0.1:{port}/"
+    run(POSTGRES / "pg_ctl", "-D", folder / "data", "-w", "-m", "immediate", "stop")
+    shutil.rmtree(folder)
+
+
+@pytest.fixture(params=["sqlite", "postgresql"])
+def url(request, tmp_path):
+    """The URL of an empty database."""
+    if request.param == "sqlite":
+        return f"sqlite:///{tmp_path}/market.db"
+    server = request.getfixturevalue("postgres")
+    import psycopg
+
+    name = f"market{random.randrange(10**9)}"
+    with psycopg.connect(f"{server}postgres", autocommit=True) as connection:
+        connection.execute(f"CREATE DATABASE {name}")
+    return server + name
+
+
+def test_rows_are_kept_once_and_all_or_none(url):
+    database = open_database(url)
+    rows = [row for it in village().messages.values() for row in rows_of(TOPICS, it)]
+    database.put(rows)
+    database.put(reversed(rows))
+    tables = {it.table for it in rows}
+    assert {it: database.read(f"SELECT count(*) FROM {it}")[0][0] for it in tables} == {it: sum(row.table == it for row in rows) for it in tables}
+    assert database.read("SELECT clearing, price, step FROM clearings") == [(7, 2, 2)]
+    measured = Row("measured", {"device": "x", "at": 1.0, "power": 1})
+    with pytest.raises(OSError, match="nowhere"):
+        database.put([measured, Row("nowhere", {"a": 1})])
+    assert database.read("SELECT count(*) FROM measured") == [(0,)]
+    database.close()
+    again = open_database(url)
+    assert again.read("SELECT count(*) FROM bids") == [(4,)]
+    again.read("UPDATE history SET version = 2 RETURNING version")
+    again.close()
+    with pytest.raises(BadSettings, match="the tables are of version"):
+        open_database(url)
+
+
+def test_energies_and_prices_of_a_span(url):
+    """From 0 s to 3600 s: a takes 1000 W from -100 s to 1800 s and then 200 W, so 600 Wh; it measured 400 W from 900 s on, so 300 Wh.
+    b gives 60 W from 3000 s on, so 10 Wh. What is behind the end does not count."""
+    database = open_database(url)
+
+    def setpoint(device, at, power, clearing):
+        return Row("setpoints", {**KEY, "device": device, "clearing": clearing, "number": 2, "step": 0, "price": 0, "power": power, "at": at})
+
+    def price(at, clearing, value):
+        return Row("prices", {**KEY, "parent": "root", "child": 1, "clearing": clearing, "number": 2, "step": 0, "price": value, "at": at})
+
+    database.put([setpoint("a", -100.0, 1000, 1), setpoint("a", 1800.0, 200, 2), setpoint("a", 4000.0, 9, 4), setpoint("b", 3000.0, -60, 3)])
+    database.put([Row("measured", {"device": "a", "at": 900.0, "power": 400})])
+    database.put([price(0.0, 1, 4), price(1800.0, 2, 8), price(3600.0, 3, 90)])
+    database.put([Row("states", {"node": "root", "run": "0", "at": 0.0, "state": "up", "sort": "auctioneer", "alarm": "", "why": "", "session": ""})])
+    span = span_of(database, 0.0, 3600.0)
+    assert span.by_setpoint == {"a": 600.0, "b": -10.0}
+    assert span.by_measure == {"a": 300.0}
+    assert (span.clearings, span.least, span.mean, span.greatest) == (2, 4, 6.0, 8)
+    assert span_of(database, 10**6, 10**6 + 1).clearings == 0
+
+
+def test_what_the_command_says(tmp_path, capsys):
+    url = f"sqlite:///{tmp_path}/market.db"
+    assert main(["history", "--to", url]) == 2
+    assert main(["history", "--to", "mysql://x", "--day", "2026-01-31"]) == 2
+    assert main(["history", "--to", f"sqlite:///{tmp_path}/no/market.db", "--day", "2026-01-31"]) == 1
+    told = capsys.readouterr().err
+    assert "give --config FILE" in told
+    assert "the database is 'mysql://x'" in told
+    database = open_database(url)
+    database.put(rows_of(TOPICS, message("b/measured", {"power": 240, "time": "2026-01-31T00:00:00Z"})))
+    database.close()
+    assert main(["history", "--to", url, "--day", "2026-01-31T00:00[UTC]"]) == 0
+    out, err = capsys.readouterr()
+    assert out == "name,set_watt_hours,measured_watt_hours\nb,,5760.0\n"
+    assert err == "0 clearings, no price\n"
+
+
+# A whole market.
+
+
+class History:
+    """A process of `cogmaula history`, which the test may kill."""
+
+    def __init__(self, made, url):
+        self._folder = made.out
+        self._command = [sys.executable, "-B", "-m", "cogmaula", "history", "--config", str(made.out / "history" / "history.toml"), "--to", url]
+
+    def start(self):
+        environment = {**os.environ, "PYTHONPATH": str(TOP / "python")}
+        with open(self._folder / "history.err", "ab") as said:
+            self.process = subprocess.Popen(self._command, stderr=said, env=environment)
+
+    def kill(self):
+        self.process.kill()
+        self.process.wait()
+
+
+def test_a_kill_at_any_moment_loses_and_repeats_nothing(url, tmp_path):
+    """An operator reads all bids and prices too. While offers flow the process is killed again and again, and is away for a while."""
+    require_broker()
+    live, chance = live_program(), random.Random(1)
+    with MadeMarket(tmp_path) as made:
+        history, operator = History(made, url), made.client("operator")
+        history.start()
+        wait_until(lambda: "as history" in made.log, "the history is connected")
+        time.sleep(0.5)
+        for name in ("auctioneer", "street", "house", "store"):
+            made.start(name, live)
+        for turn in range(5):
+            for _ in range(8):
+                made.controls["house"].offers(falls_at(chance.randrange(1, STEPS), chance.randrange(200, 300), 100))
+                made.controls["store"].offers(falls_at(chance.randrange(1, STEPS), 0, -chance.randrange(300, 400)))
+                time.sleep(chance.random() / 10)
+            history.kill()
+            if turn < 4:
+                history.start()
+                time.sleep(chance.random())
+        made.controls["house"].offers(falls_at(9, 222, 111))
+        wait_until(lambda: made.controls["house"].has(power=111) or made.controls["house"].has(power=222), "the last setpoint")
+        history.start()
+        database = open_database(url)
+
+        def seen():
+            found = {"bids": set(), "prices": set()}
+            for topic, payload in list(operator.read):
+                parent, word = (*topic.split("/"), "")[1:3]
+                if word == "bid" and payload:
+                    it = frame_of(payload, BIDS, STEPS)
+                    found["bids"].add((parent, it.child, it.number, json.dumps(it.demands) if isinstance(it, Bid) else None))
+                elif word == "price" and payload:
+                    it = frame_of(payload, PRICES, STEPS)
+                    found["prices"].add((parent, it.child, it.index, it.step))
+            return found
+
+        def kept():
+            bids = database.read("SELECT parent, child, number, demands FROM bids")
+            prices = database.read("SELECT parent, child, clearing, step FROM prices")
+            return {"bids": set(bids), "prices": set(prices)}
+
+        wait_until(lambda: kept() == seen(), f"all is kept: {[{it: seen()[it] ^ kept()[it] for it in seen()}]}", 20)
+        assert len(seen()["bids"]) > 40
+        assert len(seen()["prices"]) > 20
+        newest = made.controls["house"].setpoints[-1]
+        due = (newest["clearing"], newest["bid"], newest["power"])
+        query = "SELECT clearing, number, power FROM setpoints WHERE device = ? ORDER BY clearing DESC, number DESC LIMIT 1"
+        wait_until(lambda: database.read(query, ["house"]) == [due], "the newest setpoint")
+        history.process.send_signal(signal.SIGTERM)
+        assert history.process.wait(20) == 0
+        database.close()
+        assert (made.out / "history.err").read_text() == ""
