@@ -26,6 +26,7 @@ from .counting import NodeFacts
 from .metrics import metrics_bytes
 from .page_settings import PageSettings
 from .sessions import now_text
+from .trend import Trend
 from .view import MarketView, view_of
 from .websocket import NoHandshake, WebSocket, protocol_of
 
@@ -55,8 +56,12 @@ COMMON = [
 
 
 def page_bytes() -> bytes:
-    """The page's one file."""
-    return files("cogmaula.live").joinpath("page.html").read_bytes()
+    """The page as one file, with its style and its script in it."""
+    folder = files("cogmaula.live")
+    page = folder.joinpath("page.html").read_bytes()
+    for tag, name in (("style", "page.css"), ("script", "page.js")):
+        page = page.replace(f"<{tag}>{name}</{tag}>".encode(), b"<%b>\n%b</%b>" % (tag.encode(), folder.joinpath(name).read_bytes(), tag.encode()))
+    return page
 
 
 def policy_of(page: bytes) -> str:
@@ -112,6 +117,7 @@ class Page:
         # Of the page's thread alone: the newest view as JSON, when it was made, and the seconds that this took.
         self._text = ""
         self._view: MarketView | None = None
+        self._trend = Trend(time.time())
         self._made_at = self._work = 0.0
         self._is_old = True
         self._sockets = 0
@@ -198,6 +204,7 @@ class Page:
         self._view = None
         try:
             view = self._view = view_of(self._prefix, messages, self._own)
+            self._trend.take(time.time(), view)
             return json.dumps({**told, **view.to_json()})
         except Exception as error:
             self._say_once(f"the page cannot show the market: {error!r}")
@@ -210,7 +217,7 @@ class Page:
             self._changed.clear()
             self._is_old = True
             await asyncio.sleep(max(0.0, self._made_at + self._gap - time.monotonic()))
-            if self._sockets:
+            if self._sockets or self._trend.is_due(time.time()):
                 self._newest(is_due=True)
             else:
                 # Nobody looks: the view is made when somebody asks.
@@ -288,12 +295,14 @@ class Page:
             return HTTPStatus.OK, [*COMMON, ("Content-Security-Policy", self._policy), ("Content-Type", HTML)], self._html
         if path == "/view":
             return HTTPStatus.OK, [*COMMON, ("Content-Type", JSON)], self._newest().encode()
+        if path == "/trend":
+            return HTTPStatus.OK, [*COMMON, ("Content-Type", JSON)], json.dumps(self._trend.to_json()).encode()
         if path == "/metrics":
             return self._metrics()
         if path == "/healthz":
             return self._health()
         if path != "/live":
-            return _words(HTTPStatus.NOT_FOUND, "there are /, /view, /metrics, /healthz and /live")
+            return _words(HTTPStatus.NOT_FOUND, "there are /, /view, /trend, /metrics, /healthz and /live")
         if not self._is_own_origin(headers.get("origin", ""), headers.get("host", "")):
             return _words(HTTPStatus.FORBIDDEN, "only the page itself may connect: read /view, or give page.origin")
         if self._sockets >= MOST_SOCKETS:

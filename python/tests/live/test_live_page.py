@@ -13,7 +13,7 @@ import time
 import pytest
 from brokers import wait_until
 from looking import Served, cells_of, dom_of, get, require_browser, require_page
-from pretended import settings
+from pretended import MOMENT, settings
 from told import Told, village
 
 from cogmaula.live import BadSettings, BrokerSettings, PageSettings
@@ -46,7 +46,7 @@ def test_the_page_is_one_file_and_may_load_nothing_else(served):
         assert policy[f"{tag}-src"] == f"'sha256-{base64.b64encode(hashlib.sha256(text).digest()).decode()}'"
     assert policy["default-src"] == policy["frame-ancestors"] == policy["base-uri"] == policy["form-action"] == "'none'"
     assert policy["connect-src"] == "'self'"
-    assert len(body) < 20_000
+    assert len(body) < 40_000
     assert b"//" not in re.sub(rb"^ *//.*$", b"", body, flags=re.MULTILINE), "an outside address"
     assert b"innerHTML" not in body
 
@@ -400,11 +400,11 @@ def test_a_browser_shows_the_figures(browser, tmp_path):
     told.state("old", "device", "street", 3, why="<b>gone</b>")
     with Served(told) as served:
         dom = dom_of(served.page.port, tmp_path)
-    assert cells_of(dom, "street")[:-1] == [
-        "-", "street", "relay, child 1 of auctioneer", "up", "2", "passes 4 down", "clearing 7",
+    assert cells_of(dom, "street")[:-2] == [
+        "-", "street", "relay, child 1 of auctioneer, 3 nodes below", "up", "2", "passes 4 down", "clearing 7",
         "-50 W", "bid 5: -50 W", "-50 W", "sum of what is below, clearing 7",
     ]
-    assert cells_of(dom, "street")[-1] == "no floor to 50 W"
+    assert cells_of(dom, "street")[-2:] == ["its limits bind", "no floor to 50 W"]
     assert cells_of(dom, "house") == [
         "house", "device, child 1 of street", "up", "4", "clearing 7", "2.5 kW", "not yet answered", "bid 4: 2.5 kW",
         "100 W", "setpoint, clearing 7",
@@ -413,6 +413,27 @@ def test_a_browser_shows_the_figures(browser, tmp_path):
     assert "&lt;b&gt;gone&lt;/b&gt;" in dom
     assert "market/mill/state: the state is no JSON" in dom
     assert 'id="lost" role="alert" hidden=""' in dom
+
+
+def test_a_browser_shows_what_is_wrong_first_and_folds_a_large_market(browser, tmp_path):
+    """Of 100 agents one is down and one was let go. A load that cannot change fills no bar, and all agents are folded."""
+    told = Told().state("hub", "auctioneer")
+    for child in range(1, 101):
+        down = {"state": "down", "why": "stopped"} if child == 77 else {}
+        told.state(f"agent{child}", "device", "hub", child, **down).bid("hub", child, 2, *[800] * 10).price("hub", child, 2, 9, 3)
+        told.setpoint(f"agent{child}", 800, 2, 9, 3)
+    told.put("hub/lapsed/5", json.dumps({"number": 3, "why": "by hand", "time": MOMENT}).encode())
+    with Served(told) as served:
+        dom = dom_of(served.page.port, tmp_path)
+    assert dom.index('<section id="wrong" class="wrong"') < dom.index('<dd id="price"')
+    faults = re.findall(r'<li class="(\w+)"><a href="#node-(\w+)">\w+</a>([^<]*)', dom)
+    assert faults == [("bad", "agent77", " is down: stopped · "), ("mild", "agent5", " is let go, by hand · ")]
+    assert '<h2 id="verdict">2 things are wrong</h2>' in dom
+    assert '<dd id="up">100 of 101</dd>' in dom
+    assert len(re.findall(r'<tr role="row" [^>]*id="node-agent\d+"[^>]*hidden=""|<tr role="row" hidden=""[^>]*id="node-agent\d+"', dom)) == 100
+    assert '<div class="bar' in dom
+    assert len(re.findall(r'<div class="bar[^>]* hidden=""', dom)) == 101
+    assert re.search(r'<div class="trend"><b>hub</b><svg', dom)
 
 
 def test_a_browser_says_since_when_there_is_no_connection(browser, tmp_path):
