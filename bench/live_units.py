@@ -193,6 +193,17 @@ def stopped(market, units, name):
     return f"down after {took:.1f} s, and up {again:.1f} s after the start; {goes_on(market, name, index)}"
 
 
+def stands_still(market, units, name):
+    """Lets all of a node's process stand still, as a fault of its loop would, until systemd starts it anew."""
+    run, index, restarts = market.told(f"{name}/state")["run"], market.index(name), int(units.show(name, "NRestarts"))
+    began = time.monotonic()
+    units.do("kill -s STOP", name)
+    wait_for(lambda: int(units.show(name, "NRestarts")) > restarts, 120, "systemd does not start it anew")
+    took = time.monotonic() - began
+    wait_for(lambda: market.is_up(name, run), PATIENCE, "it is not up again")
+    return f"started anew after {took:.0f} s; {goes_on(market, name, index)}"
+
+
 def password_wrong(market, units, name):
     """Gives a node a wrong password, and then the right one."""
     market.run(f"echo wrong >/etc/market/{name}.password")
@@ -331,6 +342,7 @@ def try_nodes(found, machine):
     found.part("a recording by the words of JUDGE.md", lambda: recording_on(market, units))
     found.part("a page by the words of LIVE.md", lambda: page_on(market, units))
     found.part("systemd-analyze verify", lambda: verified(machine, *map(unit_of, NODES)))
+    found.part("market-node-street stands still", lambda: stands_still(market, units, "street"))
     found.part("a wrong password", lambda: password_wrong(market, units, "house"))
     found.part("status 2 is for good", lambda: refused(market, units, "house", "s/^child.*/child = 0/", 2))
     found.part("status 5 is for good", lambda: refused(market, units, "house", "s/^max.*/max = 18/", 5))

@@ -43,7 +43,7 @@ PLACES = {
 LIMITS = {"north": {"floor": -4_000, "ceiling": 6_000}, "south": {"floor": -3_000, "ceiling": 3_000}}
 # The power of each device in watts, up to a step and from there on.
 OFFERS = {
-    "windmill": [-7_000] * 10,
+    "windmill": [-6_000] * 10,
     "store": [2_000] * 4 + [0] * 2 + [-2_000] * 4,
     "house1": [2_500] * 10,
     "heatpump": [3_000] * 5 + [0] * 5,
@@ -108,7 +108,7 @@ def main() -> None:
                 market.start(node, **page, **LIMITS.get(node, {}))
             market.offers(**OFFERS)
             # North takes 7,200 W at step 4, where the market clears. At step 5 it takes 4,200 W, which its ceiling allows.
-            market.settles_at(4, windmill=-7_000, store=0, bakery=5_000, panels=-6_000, house2=1_200)
+            market.settles_at(4, windmill=-6_000, store=0, bakery=5_000, panels=-6_000, house2=1_200)
             market.settles_at(5, house1=2_500, heatpump=0, charger=3_700, roof=-2_000)
             port = market.nodes["auctioneer"].showing.port
             wait_until(lambda: json.loads(get(port, "/view")[2])["lost_since"] is None, "the page has read the market")

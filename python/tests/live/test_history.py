@@ -5,6 +5,7 @@ from __future__ import annotations
 import json
 import os
 import random
+import re
 import shutil
 import signal
 import subprocess
@@ -144,6 +145,8 @@ def test_rows_are_kept_once_and_all_or_none(url):
     tables = {it.table for it in rows}
     assert {it: database.read(f"SELECT count(*) FROM {it}")[0][0] for it in tables} == {it: sum(row.table == it for row in rows) for it in tables}
     assert database.read("SELECT clearing, price, step FROM clearings") == [(7, 2, 2)]
+    (query,) = re.findall(r"^    (SELECT own\.at.*(?:\n    .*)*)", (TOP / "docs" / "HISTORY.md").read_text(), re.MULTILINE)
+    assert database.read(query) == [(AT, 2, 4)], "the query of the page: the street passed 4 where it had 2"
     measured = Row("measured", {"device": "x", "at": 1.0, "power": 1})
     with pytest.raises(OSError, match="nowhere"):
         database.put([measured, Row("nowhere", {"a": 1})])
