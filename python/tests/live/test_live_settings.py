@@ -185,7 +185,8 @@ class Noted:
 
     comes = None
 
-    def __init__(self, made):
+    def __init__(self, made, turns):
+        turns()
         Noted.made, self.stopped = made, False
 
     def run(self):
