@@ -48,6 +48,7 @@ class Market:
         steps = steps_of(self.machine.run(f"cat {DOCS}/LIVE.md").stdout, "Deploy it on three machines")
         self.run(f"cp {DOCS}/examples/live/* .")
         # The packages are there.
+        self.run("sed -i 's/^.auctioneer.$/&\\npage = \"127.0.0.1:8080\"/' TREE.toml")
         self.run(steps[2])
         for name in ("broker", *NODES, "operator", "house.control", "store.control"):
             self.run(f"cd market; {steps[3].replace('street', name)}")
@@ -266,11 +267,7 @@ def recording_on(market, units):
 
 
 def page_on(market, units):
-    """Lets the auctioneer serve a page as LIVE.md has it. All other nodes have no password of a page."""
-    set_as_in(market.machine, "auctioneer.toml", "LIVE.md", "[page]")
-    market.run("cp market/page.password /etc/market/auctioneer.page.password; chmod 600 /etc/market/auctioneer.page.password")
-    units.do("restart", "auctioneer")
-    market.all_are_up()
+    """That the auctioneer serves a page, by the login that the file of the market made."""
     index = market.offer()["clearing"]
     wait_for(lambda: view_of(market.machine)["clearing"] >= index, PATIENCE, f"the page does not show clearing {index}")
     return f"the page shows clearing {index} and {len(view_of(market.machine)['nodes'])} nodes"
