@@ -1,5 +1,5 @@
 #!/usr/bin/env python3
-"""Builds the images of the example, and tries the market of its compose.yaml in containers, by the words of docs/LIVE.md.
+"""Builds the images of the example, and tries the market of its compose.yaml in containers, by the words of docs/OPERATE.md.
 
     live_image.py PACKAGE [--root FOLDER]
 
@@ -51,7 +51,7 @@ class Containers:
         words = [sys.executable, "-B", "-m", "cogmaula", "market", "init", TOP / "examples/live/TREE.toml", "--out", self.folder]
         subprocess.run(words, env={**os.environ, "PYTHONPATH": str(TOP / "python")}, check=True, stdout=subprocess.DEVNULL)
         shutil.copy(package, self.folder / "market.deb")
-        self.steps = steps_of((TOP / "docs/LIVE.md").read_text(), "Run it in containers")
+        self.steps = steps_of((TOP / "docs/OPERATE.md").read_text(), "Run it in containers")
         (self.folder.parent / "storage.conf").write_text(
             f'[storage]\ndriver = "overlay"\ngraphroot = "{folder}/storage"\nrunroot = "{folder}/run"\n'
         )
@@ -228,7 +228,7 @@ def main():
                 make_root(Path(folder) / "root", "ca-certificates")
             if (
                 found.part("the base image", lambda: containers.make_base(arguments.root or f"{folder}/root"))
-                and found.part("the images, by the words of LIVE.md", containers.build)
+                and found.part("the images, by the words of OPERATE.md", containers.build)
                 and found.part("the market of compose.yaml", containers.start)
             ):
                 try_containers(found, containers)

@@ -45,7 +45,7 @@ class Market:
 
     def set_up(self):
         """Does what the page says. All four nodes are on this machine."""
-        steps = steps_of(self.machine.run(f"cat {DOCS}/LIVE.md").stdout, "Deploy it on three machines")
+        steps = steps_of(self.machine.run(f"cat {DOCS}/OPERATE.md").stdout, "Deploy it on three machines")
         self.run(f"cp {DOCS}/examples/live/* .")
         # The packages are there.
         self.run("sed -i 's/^.auctioneer.$/&\\npage = \"127.0.0.1:8080\"/' TREE.toml")
@@ -327,7 +327,7 @@ def hides(machine, units):
 def try_nodes(found, machine):
     """The units of nodes."""
     market, units = Market(machine), Units(machine)
-    found.part("the market, by the words of LIVE.md", market.set_up)
+    found.part("the market, by the words of OPERATE.md", market.set_up)
     found.part("offers", lambda: f"told {json.dumps(market.offer())}")
     found.part("a node does not see what is another's", lambda: hides(machine, units))
     for name in NODES:
@@ -337,7 +337,7 @@ def try_nodes(found, machine):
     for name in NODES:
         found.part(f"{unit_of(name)} is stopped and started", lambda it=name: stopped(market, units, it))
     found.part("a recording by the words of JUDGE.md", lambda: recording_on(market, units))
-    found.part("a page by the words of LIVE.md", lambda: page_on(market, units))
+    found.part("a page by the words of OPERATE.md", lambda: page_on(market, units))
     found.part("systemd-analyze verify", lambda: verified(machine, *map(unit_of, NODES)))
     found.part("market-node-street stands still", lambda: stands_still(market, units, "street"))
     found.part("a wrong password", lambda: password_wrong(market, units, "house"))

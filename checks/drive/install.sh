@@ -91,12 +91,12 @@ share/doc/market/COMMANDS.md
 share/doc/market/COOKBOOK.md
 share/doc/market/DEVICES.md
 share/doc/market/GLOSSARY.md
-share/doc/market/HISTORY.md
 share/doc/market/HUB.md
 share/doc/market/LICENSE
 share/doc/market/JUDGE.md
 share/doc/market/LIVE.md
 share/doc/market/NOTICE
+share/doc/market/OPERATE.md
 share/doc/market/PROTOCOL.md
 share/doc/market/PYTHON.md
 share/doc/market/RELAY.md

@@ -20,7 +20,7 @@ from ..live.settings import BrokerSettings, read_toml, value_of
 CALLS_PROGRAM = False
 HELP = "keeps the clearings, bids, setpoints, limits and states of a market in SQLite or PostgreSQL"
 MORE = (
-    "The broker is that of --config, whose table [broker] is as a node's, with a login that reads the market; docs/HISTORY.md has the"
+    "The broker is that of --config, whose table [broker] is as a node's, with a login that reads the market; docs/OPERATE.md has the"
     " tables. What the broker tells is in the database before it is confirmed, so a process that is killed loses nothing. The exit status"
     " is 0 after SIGTERM or SIGINT, 1 if the database cannot be opened, and 2 for settings that are wrong."
 )

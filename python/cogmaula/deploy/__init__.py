@@ -1,4 +1,4 @@
-"""Makes all files of a market over a broker from one that names its tree, machines and limits. docs/LIVE.md says how.
+"""Makes all files of a market over a broker from one that names its tree, machines and limits. docs/OPERATE.md says how.
 
     from cogmaula.deploy import init_market, read_tree
 

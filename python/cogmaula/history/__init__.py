@@ -1,4 +1,4 @@
-"""The history of a live market in tables: what its broker tells, kept in SQLite or PostgreSQL. docs/HISTORY.md has the tables.
+"""The history of a live market in tables: what its broker tells, kept in SQLite or PostgreSQL. docs/OPERATE.md has the tables.
 
     from cogmaula.history import Keeper, open_database
 

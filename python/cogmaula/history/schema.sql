@@ -1,4 +1,4 @@
--- The tables of a market's history, for SQLite and PostgreSQL alike. docs/HISTORY.md explains them.
+-- The tables of a market's history, for SQLite and PostgreSQL alike. docs/OPERATE.md explains them.
 -- Times are seconds since 1970-01-01 UTC, powers watts, and prices price units. Each row is written once, under its key.
 CREATE TABLE IF NOT EXISTS history (version BIGINT PRIMARY KEY);
 CREATE TABLE IF NOT EXISTS sessions (

@@ -1,4 +1,4 @@
-"""The page of a hub: the whole market, as the hub's exchange has it. docs/LIVE.md says what it shows."""
+"""The page of a hub: the whole market, as the hub's exchange has it. docs/OPERATE.md says what it shows."""
 
 from __future__ import annotations
 

@@ -1,4 +1,4 @@
-"""A page that shows a market as it lives, read-only, over HTTP and a WebSocket. docs/LIVE.md says what it shows.
+"""A page that shows a market as it lives, read-only, over HTTP and a WebSocket. docs/OPERATE.md says what it shows.
 
 It works in a thread of its own, from copies of messages. What goes wrong in it is a line, and the node goes on.
 """
