@@ -56,6 +56,7 @@ _OF_PARENT: Words = (("readwrite", "heartbeat"), ("read", "bid/+"), ("read", "dr
 _OF_EACH_CHILD: Words = (("readwrite", "price"), ("readwrite", "lapsed"), ("readwrite", "refused"))
 _OF_LIMITED: Words = (("readwrite", "limits"), ("readwrite", "limits/state"))
 _OF_DEVICE: Words = (("readwrite", "setpoint"), ("readwrite", "answer"), ("read", "offer"))
+_OF_CONTROL: Words = (("write", "offer"), ("write", "measured"), ("read", "setpoint"), ("read", "answer"), ("read", "state"))
 # What a child may do with the topics below its parent's name: those of its own number, and those that are for all children.
 _OF_CHILD: Words = (("read", "state"), ("read", "heartbeat"))
 _OF_NUMBER: Words = (("readwrite", "bid"), ("read", "price"), ("read", "refused"))
@@ -90,7 +91,7 @@ def rights_of_node(topics: Topics, place: Place) -> list[Right]:
 
 def rights_of_control(topics: Topics, device: str) -> list[Right]:
     """What the login of a device's own control may do."""
-    return _below(topics, device, (("write", "offer"), ("write", "measured"), ("read", "setpoint"), ("read", "answer"), ("read", "state")))
+    return [Right("read", topics.basis), *_below(topics, device, _OF_CONTROL)]
 
 
 def rights_of_reader(topics: Topics) -> list[Right]:

@@ -11,6 +11,8 @@ from brokers import live_program, require_broker, wait_until
 from made import MadeMarket
 from markets import STEPS, falls_at
 
+from cogmaula.agent.links import Basis, NodeLink, Setpoint
+from cogmaula.agent.mqtt import BrokerPlace
 from cogmaula.deploy import Member, add_device
 from cogmaula.live.given import LimitsMessage
 from cogmaula.live.operating import drop, give_limits
@@ -51,8 +53,8 @@ READS = {
     ],
     "house": ["basis", "house/offer", *ABOVE, "street/price/1", "street/lapsed/1", "street/refused/1"],
     "store": ["basis", "store/offer", *ABOVE, "street/price/2", "street/lapsed/2", "street/refused/2"],
-    "house.control": ["house/setpoint", "house/answer", "house/state"],
-    "store.control": ["store/setpoint", "store/answer", "store/state"],
+    "house.control": ["basis", "house/setpoint", "house/answer", "house/state"],
+    "store.control": ["basis", "store/setpoint", "store/answer", "store/state"],
     "operator": TOPICS,
     "gridoperator": ["street/limits/state", "street/state"],
     "history": [
@@ -102,6 +104,20 @@ def test_a_login_ends_no_connection_of_another(made):
         house.disconnect()
     assert (auctioneer.is_connected(), auctioneer.ends) == (True, [])
     assert "as house (p" in made.log, "its name is the login's"
+
+
+def test_an_agent_has_the_login_of_a_control(made):
+    """The link of `cogmaula agent` to a node: it hears the basis and a setpoint, and its offer comes to the node."""
+    live, heard, said = live_program(), [], []
+    for name in ("auctioneer", "street", "house"):
+        made.start(name, live)
+    table = read_toml(made.out / "house.control" / "house.control.toml")["broker"]
+    link = NodeLink(BrokerPlace(**{it: table[it] for it in ("host", "port", "user", "password_file", "ca")}), "market", "house")
+    link.start(heard.append, said.append)
+    link.offer((100,) * STEPS)
+    wait_until(lambda: any(isinstance(it, Setpoint) and it.power == 100 for it in heard), f"the agent is told its setpoint: {heard} {said}")
+    assert Basis(0, 9, STEPS) in heard and said == [] and "Denied" not in made.log
+    link.close()
 
 
 def broker_of(made, login):
