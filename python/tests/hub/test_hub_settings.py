@@ -8,6 +8,7 @@ import time
 from pathlib import Path
 
 import pytest
+from brokers import SECONDS
 
 from cogmaula import cli
 from cogmaula.cluster import Basis
@@ -145,7 +146,7 @@ def test_the_command_draws_tokens_for_256_agents_at_once(config, tmp_path, capsy
     (tmp_path / "list").write_text("# all\n" + "".join(f"{agent} {child}\n" for agent, child in children.items()))
     begin = time.monotonic()
     assert cli.main(["hub", "--config", config, "--new-tokens", str(tmp_path / "list"), "--into", str(tmp_path / "out")]) == 0
-    assert time.monotonic() - begin < 5
+    assert time.monotonic() - begin < SECONDS / 2
     entries = TokenFile(tmp_path / "agents").read()
     assert {it.agent: it.child for it in entries.values()} == children
     paths = capsys.readouterr().out.split()

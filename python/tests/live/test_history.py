@@ -15,7 +15,7 @@ import time
 from pathlib import Path
 
 import pytest
-from brokers import TOP, free_port, live_program, require_broker, wait_until
+from brokers import SECONDS, TOP, free_port, live_program, require_broker, wait_until
 from made import MadeMarket
 from markets import STEPS, falls_at
 from pretended import MOMENT, SESSION
@@ -145,7 +145,7 @@ def test_rows_are_kept_once_and_all_or_none(url):
     tables = {it.table for it in rows}
     assert {it: database.read(f"SELECT count(*) FROM {it}")[0][0] for it in tables} == {it: sum(row.table == it for row in rows) for it in tables}
     assert database.read("SELECT clearing, price, step FROM clearings") == [(7, 2, 2)]
-    (query,) = re.findall(r"^    (SELECT own\.at.*(?:\n    .*)*)", (TOP / "docs" / "HISTORY.md").read_text(), re.MULTILINE)
+    (query,) = re.findall(r"^    (SELECT own\.at.*(?:\n    .*)*)", (TOP / "docs" / "OPERATE.md").read_text(), re.MULTILINE)
     assert database.read(query) == [(AT, 2, 4)], "the query of the page: the street passed 4 where it had 2"
     measured = Row("measured", {"device": "x", "at": 1.0, "power": 1})
     with pytest.raises(OSError, match="nowhere"):
@@ -226,8 +226,7 @@ def test_a_kill_at_any_moment_loses_and_repeats_nothing(url, tmp_path):
     with MadeMarket(tmp_path) as made:
         history, operator = History(made, url), made.client("operator")
         history.start()
-        wait_until(lambda: "as history" in made.log, "the history is connected")
-        time.sleep(0.5)
+        wait_until(lambda: "Sending SUBACK to history" in made.log, "the history reads")
         for name in ("auctioneer", "street", "house", "store"):
             made.start(name, live)
         for turn in range(5):
@@ -261,7 +260,7 @@ def test_a_kill_at_any_moment_loses_and_repeats_nothing(url, tmp_path):
             prices = database.read("SELECT parent, child, clearing, step FROM prices")
             return {"bids": set(bids), "prices": set(prices)}
 
-        wait_until(lambda: kept() == seen(), f"all is kept: {[{it: seen()[it] ^ kept()[it] for it in seen()}]}", 20)
+        wait_until(lambda: kept() == seen(), f"all is kept: {[{it: seen()[it] ^ kept()[it] for it in seen()}]}")
         assert len(seen()["bids"]) > 40
         assert len(seen()["prices"]) > 20
         newest = made.controls["house"].setpoints[-1]
@@ -269,6 +268,6 @@ def test_a_kill_at_any_moment_loses_and_repeats_nothing(url, tmp_path):
         query = "SELECT clearing, number, power FROM setpoints WHERE device = ? ORDER BY clearing DESC, number DESC LIMIT 1"
         wait_until(lambda: database.read(query, ["house"]) == [due], "the newest setpoint")
         history.process.send_signal(signal.SIGTERM)
-        assert history.process.wait(20) == 0
+        assert history.process.wait(SECONDS) == 0
         database.close()
         assert (made.out / "history.err").read_text() == ""

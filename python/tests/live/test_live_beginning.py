@@ -5,10 +5,9 @@ from __future__ import annotations
 import hashlib
 import json
 import threading
-import time
 
 import pytest
-from brokers import wait_until
+from brokers import SECONDS, wait_until
 from pretended import (
     BASIS,
     BASIS_TOPIC,
@@ -497,15 +496,14 @@ def test_run_ends_with_the_state_down_and_why(tmp_path, how):
     thread = threading.Thread(target=work)
     thread.start()
     wait_until(lambda: links[0].topics, "the start of the connection")
-    begin = time.monotonic()
     if how == "stopped":
         node._events.put(None)
         node.stop()
     else:
         links[0].comes(BASIS_TOPIC, basis_payload(basis=Basis(0, 99, 100)))
         links[0].settles()
-    thread.join(5)
-    assert time.monotonic() - begin < 1
+    thread.join(SECONDS)
+    assert not thread.is_alive(), "it ends at once, and does not wait for the broker"
     told = json.loads(links[0].closed.payload)
     assert told["state"] == "down"
     assert told["why"] == ("stopped" if how == "stopped" else str(raised[0]))

@@ -183,7 +183,7 @@ def test_the_newest_alone_of_a_topic_waits(tmp_path):
         for number in range(50):
             onlooker.publish("market/street/price/2", str(number).encode())
         onlooker.publish(STATE, b"of somebody else")
-        time.sleep(0.3)
+        wait_until(lambda: STATE in one.broker._inbox, "the last message")
         found = one.broker.taken()
         assert [it.payload for it in found] == [b"49", b"of somebody else"]
         assert one.broker.taken() == []
@@ -358,17 +358,18 @@ def test_two_connections_of_one_name_take_it_from_each_other(tmp_path):
         one.says("The next try is in")
 
 
-def test_closing_takes_less_than_a_second(tmp_path):
+def test_closing_ends_in_its_time_if_the_broker_stands_still(tmp_path):
+    """With a broker that answers it ends long before its time."""
     with Mosquitto(tmp_path) as broker:
         one = Connected(broker.port).settled()
         begin = time.monotonic()
-        one.broker.close(Publication(STATE, b"ended"), 0.5)
-        assert time.monotonic() - begin < 0.6
+        one.broker.close(Publication(STATE, b"ended"), SECONDS)
+        assert time.monotonic() - begin < SECONDS / 2
         one = Connected(broker.port).settled()
         broker.process.send_signal(19)
         begin = time.monotonic()
         one.broker.close(Publication(STATE, b"ended"), 0.5)
-        assert time.monotonic() - begin < 1
+        assert time.monotonic() - begin < SECONDS / 2
         broker.process.send_signal(18)
 
 

@@ -285,7 +285,7 @@ def test_a_killed_node_is_down_by_its_last_will(broker, live, tmp_path, onlooker
     request.addfinalizer(one.kill)
     wait_until(lambda: b'"up"' in onlooker.payload("market/auctioneer/state"), "it is up")
     one.kill()
-    wait_until(lambda: b'"down"' in onlooker.payload("market/auctioneer/state"), "it is down", 5)
+    wait_until(lambda: b'"down"' in onlooker.payload("market/auctioneer/state"), "it is down")
 
 
 def require_prices_of_bids(messages):

@@ -7,12 +7,11 @@ import re
 import shutil
 import socket
 import subprocess
-import time
 import urllib.parse
 import urllib.request
 
 import pytest
-from brokers import TOP, free_port, live_program, require_broker, wait_until
+from brokers import SECONDS, TOP, free_port, live_program, require_broker, wait_until
 from looking import Served, get, require_page
 from made import TREE, MadeMarket
 from markets import STEPS, falls_at
@@ -193,7 +192,7 @@ def test_prometheus_scrapes_a_market_and_each_query_of_the_dashboard_answers(tmp
     words = [f"--config.file={tmp_path}/prometheus.yml", f"--storage.tsdb.path={tmp_path}/data", f"--web.listen-address=127.0.0.1:{own}"]
 
     def asked(path, **query):
-        told = urllib.request.urlopen(f"http://127.0.0.1:{own}/api/v1/{path}?{urllib.parse.urlencode(query)}", timeout=10).read()
+        told = urllib.request.urlopen(f"http://127.0.0.1:{own}/api/v1/{path}?{urllib.parse.urlencode(query)}", timeout=SECONDS).read()
         return json.loads(told)["data"]
 
     with MadeMarket(tmp_path, tree) as made, open(tmp_path / "said", "wb") as said:
@@ -212,10 +211,8 @@ def test_prometheus_scrapes_a_market_and_each_query_of_the_dashboard_answers(tmp
                     return {it["metric"]["node"]: it["value"][1] for it in asked("query", query="market_power_watts")["result"]}
 
                 wait_until(lambda: powers() == due, "the powers")
-                time.sleep(3)
                 for query in queries_of(json.loads(DASHBOARD.read_text())["panels"]):
-                    found = asked("query", query=query.replace("$node", ".*"))["result"]
-                    assert found, query
+                    wait_until(lambda it=query: asked("query", query=it.replace("$node", ".*"))["result"], query)
                 assert asked("query", query="market_price{node='store'}")["result"][0]["value"][1] == "4"
                 assert asked("query", query="ALERTS")["result"] == []
             finally:

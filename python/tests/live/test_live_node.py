@@ -238,9 +238,9 @@ def test_a_service_that_does_not_answer_is_ended(joined, monkeypatch, sort):
         one.control.offer(b'{"power": [5, -3]}')
     one.turned()
     assert one.service.read[-1] in (Clear().to_bytes(), Offer((5, -3)).to_bytes())
-    monkeypatch.setattr(serving, "PATIENCE", 0.05)
     one.turned()
     assert not one.service.is_killed
+    monkeypatch.setattr(serving, "PATIENCE", 0.05)
     time.sleep(0.1)
     one.turned()
     assert one.service.is_killed

@@ -11,7 +11,7 @@ import socket
 import time
 
 import pytest
-from brokers import wait_until
+from brokers import SECONDS, wait_until
 from looking import Served, cells_of, dom_of, get, require_browser, require_page
 from pretended import MOMENT, settings
 from told import Told, village
@@ -124,9 +124,9 @@ def test_a_change_is_told(served):
         async with served.socket() as one:
             found = [json.loads(await one.recv())]
             served.board.take(Told().price("auctioneer", 1, 6, 8, 5).messages.values())
-            found.append(json.loads(await asyncio.wait_for(one.recv(), 5)))
+            found.append(json.loads(await asyncio.wait_for(one.recv(), SECONDS)))
             served.board.lost()
-            found.append(json.loads(await asyncio.wait_for(one.recv(), 5)))
+            found.append(json.loads(await asyncio.wait_for(one.recv(), SECONDS)))
             return found
 
     before, after, lost = asyncio.run(prices())
@@ -146,7 +146,7 @@ def test_changes_are_told_at_most_twice_a_second(served):
                 served.board.take(Told().price("auctioneer", 1, 6, index, 5).messages.values())
                 await asyncio.sleep(0.01)
             while not found or found[-1] != 207:
-                found.append(json.loads(await asyncio.wait_for(one.recv(), 5))["clearing"])
+                found.append(json.loads(await asyncio.wait_for(one.recv(), SECONDS))["clearing"])
             return found, time.monotonic() - begin
 
     found, seconds = asyncio.run(told())
@@ -159,7 +159,7 @@ def test_a_view_is_told_again_after_a_silence(served, monkeypatch):
 
     async def two():
         async with served.socket() as one:
-            return [await asyncio.wait_for(one.recv(), 5) for _ in range(2)]
+            return [await asyncio.wait_for(one.recv(), SECONDS) for _ in range(2)]
 
     first, again = asyncio.run(two())
     assert first == again
@@ -183,11 +183,11 @@ def test_what_a_client_sends_is_dropped_and_a_large_message_ends_it(served):
             for _ in range(200):
                 await one.send("x" * 1_000)
             served.board.take(Told().price("auctioneer", 1, 6, 8, 5).messages.values())
-            assert json.loads(await asyncio.wait_for(one.recv(), 5))["clearing"] == 8
+            assert json.loads(await asyncio.wait_for(one.recv(), SECONDS))["clearing"] == 8
             await one.send("x" * 1_025)
             with pytest.raises(ConnectionClosed):
                 while True:
-                    await asyncio.wait_for(one.recv(), 5)
+                    await asyncio.wait_for(one.recv(), SECONDS)
             return one.close_code
 
     assert asyncio.run(codes()) == 1009
@@ -268,9 +268,9 @@ def test_a_port_that_is_taken_is_a_line_and_tried_again():
     port = taken.getsockname()[1]
     one = Served(village(), listen=f"127.0.0.1:{port}")
     one.page.start()
-    wait_until(lambda: one.said, "the line", 5)
+    wait_until(lambda: one.said, "the line")
     taken.close()
-    wait_until(lambda: one.page.port == port, "the page is served", 5)
+    wait_until(lambda: one.page.port == port, "the page is served")
     assert one.said == [f"the page cannot be served at 127.0.0.1:{port} (Address already in use): it is tried again each 0.1 s"]
     assert one.view()["clearing"] == 7
     one.page.close(5)
@@ -290,7 +290,7 @@ def test_a_page_that_fails_leaves_the_node_alone(tmp_path, monkeypatch):
     monkeypatch.setattr(page_file.Page, "_serve", lambda _: 1 // 0)
     showing = Showing(settings("relay", tmp_path, page=PageSettings("127.0.0.1:0")), said.append)
     showing.start()
-    wait_until(lambda: said, "the line", 5)
+    wait_until(lambda: said, "the line")
     showing.take([])
     showing.tick(True)
     showing.close(1)
@@ -313,7 +313,7 @@ def test_without_websockets_the_node_goes_on_with_a_line(tmp_path, monkeypatch):
 def test_a_node_shows_what_it_hears(joined):
     one = joined("relay", page=PageSettings("127.0.0.1:0")).begun()
     one.node.showing.start()
-    wait_until(lambda: one.node.showing.port, "the page is served", 5)
+    wait_until(lambda: one.node.showing.port, "the page is served")
     one.node.showing.tick(True)
     told = json.loads(get(one.node.showing.port, "/view")[2])
     assert (told["own"], told["lost_since"], told["basis"]) == ("street", None, {"min": 0, "max": 9, "steps": 2})

@@ -9,6 +9,7 @@ import time
 from datetime import datetime, timedelta, timezone
 
 import pytest
+from brokers import SECONDS
 from pretended import BASIS, LATER, MOMENT, SESSION, device_resume, resume_gone
 
 from cogmaula.live.asking import Asking
@@ -388,7 +389,7 @@ def test_lines_come_in_and_go_out():
         os.write(ends.into, piece)
         time.sleep(0.02)
     os.close(ends.into)
-    assert [ends.offered.get(timeout=5) for _ in range(3)] == [b'{"power": [1]}', b'{"leave": true}', b"last"]
+    assert [ends.offered.get(timeout=SECONDS) for _ in range(3)] == [b'{"power": [1]}', b'{"leave": true}', b"last"]
     ends.control.write(b"one")
     ends.control.write(b"two")
     found = b""
@@ -400,27 +401,27 @@ def test_lines_come_in_and_go_out():
 def test_a_line_without_end_takes_no_memory():
     ends = Ends()
     os.write(ends.into, b"x" * 40_000)
-    assert "is above 32768 bytes" in ends.said.get(timeout=5)
+    assert "is above 32768 bytes" in ends.said.get(timeout=SECONDS)
     os.write(ends.into, b"\n{}\n")
-    assert ends.offered.get(timeout=5) == b"{}"
+    assert ends.offered.get(timeout=SECONDS) == b"{}"
 
 
 def test_a_reader_that_has_gone_is_told():
     ends = Ends()
     os.close(ends.out_of)
     ends.control.write(b"one")
-    assert "setpoints go to the topic alone" in ends.said.get(timeout=5)
+    assert "setpoints go to the topic alone" in ends.said.get(timeout=SECONDS)
 
 
 def test_a_reader_that_does_not_read_holds_nobody_up():
     ends = Ends()
     for _ in range(3_000):
         ends.control.write(b"x" * 1_000)
-    assert "nobody reads standard output" in ends.said.get(timeout=5)
+    assert "nobody reads standard output" in ends.said.get(timeout=SECONDS)
 
 
 def test_an_input_that_cannot_be_read_is_told():
     reads = os.open(os.curdir, os.O_RDONLY)
     said = queue.Queue()
     StandardControl(reads, 1).start(lambda _: None, said.put)
-    assert "standard input cannot be read" in said.get(timeout=5)
+    assert "standard input cannot be read" in said.get(timeout=SECONDS)

@@ -11,7 +11,7 @@ import time
 from datetime import datetime, timezone
 
 import pytest
-from brokers import Mosquitto, Onlooker, live_program, require_broker, wait_until
+from brokers import SECONDS, Mosquitto, Onlooker, live_program, require_broker, wait_until
 from markets import PLACES, STEPS, Market, Process, falls_at
 
 
@@ -129,7 +129,7 @@ def test_a_device_that_was_dropped_and_lives_is_back_within_a_second(market, bro
     assert "street has let it go" in told[silent]["why"]
     # The service leaves and offers anew, which takes the numbers 4 and 6 behind the parent's 3.
     assert told[-1]["bid"] == 6
-    assert seconds < 5, "a second, and what the command itself takes on a busy machine"
+    assert seconds < SECONDS / 4, "a second, and what the command itself takes on a busy machine"
     wait_until(lambda: onlooker.payload("market/street/lapsed/2") == b"", "the topic is cleared")
     assert any(isinstance(frame_of(it[1], PRICES, STEPS), Old) for it in onlooker.all if it[0] == "market/street/price/2" and it[1])
     assert main(["market", "drop", "auctioneer", "1", "--config", str(tmp_path / "operator.toml")]) == 1
@@ -228,13 +228,13 @@ class Path:
         before = self.times_of_silence()
         mend = self.cut(where)
         begin = time.monotonic()
-        wait_until(lambda: is_silent(self.house.setpoints), f"silence is told after a cut of the {where}", 20)
-        assert time.monotonic() - begin < FAST["validity"] + 3, "validity, and what a busy machine takes"
+        wait_until(lambda: is_silent(self.house.setpoints), f"silence is told after a cut of the {where}")
+        assert time.monotonic() - begin < FAST["validity"] + SECONDS / 4, "validity, and what a busy machine takes"
         assert self.house.setpoints[-1]["power"] == -7
         if where in ("relay", "wire"):
             assert not is_silent(self.mill)
         mend()
-        wait_until(lambda: "clearing" in self.house.setpoints[-1], f"the market is back behind the {where}", 40)
+        wait_until(lambda: "clearing" in self.house.setpoints[-1], f"the market is back behind the {where}")
         last_silent = max(at for at, it in enumerate(self.house.setpoints) if it.get("market") == "silent")
         assert self.house.setpoints[last_silent + 1].get("market") == "live", "that it lives is told before a setpoint is"
         assert self.times_of_silence()[0] == before[0] + 1, "it is told once"
