@@ -35,6 +35,8 @@ def tables_of(tree: Tree, member: Member, places: Places) -> dict[str, dict[str,
     if member.page is not None:
         own = {"user": member.name + PAGE, "password_file": f"{etc}/{member.name}{PAGE}.password"} if member.page.get("whole") else {}
         found["page"] = {**member.page, **own}
+    if member.device is not None:
+        found["device"] = dict(member.device)
     bounds: dict[str, Any] = {}
     for it in tree.children(member.name):
         pause = DEVICE_PAUSE if it.sort == "device" and "child_pause" not in member.more else None

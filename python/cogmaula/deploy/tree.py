@@ -24,7 +24,7 @@ MOST_RELAYS = 6
 TAKEN = ("broker", "authority", "state")
 # What a node's own login is followed by in the name of a further one.
 CONTROL, PAGE = ".control", ".page"
-_OWN = ("parent", "child", "least", "greatest", "host", "control", "page")
+_OWN = ("parent", "child", "least", "greatest", "host", "control", "page", "device")
 
 
 @dataclass(frozen=True)
@@ -77,6 +77,7 @@ class Member:
     host:    the machine that it runs on, None for one of its own
     control: whether a device's control has a login of its own
     page:    the table `page` of its settings, None without a page
+    device:  the table `device` of its settings, the kind of a device, None if its control offers otherwise or names it
     more:    further members of the table `node` of its settings
     """
 
@@ -89,6 +90,7 @@ class Member:
     host: str | None = None
     control: bool = False
     page: Mapping[str, Any] | None = None
+    device: Mapping[str, Any] | None = None
     more: Mapping[str, Any] = field(default_factory=dict)
 
 
@@ -199,7 +201,7 @@ class Tree:
         found: dict[str, dict[str, Any]] = {it: dict(vars(getattr(self, it))) for it in ("market", "basis", "broker")}
         for it in self.members:
             own = {name: getattr(it, name) for name in ("parent", "child", "least", "greatest", "host")}
-            told = {**own, "control": it.control or None, **it.more, "page": it.page}
+            told = {**own, "control": it.control or None, **it.more, "page": it.page, "device": it.device}
             if it.sort == "auctioneer":
                 found["auctioneer"] = {"name": it.name, **told}
             else:
@@ -260,6 +262,8 @@ def _member(sort: Sort, name: str, table: Mapping[str, Any]) -> Member:
         own["page"] = {"listen": page, "whole": True}
     elif page is not None:
         own["page"] = dict(_table(page, f"page of {name}"))
+    if "device" in own:
+        own["device"] = dict(_table(own["device"], f"device of {name}"))
     for it, kind in (("parent", str), ("child", int), ("least", int), ("greatest", int), ("host", str), ("control", bool)):
         if it in own and (type(own[it]) is not kind):
             raise BadSettings(f"{it} of {name} is {own[it]!r}: give {'a text' if kind is str else 'a whole number' if kind is int else 'true or false'}")

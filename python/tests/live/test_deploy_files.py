@@ -17,6 +17,7 @@ from cogmaula.deploy.node_files import tables_of
 from cogmaula.deploy.toml_text import toml_text
 from cogmaula.deploy.tree import tree_of
 from cogmaula.live import Node, settings_of
+from cogmaula.live.kinds import DeviceKind
 from cogmaula.live.rights import Right
 
 BASIS = "[basis]\nmin = 0\nmax = 9\nsteps = 10\n"
@@ -71,10 +72,18 @@ def test_a_device_is_below_six_relays_at_most():
 
 
 def test_a_wrong_setting_of_a_node_is_named(tmp_path):
-    for text, due in (("[devices.a]\nfloor = 1", "a: floor"), ("[devices.a]\nleast = 5", "auctioneer: child 1 has least 5"), ("[relays.a]\npage = 'x'", "a: page.listen is 'x'")):
+    for text, due in (("[devices.a]\nfloor = 1", "a: floor"), ("[devices.a]\nleast = 5", "auctioneer: child 1 has least 5"), ("[devices.a.device]\nkind = 'oven'", "a: device: "), ("[relays.a.device]\nkind = 'load'", "a: the table device is for a device"), ("[relays.a]\npage = 'x'", "a: page.listen is 'x'")):
         with pytest.raises(BadSettings, match=due):
             init_market(tree(text), tmp_path / "market")
         assert not (tmp_path / "market").exists()
+
+
+def test_the_kind_of_a_device_is_in_its_settings(tmp_path):
+    """`load` has no parameters. It stays in the file that names the market."""
+    told = tree("[devices.a]\n[devices.a.device]\nkind = 'load'")
+    assert tree_of(tomllib.loads(toml_text(told.to_tables()))) == told
+    settings = settings_of("device", tables_of(told, told.member("a"), Places(tmp_path, True)))
+    assert settings.device == DeviceKind.of({"kind": "load"})
 
 
 def test_numbers_are_given_and_kept():
