@@ -9,6 +9,7 @@ from collections.abc import Callable
 from dataclasses import dataclass
 
 from ..live.errors import BadSettings
+from ..live.frames import AnyOffer, Offer, Points, Stated
 
 
 @dataclass(frozen=True)
@@ -104,9 +105,17 @@ class Guard:
         least = self._limits.run if self.written else self._limits.pause
         return self.written if now - self._since < least else None
 
-    def bounded(self, demands: tuple[int, ...]) -> tuple[int, ...]:
-        """The demands that the device may offer, within its bounds."""
-        return tuple(map(self._bounded, demands))
+    def bounded(self, offer: AnyOffer) -> AnyOffer:
+        """What the device may offer, each power within its bounds. A kind with powers of its own is one whose powers are within them."""
+        match offer:
+            case Offer():
+                return Offer(tuple(map(self._bounded, offer.demands)))
+            case Points():
+                return Points.of([(price, self._bounded(power)) for price, power in offer.points])
+            case Stated(kind, state):
+                if kind.kind == "load":
+                    return Stated(kind, self._bounded(state))
+                return Stated(kind, -self._bounded(-state)) if kind.kind == "solar" else offer
 
     def _bounded(self, power: int) -> int:
         return min(max(power, self._limits.least), self._limits.greatest)

@@ -18,9 +18,9 @@ from typing import Any, Protocol
 
 from ..cluster import Basis
 from ..live.errors import BadMessage
-from ..live.messages import object_of
+from ..live.frames import AnyOffer, Leave, Offer, Points, Stated
+from ..live.messages import members_of, object_of
 from ..live.sessions import time_of
-from ..simulation.device import Demands
 from .mqtt import BrokerPlace, Client
 
 # The seconds between tries to connect, those within which something is written, and those of silence after which a connection counts as
@@ -52,8 +52,8 @@ class Link(Protocol):
     def start(self, take: Callable[[Word], None], say: Callable[[str], None]) -> None:
         """Calls `take` with each word of the market from now on, from any thread; first of all with the basis."""
 
-    def offer(self, demands: Demands | None) -> None:
-        """Offers what the device would take at each step, None to leave. The newest offer counts, also after a connection was lost."""
+    def offer(self, offer: AnyOffer | None) -> None:
+        """Offers this, None to leave. The newest offer counts, also after a connection was lost."""
 
     def close(self) -> None:
         """Ends the connection."""
@@ -94,12 +94,11 @@ class HubLink:
         self._thread = threading.Thread(target=self._work, daemon=True)
         self._thread.start()
 
-    def offer(self, demands: Demands | None) -> None:
+    def offer(self, offer: AnyOffer | None) -> None:
         """See Link."""
         with self._lock:
             self._number += 1
-            told: dict[str, Any] = {"leave": True} if demands is None else {"bidUpdate": {"bidNumber": self._number, "demandArray": demands}}
-            self._newest, self._is_new = json.dumps(told).encode() + b"\n", True
+            self._newest, self._is_new = b"".join(json.dumps(it).encode() + b"\n" for it in _words_of(offer, self._number)), True
         self._wakes.send(b".")
 
     def close(self) -> None:
@@ -169,9 +168,9 @@ class HubLink:
     def _send(self, one: socket.socket) -> None:
         """Sends the newest offer, if it is not sent yet."""
         with self._lock:
-            line, self._is_new = self._newest if self._is_new else None, False
-        if line is not None:
-            one.sendall(line)
+            lines, self._is_new = self._newest if self._is_new else None, False
+        if lines is not None:
+            one.sendall(lines)
 
     def _welcome(self, line: bytes) -> None:
         told = object_of(line, "the hub's answer")
@@ -208,6 +207,21 @@ def _read(one: socket.socket) -> bytes | None:
         one.settimeout(WRITTEN)
 
 
+def _words_of(offer: AnyOffer | None, number: int) -> list[dict[str, Any]]:
+    """An offer of this number in the words of a hub. A connection that is new knows no kind, so a state has its kind before it."""
+    match offer:
+        case None:
+            return [{"leave": True}]
+        case Offer():
+            bid: dict[str, Any] = {"demandArray": offer.demands}
+        case Points():
+            bid = {"pricePoints": [{"price": price, "demand": power} for price, power in offer.points]}
+        case Stated():
+            bid = {"state": offer.state}
+    kinds = [{"device": offer.kind.members()}] if isinstance(offer, Stated) else []
+    return [*kinds, {"bidUpdate": {"bidNumber": number, **bid}}]
+
+
 class NodeLink:
     """The topics of the device's node at a broker: the agent is its control. See Link."""
 
@@ -225,9 +239,9 @@ class NodeLink:
         self._sending = threading.Thread(target=self._send_all, daemon=True)
         self._sending.start()
 
-    def offer(self, demands: Demands | None) -> None:
+    def offer(self, offer: AnyOffer | None) -> None:
         """See Link."""
-        self._newest.put(json.dumps({"leave": True} if demands is None else {"power": demands}))
+        self._newest.put(json.dumps(members_of(Leave() if offer is None else offer)))
 
     def _send_all(self) -> None:
         """Publishes the newest offer until the broker has it."""

@@ -9,7 +9,8 @@ from collections.abc import Callable
 from datetime import datetime
 
 from ..cluster import Basis
-from ..simulation.device import BadBid, Demands, demands_of
+from ..live.frames import AnyOffer
+from ..simulation.device import BadBid, offer_of
 from .guard import Guard
 from .links import Setpoint, Silent, Word
 from .settings import Access, AgentSettings
@@ -37,7 +38,7 @@ class Agent:
         self._lock = threading.Lock()
         self._reading: tuple[float, float] | None = None
         self._basis: Basis | None = None
-        self._offered: Demands | None = None
+        self._offered: AnyOffer | None = None
         self._tried, self._stepped = -float("inf"), time.monotonic()
 
     def run(self) -> None:
@@ -129,12 +130,12 @@ class Agent:
                 self._offered = None
                 self._link.offer(None)
             return
-        demands = self._bid(state, now, self._basis)
-        if demands is not None and demands != self._offered:
-            self._offered = demands
-            self._link.offer(demands)
+        offer = self._bid(state, now, self._basis)
+        if offer is not None and offer != self._offered:
+            self._offered = offer
+            self._link.offer(offer)
 
-    def _bid(self, state: float, now: float, basis: Basis) -> Demands | None:
+    def _bid(self, state: float, now: float, basis: Basis) -> AnyOffer | None:
         settings, device = self._settings, self._settings.device
         if self._source is not None:
             setattr(device, settings.member, state)
@@ -143,7 +144,7 @@ class Agent:
         self._say_once("fixed", told)
         try:
             own = device.bid(datetime.now().astimezone())
-            found = self._guard.bounded(demands_of(own if fixed is None else fixed, basis, device.name))
+            found = self._guard.bounded(offer_of(own if fixed is None else fixed, basis, device.name))
         except BadBid as error:
             self._say_once("bid", f"the bid is not offered: {error}")
             return None

@@ -9,7 +9,8 @@ from dataclasses import dataclass
 from pathlib import Path
 from typing import Any
 
-from ..live.errors import BadSettings
+from ..live.errors import BadFrame, BadSettings
+from ..live.kinds import DeviceKind
 from ..live.settings import read_toml, value_of
 from ..live.topics import require_name, require_prefix
 from ..simulation import Battery, Boiler, Cogeneration, Device, HeatPump, Load, Solar, Vehicle
@@ -18,6 +19,7 @@ from .links import HubLink, HubPlace, Link, NodeLink
 from .modbus import Modbus, ModbusPlace
 from .mqtt import BrokerPlace, Mqtt, MqttPlace
 from .plain import Command, CommandPlace, Csv, CsvPlace, Http, HttpPlace
+from .stated import StatedDevice
 
 TABLES = ("agent", "market", "device", "limits", "state", "setpoint")
 # Those that each file has.
@@ -97,10 +99,12 @@ def agent_settings_of(tables: Mapping[str, Mapping[str, Any]], folder: Path = Pa
     for name in NEEDED:
         if name not in tables:
             raise BadSettings(f"the table [{name}] is missing: a file has {', '.join(f'[{it}]' for it in NEEDED)}, and may have [agent] and [state]")
-    device, member = _device_of(dict(tables["device"]), folder)
+    limits = value_of(Limits, tables["limits"], "limits")
+    is_stated = "kind" in tables["device"]
+    device, member = (_stated_of(tables, limits), "state") if is_stated else _device_of(dict(tables["device"]), folder)
     return AgentSettings(
         value_of(Times, tables.get("agent", {}), "agent"),
-        value_of(Limits, tables["limits"], "limits"),
+        limits,
         _market_of(dict(tables["market"])),
         device,
         member,
@@ -130,13 +134,27 @@ def _place_of(table: dict[str, Any], name: str) -> Any:
     return value_of(PLACES[kind], table, name)
 
 
+def _stated_of(tables: Mapping[str, Mapping[str, Any]], limits: Limits) -> StatedDevice:
+    """The device of the kind that the table tells. Raises BadSettings."""
+    try:
+        kind = DeviceKind.of(tables["device"])
+    except BadFrame as error:
+        raise BadSettings(f"device: {error}") from None
+    if "state" not in tables:
+        raise BadSettings("the table [state] is missing: a device of a kind has no state but the one that is read")
+    least, greatest = kind.powers
+    if not limits.least <= least <= greatest <= limits.greatest:
+        raise BadSettings(f"a {kind.kind} takes {least} to {greatest} W, and limits are {limits.least} to {limits.greatest}: give limits that hold its powers")
+    return StatedDevice(kind)
+
+
 def _device_of(table: dict[str, Any], folder: Path) -> tuple[Device, str]:
     """The model that a table tells, and the member that is its state. Raises BadSettings."""
     if "strategy" in table:
         return _strategy_of(table, folder), "state"
     model = table.pop("model", None)
     if model not in MODELS:
-        raise BadSettings(f"device.model is {model!r}: give one of {', '.join(MODELS)}, or a strategy of your own")
+        raise BadSettings(f"device.model is {model!r}: give one of {', '.join(MODELS)}, a kind, or a strategy of your own")
     kind, member, first = MODELS[model]
     if member in table:
         raise BadSettings(f"device.{member} is what [state] reads: take it out")

@@ -11,9 +11,9 @@ from typing import Any
 
 from ..cluster import Basis
 from ..live.errors import BadFrame, BadMessage
-from ..live.frames import Points, require_demands
+from ..live.frames import Offer, Points, require_demands
 from ..live.kinds import DeviceKind
-from ..live.messages import object_of, require_reference, stated
+from ..live.messages import members_of, object_of, require_reference, stated
 
 # The longest line or message, in bytes.
 LONGEST = 32_768
@@ -95,14 +95,13 @@ def _offer_of(bid: dict[str, Any], basis: Basis, kind: DeviceKind | None) -> dic
         case ["demandArray"]:
             demands = tuple(_whole(it, "a demand", "watts") for it in _list(bid, "demandArray"))
             require_demands(demands, basis.steps)
-            return {"power": demands}
+            return members_of(Offer(demands))
         case ["pricePoints"]:
             points = Points.of(_points(_list(bid, "pricePoints")))
             points.require_over(basis)
-            return {"points": points.points}
+            return members_of(points)
         case ["state"]:
-            said = stated(_whole(bid["state"], "a state", "units of the kind"), kind)
-            return {**said.kind.members(), "state": said.state}
+            return members_of(stated(_whole(bid["state"], "a state", "units of the kind"), kind))
     raise BadMessage(f"a bid has a demandArray, pricePoints or a state, and may have a bidNumber: {SHAPES}")
 
 

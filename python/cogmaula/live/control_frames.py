@@ -133,8 +133,9 @@ class Stated:
     state: int
 
 
-# What a control may want of its agent.
-Wanted = Offer | Points | Stated | Leave
+# The ways to offer, and what a control may want of its agent.
+AnyOffer = Offer | Points | Stated
+Wanted = AnyOffer | Leave
 
 
 def frames_of(wanted: Wanted) -> tuple[Frame, ...]:

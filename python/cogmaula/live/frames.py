@@ -13,7 +13,7 @@ from dataclasses import dataclass
 from typing import Literal
 
 from ..cluster import Basis
-from .control_frames import MOST_POINTS, Kind, Leave, Offer, Points, Setpoint, State, Stated, Wanted, frames_of
+from .control_frames import MOST_POINTS, AnyOffer, Kind, Leave, Offer, Points, Setpoint, State, Stated, Wanted, frames_of
 from .errors import BadFrame
 from .frame import (
     BASIS,
@@ -41,6 +41,7 @@ __all__ = [
     "CHILDREN",
     "LAST_NUMBER",
     "MOST",
+    "AnyOffer",
     "Frame",
     "Kind",
     "Leave",

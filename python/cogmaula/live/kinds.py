@@ -89,14 +89,31 @@ class DeviceKind:
         """The kind as `of` takes it."""
         return {"kind": self.kind, **dict(zip(PARAMETERS[self.kind], self.parameters, strict=True))}
 
+    @property
+    def powers(self) -> tuple[int, int]:
+        """The least and the greatest of the powers that are parameters, in watts, below 0 to give; 0 and 0 of a kind without."""
+        named = self.members()
+        power, charge, discharge = (named.get(it, 0) for it in ("power", "charge", "discharge"))
+        return (-power, 0) if self.kind == "cogeneration" else (-discharge, power + charge)
+
     def require_state(self, state: int) -> None:
         """Raises BadFrame if no device of the kind may have this state."""
-        match self.kind:
-            case "battery":
-                unit, least, greatest = "watt-hours", 0, self.parameters[0]
-            case "solar" | "load":
-                unit, least, greatest = "watts", 0, MOST
-            case _:
-                unit, least, greatest = "units of temperature", -_TEMPERATURE, _TEMPERATURE
+        unit, least, greatest = self._states
         if not least <= state <= greatest:
             raise BadFrame(f"the state of a {self.kind} is {state}: give {least} to {greatest} {unit}")
+
+    def nearest_state(self, found: float) -> int:
+        """The state that is nearest to what was measured, in the unit of the kind."""
+        _, least, greatest = self._states
+        return min(max(round(found), least), greatest)
+
+    @property
+    def _states(self) -> tuple[str, int, int]:
+        """The unit of the states, and the least and the greatest one."""
+        match self.kind:
+            case "battery":
+                return "watt-hours", 0, self.parameters[0]
+            case "solar" | "load":
+                return "watts", 0, MOST
+            case _:
+                return "units of temperature", -_TEMPERATURE, _TEMPERATURE

@@ -213,6 +213,19 @@ class OfferMessage:
         return OfferMessage(wanted, time, reference, kind)
 
 
+def members_of(wanted: Wanted) -> dict[str, Any]:
+    """The members of the message that asks for it. A state is told with its kind."""
+    match wanted:
+        case Leave():
+            return {"leave": True}
+        case Offer():
+            return {"power": wanted.demands}
+        case Points():
+            return {"points": wanted.points}
+        case Stated():
+            return {**wanted.kind.members(), "state": wanted.state}
+
+
 _FORMS = '{"power": [WATTS, ..]}, {"points": [[PRICE, WATTS], ..]}, {"state": NUMBER} or {"leave": true}'
 
 

@@ -7,14 +7,15 @@
                     Basis(0, 99, 100), ticks=96)
     print(done.prices)
 
-A device is a class with a name, a state, `bid` and `step`: see `Device`. The models are models, and no part of the proved market; the
-prices are the market's. docs/DEVICES.md says how to write a device of your own.
+A device is a class with a name, a state, `bid` and `step`: see `Device`. The models are models, and no part of the proved market. What a
+bid by points is at each price, and the prices, come from the proved programs. docs/DEVICES.md says how to write a device of your own.
 """
 
 from .battery import Battery
-from .device import BadBid, Bid, Demands, Device, demands_of
+from .device import BadBid, Bid, Demands, Device
 from .given import Load, Manual, Solar
 from .heating import Boiler, Cogeneration, HeatPump
+from .making import BidMaker
 from .markets import Group, Market
 from .profiles import Held, Profile
 from .simulating import BidsNotKept, Simulation, simulate
@@ -24,6 +25,7 @@ __all__ = [
     "BadBid",
     "Battery",
     "Bid",
+    "BidMaker",
     "BidsNotKept",
     "Boiler",
     "Cogeneration",
@@ -39,6 +41,5 @@ __all__ = [
     "Simulation",
     "Solar",
     "Vehicle",
-    "demands_of",
     "simulate",
 ]

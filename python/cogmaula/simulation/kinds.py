@@ -1,6 +1,6 @@
-"""The devices of a cluster file as models: they bid by its strategies, and its ticks are spread over their minutes.
+"""The devices of a cluster file as models: they bid by their kind and state, and ticks are spread over their minutes.
 
-docs/CLUSTER_FILE.md has the formulas. The bids are worked out here, in one place, for a market that takes demands for each step.
+The proved program makes the bid of a kind and a state. docs/CLUSTER_FILE.md has the formulas.
 """
 
 from __future__ import annotations
@@ -8,9 +8,10 @@ from __future__ import annotations
 from datetime import datetime
 from math import floor
 
-from ..cluster import Basis
 from ..limits import MOST_TEMPERATURE
-from ..nodes import Battery, Cogeneration, Freezer, HeatPump, Load, Manual, Node
+from ..live.frames import Stated
+from ..live.kinds import PARAMETERS, DeviceKind
+from ..nodes import Battery, Cogeneration, Freezer, HeatPump, Manual, Node, Objective
 from ..phases import State
 from .device import Bid
 
@@ -24,11 +25,11 @@ class ClusterDevice:
     tick: the minutes of the tick that passes, since `warm`, `cool`, `loss` and `gain` are changes for a tick
     """
 
-    def __init__(self, node: Node, basis: Basis, tick: int) -> None:
+    def __init__(self, node: Node, tick: int) -> None:
         """Takes the device with the state of its start."""
         self.node = node
         self.tick = tick
-        self._basis = basis
+        self._kind = DeviceKind(node.kind, tuple(getattr(node, it) for it in PARAMETERS.get(node.kind, ())))
         # A temperature, a charge in watt-hours, a power or a target in watts; of a manual device 0, since its bid is its state.
         self.state = float(getattr(node, "start", 0))
         self._manual: Bid = (node.demand or node.points or 0) if isinstance(node, Manual) else 0
@@ -46,27 +47,17 @@ class ClusterDevice:
             self._manual = event.demand or event.points or 0
 
     def bid(self, now: datetime) -> Bid:
-        """See Device: the bid of the kind and the state, whose part below a whole number does not count."""
-        node, state, last = self.node, floor(self.state + NEARLY), self._basis.steps - 1
-        match node:
+        """See Device: its kind and its state, whose part below a whole number does not count. A manual device has the bid of the file."""
+        match self.node:
             case Manual():
                 return self._manual
-            case Load():
-                return state
-            case Freezer() | HeatPump():
-                need = state - node.low if isinstance(node, Freezer) else node.high - state
-                end = -1 if need <= 0 else last if need >= node.high - node.low else need * last // (node.high - node.low)
-                return [node.power] * (end + 1) + [0] * (last - end)
-            case Cogeneration():
-                full = state - node.low
-                first = 0 if full <= 0 else last + 1 if state >= node.high else -(-full * last // (node.high - node.low))
-                return [0] * first + [-node.power] * (last + 1 - first)
-            case Battery():
-                middle = (node.capacity - state) * last // node.capacity
-                ends, begins = max(middle - node.spread, 0), min(middle + node.spread, last) + 1
-                return [node.charge] * ends + [0] * (begins - ends) + [-node.discharge] * (last + 1 - begins)
-            case _:
-                return -state
+            case Objective():
+                return -self._whole_state
+        return Stated(self._kind, self._whole_state)
+
+    @property
+    def _whole_state(self) -> int:
+        return floor(self.state + NEARLY)
 
     def step(self, power: int, minutes: float) -> None:
         """See Device: over all minutes of a tick the state changes as by that tick, except for rounding."""

@@ -8,8 +8,9 @@ from datetime import datetime, timedelta
 
 from ..cluster import Cluster
 from ..frames import START
+from ..live.frames import AnyOffer
 from ..phases import Event, Events, Join, Leave, State, Tick
-from .device import Demands, demands_of
+from .device import offer_of
 from .kinds import ClusterDevice
 
 # The minutes of a tick if the file has none.
@@ -44,7 +45,7 @@ class Life:
         self._basis = cluster.basis
         self._moments = list(moments_of(cluster))
         ticks = [it.what.minutes for it in self._moments if isinstance(it.what, Tick)]
-        self.devices = {it.name: ClusterDevice(it, cluster.basis, (ticks or [USUAL_TICK])[0]) for it in cluster.devices}
+        self.devices = {it.name: ClusterDevice(it, (ticks or [USUAL_TICK])[0]) for it in cluster.devices}
         self.members: set[str] = set()
         self.powers: dict[str, int] = dict.fromkeys(self.devices, 0)
         self.minute = 0.0
@@ -81,12 +82,10 @@ class Life:
             case State():
                 self.devices[event.device].set(event)
 
-    def bids(self) -> dict[str, Demands | None]:
-        """What each device bids now, in watts at each step, None if it is no member."""
+    def offers(self) -> dict[str, AnyOffer | None]:
+        """What each device offers now, None if it is no member."""
         now = self.now
-        return {
-            name: demands_of(it.bid(now), self._basis, name) if name in self.members else None for name, it in self.devices.items()
-        }
+        return {name: offer_of(it.bid(now), self._basis, name) if name in self.members else None for name, it in self.devices.items()}
 
     @property
     def now(self) -> datetime:

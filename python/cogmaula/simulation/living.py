@@ -22,14 +22,13 @@ from ..hub.showing import Showing
 from ..live.broker import Message
 from ..live.counting import NodeFacts
 from ..live.errors import LiveError
-from ..live.frames import MOST, PRICES, Price, Sort, frame_of
-from ..live.messages import StateMessage
+from ..live.frames import MOST, PRICES, AnyOffer, Leave, Price, Sort, frame_of
+from ..live.messages import StateMessage, members_of
 from ..live.node import Node
 from ..live.page_settings import PageSettings
 from ..live.settings import Settings
 from ..nodes import AUCTIONEER, Limited
 from ..program import LIVE_VARIABLE
-from .device import Demands
 from .life import Life
 
 # The seconds between two looks at the clock, in which models step and bid; and those between two clearings.
@@ -64,11 +63,11 @@ class ModelControl:
         told = json.loads(setpoint)
         self.power = told.get("power", self.power)
 
-    def offer(self, demands: Demands | None) -> None:
-        """Offers these demands in watts, None to leave. The same again is told to nobody."""
-        data = json.dumps({"leave": True} if demands is None else {"power": demands}).encode()
+    def offer(self, offer: AnyOffer | None) -> None:
+        """Offers this, None to leave. The same again is told to nobody."""
+        data = json.dumps(members_of(Leave() if offer is None else offer)).encode()
         with self._lock:
-            if data == self._offer or (self._offer is None and demands is None):
+            if data == self._offer or (self._offer is None and offer is None):
                 return
             self._offer = data
             if self._notify is not None:
@@ -212,8 +211,8 @@ class LivingCluster:
             now = passed if minutes is None else min(passed, minutes)
             for line in self.life.advance(now):
                 self._tell(f"{self._clock} {line}")
-            for name, demands in self.life.bids().items():
-                self.controls[name].offer(demands)
+            for name, offer in self.life.offers().items():
+                self.controls[name].offer(offer)
             self._stopping.wait(EVERY)
             for name in self.life.members:
                 self.life.powers[name] = self.controls[name].power

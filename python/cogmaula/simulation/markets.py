@@ -6,27 +6,22 @@ frames.
 
 from __future__ import annotations
 
-import os
 import struct
 import subprocess
 from collections.abc import Callable, Mapping, Sequence
-from contextlib import ExitStack, suppress
+from contextlib import ExitStack
 from dataclasses import dataclass, field
 from types import TracebackType
 from typing import TypeGuard
 
 from ..cluster import Basis
-from ..errors import ProgramFault
 from ..live.frames import CHILDREN, WRITES, Bid, Clear, Fault, Frame, Hello, Price, RelayResume, Send, Splitter, are_limits
 from ..program import Program, chosen, live_command
 from .device import Demands
+from .streams import LONGEST, PIECE, ROOM, Stream, open_live
 
-# The most bytes that a process takes, and what is left of them for frames that ask.
-LONGEST, ROOM = 1_073_741_824, 4_096
 # An answer Price of `serve`, with its kind.
 PRICE, PRICE_KIND = struct.Struct(">BHIIH"), 5
-# The seconds in which a process ends whose input has ended, and the bytes that are read of it at once.
-LAST_SECONDS, PIECE = 5.0, 65_536
 
 
 @dataclass(frozen=True)
@@ -49,27 +44,23 @@ class Group:
             raise ValueError(f"the group {self.name} has limits {self.floor} to {self.ceiling}: a floor of at most 0 and a ceiling of at least 0 W are due")
 
 
-class _Node:
-    """A process that reads frames and writes frames, and the newest bid of each of its children. What it reads waits until it is asked.
+class _Node(Stream):
+    """A node of the market, with the newest bid of each of its children. What it reads waits until it is asked.
 
     A process takes so many bytes and no more. Before that it is started anew, and hears all bids again.
     """
 
     def __init__(self, what: str, basis: Basis) -> None:
-        self._what = what
+        super().__init__(what)
         self._hello = Hello(basis.min, basis.max, basis.steps).to_bytes()
         self._bids: dict[int, bytes] = {}
         self.has_news = False
         self._begin(self._hello)
 
-    def _open(self) -> subprocess.Popen[bytes]:
-        """Starts the process. Raises NoProgram and ProgramFault."""
-        raise NotImplementedError
-
     def _begin(self, first: bytes) -> None:
-        self._process = self._open()
+        self.start()
         self._waiting = [first, *self._bids.values()]
-        self._sent = sum(map(len, self._waiting))
+        self._due = sum(map(len, self._waiting))
 
     def _again(self) -> bytes:
         """What a process is told first that takes the place of another one."""
@@ -77,51 +68,19 @@ class _Node:
 
     def bid(self, child: int, frame: bytes) -> None:
         """Takes a bid of a child, whose number has risen."""
-        if self._sent + len(frame) > LONGEST - ROOM:
+        if self._due + len(frame) > LONGEST - ROOM:
             self.close()
             self._begin(self._again())
         self._bids[child] = frame
         self._waiting.append(frame)
-        self._sent += len(frame)
+        self._due += len(frame)
         self.has_news = True
 
     def ask(self, frame: bytes) -> None:
         """Writes what waits and this frame, which asks for answers. Raises ProgramFault."""
         data, self._waiting = b"".join([*self._waiting, frame]), []
-        self._sent += len(frame)
-        assert self._process.stdin is not None
-        try:
-            self._process.stdin.write(data)
-            self._process.stdin.flush()
-        except OSError:
-            raise self.fault("it reads no more") from None
-
-    def read(self, size: int) -> bytes:
-        """The next bytes, at least one and at most so many. Raises ProgramFault at the end."""
-        assert self._process.stdout is not None
-        found = os.read(self._process.stdout.fileno(), size)
-        if not found:
-            raise self.fault("its answers end")
-        return found
-
-    def fault(self, why: str) -> ProgramFault:
-        """The error of what it does, with its status if it has ended."""
-        try:
-            return ProgramFault(f"{self._what}: {why}, and its status is {self._process.wait(LAST_SECONDS)}")
-        except subprocess.TimeoutExpired:
-            return ProgramFault(f"{self._what}: {why}")
-
-    def close(self) -> None:
-        """Ends its input, and waits for its end."""
-        for end in (self._process.stdin, self._process.stdout):
-            if end is not None:
-                with suppress(OSError):
-                    end.close()
-        try:
-            self._process.wait(LAST_SECONDS)
-        except subprocess.TimeoutExpired:
-            self._process.kill()
-            self._process.wait()
+        self._due += len(frame)
+        self.write(data)
 
 
 class _Auctioneer(_Node):
@@ -131,7 +90,8 @@ class _Auctioneer(_Node):
         self._program = program
         super().__init__("market serve", basis)
 
-    def _open(self) -> subprocess.Popen[bytes]:
+    def open(self) -> subprocess.Popen[bytes]:
+        """See Stream."""
         self.index = 0
         return self._program.open("serve")
 
@@ -140,11 +100,8 @@ class _Auctioneer(_Node):
         self.ask(Clear().to_bytes())
         self.index += 1
         self.has_news = False
-        due, data = len(self._bids) * PRICE.size, b""
-        while len(data) < due:
-            data += self.read(due - len(data))
         steps: dict[int, int] = {}
-        for kind, child, _, index, step in PRICE.iter_unpack(data):
+        for kind, child, _, index, step in PRICE.iter_unpack(self.read_all(len(self._bids) * PRICE.size)):
             if kind != PRICE_KIND or index != self.index:
                 raise self.fault("it wrote no Price of this clearing")
             steps[child] = step
@@ -161,12 +118,10 @@ class _Relay(_Node):
         self._number, self._resume, self._index = 0, b"", 0
         super().__init__(" ".join(self._words), basis)
 
-    def _open(self) -> subprocess.Popen[bytes]:
+    def open(self) -> subprocess.Popen[bytes]:
+        """See Stream."""
         self._frames = Splitter(WRITES["relay"], self._basis.steps)
-        try:
-            return subprocess.Popen(self._words, stdin=subprocess.PIPE, stdout=subprocess.PIPE)
-        except OSError as error:
-            raise ProgramFault(f"{self._words[0]} cannot be started: {error.strerror}") from None
+        return open_live(self._words)
 
     def _again(self) -> bytes:
         return self._hello + self._resume

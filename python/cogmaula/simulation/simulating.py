@@ -16,7 +16,8 @@ from ..nodes import Limited, Manual, Node
 from ..phases import Events, Join, Phase, State, Tick
 from ..program import Program
 from ..texts import GroupEnd, PhaseEnd
-from .device import Demands, Device, demands_of
+from .device import Demands, Device, offer_of
+from .making import BidMaker
 from .markets import Cleared, Group, Market
 
 
@@ -54,7 +55,8 @@ def simulate(
     start:     when the first tick begins, or a date for its midnight; 2000-01-01 00:00 if it is not given
     groups:    devices that are held within limits together
     keep_bids: whether `cluster` of the result has what was bid, which takes much memory
-    program:   the proved program, by default the one that `Program.find()` finds; `live` that of the groups' relays
+    program:   the proved program, by default the one that `Program.find()` finds
+    live:      the proved program of the groups' relays and of bids by points or by a state, by default that of the install or the checkout
 
     Raises BadBid if a device bids what no market takes, ValueError for names, groups and counts that do not fit, NoProgram and
     ProgramFault.
@@ -63,10 +65,10 @@ def simulate(
         raise ValueError(f"{ticks} ticks of {minutes} minutes: give 1 or more of each")
     begin, names = moment_of(start, frames.START), [it.name for it in devices]
     rows: list[_Row] = []
-    with Market(basis, names, groups, program=program, live=live) as market:
+    with Market(basis, names, groups, program=program, live=live) as market, BidMaker(basis, live) as maker:
         for tick in range(ticks):
             now = later(begin, tick * minutes)
-            bids = tuple(demands_of(it.bid(now), basis, it.name) for it in devices)
+            bids = tuple(maker.demands({it.name: offer_of(it.bid(now), basis, it.name) for it in devices}).values())
             states = tuple(it.state for it in devices)
             for name, demands in zip(names, bids, strict=True):
                 market.bid(name, demands)

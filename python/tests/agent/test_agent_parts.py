@@ -5,6 +5,7 @@ from __future__ import annotations
 import http.server
 import math
 import threading
+from datetime import datetime
 
 import pytest
 
@@ -13,6 +14,8 @@ from cogmaula.agent.modbus import ModbusPlace
 from cogmaula.agent.plain import Command, CommandPlace, Csv, CsvPlace, Http, HttpPlace
 from cogmaula.agent.values import NoReading, NotWritten, Place, number_in
 from cogmaula.live.errors import BadSettings
+from cogmaula.live.frames import Offer, Points, Stated
+from cogmaula.live.kinds import DeviceKind
 from cogmaula.simulation import Battery, HeatPump
 
 # What a device is told.
@@ -87,7 +90,20 @@ def test_what_a_device_has_to_offer_while_it_may_not_change():
     assert guard.fixed(12) is None
     guard.wrote(0, 15)
     assert (guard.fixed(34), guard.fixed(35)) == (0, None)
-    assert guard.bounded((9000, 5, -5)) == (2000, 5, 0)
+
+
+@pytest.mark.parametrize(
+    ("offer", "due"),
+    [
+        (Offer((9000, 5, -900)), Offer((2000, 5, -800))),
+        (Points.of([(0, 9000), (4, 0), (9, -900)]), Points.of([(0, 2000), (4, 0), (9, -800)])),
+        (Stated(DeviceKind("load"), 9000), Stated(DeviceKind("load"), 2000)),
+        (Stated(DeviceKind("solar"), 900), Stated(DeviceKind("solar"), 800)),
+        (Stated(DeviceKind("battery", (9, 2000, 800, 0)), 9), Stated(DeviceKind("battery", (9, 2000, 800, 0)), 9)),
+    ],
+)
+def test_what_is_offered_is_within_the_device_s_own_bounds(offer, due):
+    assert Guard(Limits(-800, 2000), print, 0.0).bounded(offer) == due
 
 
 # Values.
@@ -244,11 +260,23 @@ def test_settings_of_models_and_of_a_strategy_of_one_s_own(tmp_path):
     (tmp_path / "own.py").write_text("class Own:\n    def __init__(self, name): self.name, self.state = name, 0.0\n")
     own = {"strategy": "own.py:Own", "name": "own", "model": None, "capacity": None, "charge": None, "discharge": None, "prices": None}
     assert agent_settings_of(tables(device=own), tmp_path).device.name == "own"
+    found = agent_settings_of(tables(device=KIND))
+    assert (found.member, found.capacity, found.device.kind) == ("state", 4000, DeviceKind("battery", (4000, 2000, 2000, 1)))
+    # A reading beyond what a battery holds is a full one.
+    found.device.state = 4000.6
+    assert found.device.bid(datetime(2026, 6, 1)) == Stated(found.device.kind, 4000)
+
+
+# A battery that bids by its kind, in the place of the model.
+KIND = {"model": None, "prices": None, "kind": "battery", "spread": 1}
 
 
 @pytest.mark.parametrize(
     ("more", "words"),
     [
+        ({"device": {**KIND, "spread": None}}, "device: spread of a battery is None"),
+        ({"device": KIND, "limits": {"greatest": 1000}}, "a battery takes -2000 to 2000 W, and limits are -2000 to 1000"),
+        ({"device": {**KIND, "kind": "cogeneration"}}, "device: capacity is no parameter of a cogeneration"),
         ({"device": {"model": "reactor"}}, "give one of battery"),
         ({"device": {"capacity": None}}, "device.capacity is missing"),
         ({"device": {"energy": 5}}, "what \\[state\\] reads"),

@@ -10,7 +10,7 @@ import pytest
 sys.path.append(str(Path(__file__).resolve().parents[1] / "live"))
 
 
-@pytest.fixture
+@pytest.fixture(scope="session")
 def live():
     """The program `live`. Without one, the tests that run it are skipped."""
     from brokers import live_program

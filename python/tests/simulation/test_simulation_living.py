@@ -12,7 +12,10 @@ from looking import get, require_page
 
 from cogmaula import Basis, Battery, Cluster, Concentrator, Limited, Load, Solar, run
 from cogmaula.cli import main
+from cogmaula.live.frames import Offer, Stated
+from cogmaula.live.kinds import DeviceKind
 from cogmaula.live.page_settings import PageSettings
+from cogmaula.simulation import BidMaker
 from cogmaula.simulation.life import Life
 from cogmaula.simulation.living import LivingCluster, ModelControl
 
@@ -21,9 +24,14 @@ EXAMPLES = TOP / "examples"
 
 
 @pytest.mark.parametrize("name", ["village", "battery_day", "street"])
-def test_life_by_the_powers_of_a_run_has_its_states_and_its_bids(program, name):
+def test_life_by_the_powers_of_a_run_has_its_states_and_its_bids(program, live, name):
     """At the end of each tick, however the time before it was cut."""
     done = run(EXAMPLES / f"{name}.json", program=program)
+    with BidMaker(done.cluster.basis, live) as maker:
+        _live_by(done, maker)
+
+
+def _live_by(done, maker):
     life, minute = Life(done.cluster), 0
     life.advance(0)
     for phase, end, snapshot in zip(done.cluster.phases, done.ends, _snapshots(done), strict=True):
@@ -35,9 +43,10 @@ def test_life_by_the_powers_of_a_run_has_its_states_and_its_bids(program, name):
             assert life.members == snapshot.members
             found = {it: round(life.devices[it].state, 3) for it, state in snapshot.states.items() if isinstance(state, int)}
             assert found == {it: state for it, state in snapshot.states.items() if isinstance(state, int)}
-            bids, groups = life.bids(), {it.name: it.step for it in end.groups}
+            bids = maker.demands({it: offer for it, offer in life.offers().items() if offer is not None})
+            groups = {it.name: it.step for it in end.groups}
             steps = {it: end.step if group is None else groups[group] for it, group in done.cluster.groups().items()}
-            assert {it: bid[steps[it]] for it, bid in bids.items() if bid is not None} == end.powers
+            assert {it: bid[steps[it]] for it, bid in bids.items()} == end.powers
             life.powers.update(end.powers)
 
 
@@ -102,9 +111,10 @@ def test_limits_hold_in_a_living_cluster(program, live):
 def test_a_control_offers_what_is_new_and_keeps_what_it_is_told():
     control, offered = ModelControl(), []
     control.offer(None)
-    control.offer((3, 2))
+    control.offer(Offer((3, 2)))
     control.start(offered.append, print)
-    control.offer((3, 2))
+    control.offer(Offer((3, 2)))
+    control.offer(Stated(DeviceKind("load"), 7))
     control.offer(None)
     control.write(b'{"power": -150, "step": 1, "price": 1}')
     assert control.power == -150
@@ -112,7 +122,7 @@ def test_a_control_offers_what_is_new_and_keeps_what_it_is_told():
     assert control.power == -150
     control.write(b'{"market": "silent", "power": 0, "why": "no heartbeat"}')
     assert control.power == 0
-    assert [json.loads(it) for it in offered] == [{"power": [3, 2]}, {"leave": True}]
+    assert [json.loads(it) for it in offered] == [{"power": [3, 2]}, {"kind": "load", "state": 7}, {"leave": True}]
 
 
 def test_the_command(program, live, capsys, tmp_path):

@@ -26,9 +26,9 @@ def street():
     ]
 
 
-def test_a_run_of_what_was_bid_has_the_prices_and_powers_of_the_simulation(program):
+def test_a_run_of_what_was_bid_has_the_prices_and_powers_of_the_simulation(program, live):
     pytest.importorskip("pandas")
-    done = simulate(street(), HUNDRED, ticks=96, start=date(2026, 6, 1), keep_bids=True, program=program)
+    done = simulate(street(), HUNDRED, ticks=96, start=date(2026, 6, 1), keep_bids=True, program=program, live=live)
     again = run(done.cluster(), start=date(2026, 6, 1), program=program)
     held = again.prices["minutes"] > 0
     assert done.prices["price"].tolist() == again.prices["price"][held].tolist()

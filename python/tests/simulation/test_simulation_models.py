@@ -12,10 +12,13 @@ from hypothesis import given
 from hypothesis import settings as hypothesis_settings
 from hypothesis import strategies as st
 
-from cogmaula import Basis, Manual, Objective, State
+from cogmaula import Basis, Manual, Objective, ProgramFault, State
+from cogmaula.live.frames import Stated
+from cogmaula.live.kinds import DeviceKind
 from cogmaula.simulation import (
     BadBid,
     Battery,
+    BidMaker,
     Boiler,
     Cogeneration,
     Device,
@@ -24,8 +27,9 @@ from cogmaula.simulation import (
     Load,
     Solar,
     Vehicle,
-    demands_of,
+    making,
 )
+from cogmaula.simulation.device import offer_of
 from cogmaula.simulation.kinds import ClusterDevice
 
 NOON = datetime(2026, 6, 1, 12)
@@ -33,6 +37,12 @@ TEN = Basis(0, 9, 10)
 
 
 # Bids.
+
+
+def made(live, basis, *bids):
+    """The demands that the program makes of bids."""
+    with BidMaker(basis, live) as maker:
+        return list(maker.demands({f"d{at}": offer_of(bid, basis, "d") for at, bid in enumerate(bids)}).values())
 
 
 @pytest.mark.parametrize(
@@ -47,37 +57,62 @@ TEN = Basis(0, 9, 10)
         ([(9, 1)], [1] * 10),
     ],
 )
-def test_bids_by_hand(bid, due):
-    assert demands_of(bid, TEN, "a") == tuple(due)
+def test_bids_by_hand(live, bid, due):
+    assert made(live, TEN, bid) == [tuple(due)]
 
 
 @hypothesis_settings(max_examples=60)
 @given(st.data())
-def test_points_as_the_plain_auction_has_them(data):
+def test_points_as_the_plain_auction_has_them(live, data):
     basis = data.draw(bases())
-    given_bid = data.draw(bids(basis))
-    due = auction.state_of(given_bid, basis.prices)
-    assert demands_of(next(iter(given_bid.values())), basis, "a") == tuple(due)
+    given_bids = data.draw(st.lists(bids(basis), min_size=1, max_size=20))
+    due = [tuple(auction.state_of(it, basis.prices)) for it in given_bids]
+    assert made(live, basis, *(next(iter(it.values())) for it in given_bids)) == due
+
+
+def test_a_program_makes_what_is_new_alone_and_a_long_stream_is_followed_by_another(live, monkeypatch):
+    """Ten offers are more than an agent keeps. Points at a price of their own, from price 0 on: 10 at price 0, and none from price 5 on."""
+    opened, asked = [], []
+    start, ask = making._Agent.start, BidMaker._ask
+    monkeypatch.setattr(making._Agent, "start", lambda self: (opened.append(1), start(self))[1])
+    monkeypatch.setattr(BidMaker, "_ask", lambda self, offers: (asked.append(len(offers)), ask(self, offers))[1])
+    monkeypatch.setattr(making, "LONGEST", making.ROOM + 200)
+    offers = {f"d{at}": offer_of([(0, 10 + at), (5, 0)], TEN, "d") for at in range(10)}
+    with BidMaker(TEN, live) as maker:
+        assert maker.demands({"load": offer_of(3, TEN, "load")}) == {"load": (3,) * 10} and not opened
+        found = maker.demands(offers)
+        assert [it[0] for it in found.values()] == list(range(10, 20)) and {it[5] for it in found.values()} == {0}
+        assert maker.demands(offers) == found and asked == [8, 2]
+        assert maker.demands({**offers, "d9": offer_of([(0, 5), (5, 0)], TEN, "d")})["d9"] == (5, 4, 3, 2, 1, 0, 0, 0, 0, 0)
+    assert (asked, len(opened)) == ([8, 2, 1], 2)
+
+
+def test_a_program_that_is_no_agent_is_told(tmp_path):
+    for program, words in ((tmp_path / "none", "cannot be started"), ("false", "device 1: .* status is 1")):
+        with BidMaker(TEN, str(program)) as maker, pytest.raises(ProgramFault, match=words):
+            maker.demands({"a": offer_of([(0, 1)], TEN, "a")})
 
 
 @pytest.mark.parametrize(
     ("bid", "words"),
     [
-        ([1, 2], "2 demands, and 10 are due"),
+        ([1, 2], "2 demands are there, and 10 are due"),
+        ([], "0 demands are there"),
         (list(range(10)), "above the one of the step before"),
         (1.5, "whole watts"),
         (True, "whole watts"),
         (1_000_000_001, "outside ±1000000000"),
-        ([(0, 1), (10, 0)], "points from price 0 to 10, and the prices are 0 to 9"),
-        ([(0, 1), (5, 2)], "demands never rise"),
-        ([(5, 2), (4, 1)], "prices never fall"),
+        ([(0, 1), (10, 0)], "price 10 of point 1 is outside the basis, 0 to 9"),
+        ([(0, 1), (5, 2)], "the power 2 of point 1 is above 1"),
+        ([(5, 2), (4, 1)], "the price 4 of point 1 is below 5"),
+        (Stated(DeviceKind("battery", (100, 5, 5, 0)), 101), "give 0 to 100 watt-hours"),
         ([(0, 1, 2)], "a pair"),
         ([(0, 0)] * 65, "65 points"),
     ],
 )
 def test_bids_that_no_market_takes_name_the_device(bid, words):
     with pytest.raises(BadBid, match=f"store bids .*{words}"):
-        demands_of(bid, TEN, "store")
+        offer_of(bid, TEN, "store")
 
 
 # The battery.
@@ -262,14 +297,14 @@ def test_what_no_device_has(make):
 
 @hypothesis_settings(max_examples=200)
 @given(st.data())
-def test_kinds_bid_and_step_as_the_plain_auction_has_them(data):
+def test_kinds_bid_and_step_as_the_plain_auction_has_them(live, data):
     """The bid of each kind and state; and over a tick in parts the state of that tick, except that what is rounded differs by one."""
     basis = data.draw(bases())
     node = data.draw(devices("d", ["auctioneer"], basis))
     minutes, power = data.draw(st.integers(1, 1440)), data.draw(st.integers(-3000, 3000))
-    one: Device = ClusterDevice(node, basis, minutes)
+    one: Device = ClusterDevice(node, minutes)
     state = auction.state_of(node.members(), basis.prices)
-    assert demands_of(one.bid(NOON), basis, "d") == tuple(auction.bid_of(node.members(), state, basis.steps))
+    assert made(live, basis, one.bid(NOON)) == [tuple(auction.bid_of(node.members(), state, basis.steps))]
     for _ in range(parts := data.draw(st.integers(1, 5))):
         one.step(power, minutes / parts)
     if node.ticks:
@@ -277,7 +312,7 @@ def test_kinds_bid_and_step_as_the_plain_auction_has_them(data):
 
 
 def test_kinds_take_the_states_of_events():
-    one, other = ClusterDevice(Objective("o", start=5), TEN, 15), ClusterDevice(Manual("m", points=[(0, 9), (9, 0)]), TEN, 15)
+    one, other = ClusterDevice(Objective("o", start=5), 15), ClusterDevice(Manual("m", points=[(0, 9), (9, 0)]), 15)
     one.set(State("o", 7))
     other.set(State("m", demand=[3] * 10))
     assert (one.bid(NOON), other.bid(NOON)) == (-7, (3,) * 10)
