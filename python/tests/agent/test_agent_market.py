@@ -228,9 +228,9 @@ def test_an_agent_is_the_control_of_a_node_over_topics(tmp_path):
         with Working(tables) as agent:
             agent.says("the state is not read: topic store/state: the broker has a message of before, whose age nobody knows")
             assert node.publish("store/state", '{"battery": {"kwh": 0.5}}', False)
-            # Half full, its middle is 4: 2000 W at 0 and none at 4, within 800 W. At 9 it gives 2000 W, or 800.
-            due = [800, 800, 800, 500, 0, -400, -800, -800, -800, -800]
-            wait_until(lambda: heard.get("market/store/offer") == {"power": due}, f"the offer: {heard}, {agent.said}")
+            # Half full, its middle is 4: 2000 W at 0 and none at 4. At 9 it gives 2000 W. Its bounds are 800 W.
+            due = {"points": [[0, 800], [4, 0], [9, -800]]}
+            wait_until(lambda: heard.get("market/store/offer") == due, f"the offer: {heard}, {agent.said}")
             assert "store/set" not in heard
             assert node.publish("market/store/setpoint", json.dumps({"power": -400, "price": 5, "until": until}), False)
             wait_until(lambda: heard.get("store/set") == {"kw": -0.4}, f"the power: {heard}")
@@ -240,14 +240,35 @@ def test_an_agent_is_the_control_of_a_node_over_topics(tmp_path):
             agent.says("no message came for 1 s")
             wait_until(lambda: heard["market/store/offer"] == {"leave": True}, "the offer lapses")
             assert node.publish("store/state", '{"battery": {"kwh": 0.5}}', False)
-            wait_until(lambda: heard["market/store/offer"] == {"power": due}, "it is back")
+            wait_until(lambda: heard["market/store/offer"] == due, "it is back")
         # At its end it leaves.
         wait_until(lambda: heard["market/store/offer"] == {"leave": True}, "it leaves")
+        tables["device"] = {"kind": "battery", "capacity": CAPACITY, "charge": 800, "discharge": 500, "spread": 1}
+        with Working(tables) as agent:
+            agent.says("a message of before")
+            assert node.publish("store/state", '{"battery": {"kwh": 0.25}}', False)
+            wait_until(lambda: heard["market/store/offer"] == {**tables["device"], "state": 250}, f"the state: {heard}, {agent.said}")
         node.close()
     nobody = Mqtt(MqttPlace(port=free_port(), topic="store/set"), 1.0)
     with pytest.raises(NotWritten, match="topic store/set"):
         nobody.write(1)
     nobody.close()
+
+
+def test_a_device_of_a_kind_says_its_state_to_a_hub(live, tmp_path):
+    """Half full, its middle is 4: it charges below and gives 800 W above, so 500 W come at price 5. Full, it gives them from price 1 on."""
+    source, sink = tmp_path / "soc.csv", tmp_path / "told.csv"
+    source.write_text("soc\n50\n")
+    with HubInThread(tmp_path, live) as hub:
+        house = hub.agent("house").bids([500] * 10)
+        tables = tables_of(hub, {"by": "csv", "file": str(source), "column": "soc", "unit": "%"}, {"by": "csv", "file": str(sink)})
+        tables["device"] = {"kind": "battery", "capacity": CAPACITY, "charge": 2000, "discharge": 800, "spread": 0}
+        with Working(tables):
+            house.waits_for(power=500, price=5)
+            wait_until(lambda: sink.exists() and ",-800" in sink.read_text(), "the battery is told -800 W")
+        source.write_text("soc\n100\n")
+        with Working(tables):
+            house.waits_for(power=500, price=1)
 
 
 def test_a_hub_that_refuses_or_is_away(live, tmp_path, capsys):
