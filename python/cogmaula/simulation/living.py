@@ -22,7 +22,7 @@ from ..hub.showing import Showing
 from ..live.broker import Message
 from ..live.counting import NodeFacts
 from ..live.errors import LiveError
-from ..live.frames import MOST, PRICES, AnyOffer, Leave, Price, Sort, frame_of
+from ..live.frames import MOST, PRICES, AnyOffer, Leave, Price, Sort, Stated, frame_of
 from ..live.messages import StateMessage, members_of
 from ..live.node import Node
 from ..live.page_settings import PageSettings
@@ -31,8 +31,9 @@ from ..nodes import AUCTIONEER, Limited
 from ..program import LIVE_VARIABLE
 from .life import Life
 
-# The seconds between two looks at the clock, in which models step and bid; and those between two clearings.
-EVERY, PAUSE = 0.5, 0.1
+# The seconds between two looks at the clock, in which models step and bid; those between two clearings; and the least between two states
+# that a device says: most say nothing new of its bid, and each is an offer that its node stores.
+EVERY, PAUSE, STATES = 0.5, 0.1, 2.0
 # The seconds between looks of a device's node at its own clock, and those in which all nodes have to end.
 TICK, LAST_SECONDS = 1.0, 5.0
 # The seconds within which a page is served, if it can be, and a node is in its session.
@@ -47,7 +48,9 @@ class ModelControl:
         """Offers nothing yet."""
         self._lock = threading.Lock()
         self._notify: Callable[[bytes], None] | None = None
+        self._newest: AnyOffer | None = None
         self._offer: bytes | None = None
+        self._since = 0.0
         # The newest power that it was told, in watts: a setpoint's, or the fallback while the market is silent.
         self.power = 0
 
@@ -63,13 +66,14 @@ class ModelControl:
         told = json.loads(setpoint)
         self.power = told.get("power", self.power)
 
-    def offer(self, offer: AnyOffer | None) -> None:
-        """Offers this, None to leave. The same again is told to nobody."""
+    def offer(self, offer: AnyOffer | None, now: float) -> None:
+        """Offers this at a second of a clock that only rises, None to leave. The same again, or the next state too soon, is told to nobody."""
+        newest = self._newest
+        if offer == newest or (isinstance(offer, Stated) and isinstance(newest, Stated) and now < self._since + STATES):
+            return
         data = json.dumps(members_of(Leave() if offer is None else offer)).encode()
         with self._lock:
-            if data == self._offer or (self._offer is None and offer is None):
-                return
-            self._offer = data
+            self._newest, self._offer, self._since = offer, data, now
             if self._notify is not None:
                 self._notify(data)
 
@@ -212,7 +216,7 @@ class LivingCluster:
             for line in self.life.advance(now):
                 self._tell(f"{self._clock} {line}")
             for name, offer in self.life.offers().items():
-                self.controls[name].offer(offer)
+                self.controls[name].offer(offer, time.monotonic())
             self._stopping.wait(EVERY)
             for name in self.life.members:
                 self.life.powers[name] = self.controls[name].power

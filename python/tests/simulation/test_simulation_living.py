@@ -110,19 +110,20 @@ def test_limits_hold_in_a_living_cluster(program, live):
 
 def test_a_control_offers_what_is_new_and_keeps_what_it_is_told():
     control, offered = ModelControl(), []
-    control.offer(None)
-    control.offer(Offer((3, 2)))
+    control.offer(None, 1)
+    control.offer(Offer((3, 2)), 1)
     control.start(offered.append, print)
-    control.offer(Offer((3, 2)))
-    control.offer(Stated(DeviceKind("load"), 7))
-    control.offer(None)
+    control.offer(Offer((3, 2)), 1)
+    for second, state in ((1, 7), (1.5, 8), (2.9, 9), (3, 10)):
+        control.offer(Stated(DeviceKind("load"), state), second)
+    control.offer(None, 3)
     control.write(b'{"power": -150, "step": 1, "price": 1}')
     assert control.power == -150
     control.write(b'{"market": "live", "since": "2026-06-01T00:00:00Z"}')
     assert control.power == -150
     control.write(b'{"market": "silent", "power": 0, "why": "no heartbeat"}')
     assert control.power == 0
-    assert [json.loads(it) for it in offered] == [{"power": [3, 2]}, {"kind": "load", "state": 7}, {"leave": True}]
+    assert [json.loads(it) for it in offered] == [{"power": [3, 2]}, {"kind": "load", "state": 7}, {"kind": "load", "state": 10}, {"leave": True}]
 
 
 def test_the_command(program, live, capsys, tmp_path):
