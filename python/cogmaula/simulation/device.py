@@ -10,7 +10,7 @@ from typing import Any, Protocol
 from ..cluster import Basis
 from ..errors import MarketError
 from ..live.errors import BadFrame
-from ..live.frames import AnyOffer, Offer, Points, Stated
+from ..live.frames import AnyOffer, Offer, Points, Stated, require_demands
 
 # Watts at every price; or watts at each step of the basis; or points of a price and watts; or a kind of device and its state.
 Bid = int | Sequence[int] | Sequence[tuple[int, int]] | Stated
@@ -52,7 +52,11 @@ def offer_of(bid: Bid, basis: Basis, name: str) -> AnyOffer:
             points = Points.of([_pair(it) for it in bid])
             points.require_over(basis)
             return points
-        offer = Offer(tuple(map(_whole, bid)) if isinstance(bid, Sequence) else (_whole(bid),) * basis.steps)
+        if not isinstance(bid, Sequence):
+            watts = _whole(bid)
+            require_demands((watts,), 1)
+            return Offer((watts,) * basis.steps)
+        offer = Offer(tuple(map(_whole, bid)))
         offer.require_right(basis.steps)
         return offer
     except BadFrame as error:
