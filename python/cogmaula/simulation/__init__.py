@@ -11,6 +11,8 @@ A device is a class with a name, a state, `bid` and `step`: see `Device`. The mo
 bid by points is at each price, and the prices, come from the proved programs. docs/DEVICES.md says how to write a device of your own.
 """
 
+from ..live.frames import Stated
+from ..live.kinds import DeviceKind
 from .battery import Battery
 from .device import BadBid, Bid, Demands, Device
 from .given import Load, Manual, Solar
@@ -31,6 +33,7 @@ __all__ = [
     "Cogeneration",
     "Demands",
     "Device",
+    "DeviceKind",
     "Group",
     "HeatPump",
     "Held",
@@ -40,6 +43,7 @@ __all__ = [
     "Profile",
     "Simulation",
     "Solar",
+    "Stated",
     "Vehicle",
     "simulate",
 ]

@@ -13,8 +13,6 @@ from hypothesis import settings as hypothesis_settings
 from hypothesis import strategies as st
 
 from cogmaula import Basis, Manual, Objective, ProgramFault, State
-from cogmaula.live.frames import Stated
-from cogmaula.live.kinds import DeviceKind
 from cogmaula.simulation import (
     BadBid,
     Battery,
@@ -22,10 +20,12 @@ from cogmaula.simulation import (
     Boiler,
     Cogeneration,
     Device,
+    DeviceKind,
     Held,
     HeatPump,
     Load,
     Solar,
+    Stated,
     Vehicle,
     making,
 )
