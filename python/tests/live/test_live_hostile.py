@@ -57,9 +57,10 @@ def test_a_login_does_not_take_the_connection_of_another(broker, market):
     for step in (5, 6, 7):
         market.offers(store=falls_at(step, 0, -150))
         market.settles_at(step, house=100, store=-150)
-        time.sleep(0.2)
+    wait_until(lambda: attack.count >= 3, "three attacks")
+    market.offers(store=falls_at(8, 0, -150))
+    market.settles_at(8, house=100, store=-150)
     attack.end()
-    assert attack.count >= 3
     assert [it for it in market.said["auctioneer"] if "connection" in it] == []
 
 
