@@ -64,7 +64,7 @@ LEAST_SECONDS = 15
 PRIORITIES = (0, 5, 10)
 
 # A crate is on the longest chain if this part of its length is above it.
-NEARLY = 0.9
+NEARLY = 0.85
 
 # What this script calls of the kit's `rt`, and of its crates.
 CALLS = ("need", "handles_of", "rtlib", "Crate", "KIT")
@@ -207,8 +207,8 @@ class Lanes:
             need = self.need(crate)
             if self.running and need > self.room(is_first):
                 continue
-            # There are twice as many jobs as processors, since a proof seldom takes all of its jobs.
-            share = 2 * self.processors // (len(self.running) + len(ready) - place)
+            # There are four times as many jobs as processors, since a proof seldom takes all of its jobs.
+            share = 4 * self.processors // (len(self.running) + len(ready) - place)
             jobs = min(MOST_JOBS, self.processors, max(1, share) if not is_first else self.processors)
             self.waiting.remove(crate)
             self.running[str(crate.name)] = need

@@ -470,7 +470,7 @@ prove
 is "the nodes' checks without a proof" 1 "live is not proved from the sources of today: ./market prove live proves it first
 0 passed, 1 failed" "" 'checks/run live'
 prove_live
-is "the nodes' checks" 0 "crates/live/out/live all
+is "the nodes' checks" 0 "crates/live/out/live crates/market/out/market all
 1 passed, 0 failed
 crates/live/out/live 1000
 1 passed, 0 failed" "" '{ checks/run live all; checks/run network 1000; } | sed "s|$top/||g"'
@@ -491,7 +491,8 @@ stub cases
 due_of() {
     case "$1" in
         program | traces | serve | memory | hostile) echo crates/market/out/market ;;
-        live | network) echo crates/live/out/live ;;
+        live) echo crates/live/out/live crates/market/out/market ;;
+        network) echo crates/live/out/live ;;
         python | pages | schema | pictures | names | places) echo ;;
         definitions) echo check ;;
         edits) echo --self-test ;;

@@ -81,8 +81,23 @@ class Client:
         self._client.on_disconnect = self._disconnected
         self._client.on_message = lambda _client, _data, it: take(it.topic, it.payload, bool(it.retain))
         self._client.reconnect_delay_set(1, AGAIN)
+        self._closing = threading.Event()
+        self._client.loop_forever = self._kept(self._client.loop_forever)
         self._client.connect_async(place.host, place.port or (1883 if place.ca is None else 8883), KEEPALIVE)
         self._client.loop_start()
+
+    def _kept(self, loop: Callable[..., Any]) -> Callable[..., Any]:
+        """The loop of the connection, begun again where paho 1 lets an error of a broken connection end it."""
+
+        def run(*arguments: object, **named: object) -> Any:
+            while True:
+                try:
+                    return loop(*arguments, **named)
+                except (OSError, AttributeError):
+                    if self._closing.wait(AGAIN):
+                        return None
+
+        return run
 
     def _connected(self, client: Any, _data: object, _flags: object, code: int) -> None:
         self.is_connected = code == 0
@@ -104,6 +119,7 @@ class Client:
 
     def close(self) -> None:
         """Ends the connection."""
+        self._closing.set()
         self._client.disconnect()
         self._client.loop_stop()
 

@@ -14,6 +14,7 @@ from markets import STEPS, falls_at
 from cogmaula.agent.links import Basis, NodeLink, Setpoint
 from cogmaula.agent.mqtt import BrokerPlace
 from cogmaula.deploy import Member, add_device
+from cogmaula.live.control_frames import Offer
 from cogmaula.live.given import LimitsMessage
 from cogmaula.live.operating import drop, give_limits
 from cogmaula.live.settings import BrokerSettings, read_toml
@@ -114,7 +115,7 @@ def test_an_agent_has_the_login_of_a_control(made):
     table = read_toml(made.out / "house.control" / "house.control.toml")["broker"]
     link = NodeLink(BrokerPlace(**{it: table[it] for it in ("host", "port", "user", "password_file", "ca")}), "market", "house")
     link.start(heard.append, said.append)
-    link.offer((100,) * STEPS)
+    link.offer(Offer((100,) * STEPS))
     wait_until(lambda: any(isinstance(it, Setpoint) and it.power == 100 for it in heard), f"the agent is told its setpoint: {heard} {said}")
     assert Basis(0, 9, STEPS) in heard and said == [] and "Denied" not in made.log
     link.close()
