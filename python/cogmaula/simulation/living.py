@@ -36,8 +36,8 @@ from .life import Life
 EVERY, PAUSE, STATES = 0.5, 0.1, 2.0
 # The seconds between looks of a device's node at its own clock, and those in which all nodes have to end.
 TICK, LAST_SECONDS = 1.0, 5.0
-# The seconds within which a page is served, if it can be, and a node is in its session.
-PAGE_SECONDS, START_SECONDS = 2.0, 30.0
+# The seconds within which a page is served, if it can be, and a node is in its session; and those for which a settled market is quiet.
+PAGE_SECONDS, START_SECONDS, QUIET_SECONDS = 2.0, 30.0, 1.0
 NOTE = "The devices here are models, which cogmaula simulate runs. They are no part of the market, and nothing about them is proved."
 
 
@@ -53,6 +53,7 @@ class ModelControl:
         self._since = 0.0
         # The newest power that it was told, in watts: a setpoint's, or the fallback while the market is silent.
         self.power = 0
+        self.is_told = False
 
     def start(self, notify: Callable[[bytes], None], _say: Callable[[str], None]) -> None:
         """See Control."""
@@ -65,6 +66,7 @@ class ModelControl:
         """See Control."""
         told = json.loads(setpoint)
         self.power = told.get("power", self.power)
+        self.is_told = self.is_told or "power" in told
 
     def offer(self, offer: AnyOffer | None, now: float) -> None:
         """Offers this at a second of a clock that only rises, None to leave. The same again, or the next state too soon, is told to nobody."""
@@ -209,22 +211,39 @@ class LivingCluster:
 
     def _pass(self, minutes: float | None) -> None:
         """Lets the devices' time pass, and tells what happens."""
-        begin, told = time.monotonic(), ""
+        told = self._settle()
+        begin = time.monotonic()
         while self._lives():
             passed = (time.monotonic() - begin) * self._speed / 60
             now = passed if minutes is None else min(passed, minutes)
-            for line in self.life.advance(now):
-                self._tell(f"{self._clock} {line}")
-            for name, offer in self.life.offers().items():
-                self.controls[name].offer(offer, time.monotonic())
-            self._stopping.wait(EVERY)
-            for name in self.life.members:
-                self.life.powers[name] = self.controls[name].power
-            if self._newest is not None and (sums := self._sums(self._newest)) != told:
-                told = sums
-                self._tell(f"{self._clock} {sums}")
+            told = self._look(now, told)
             if minutes is not None and now >= minutes:
                 return
+
+    def _settle(self) -> str:
+        """Lets no time pass until the market of the first events has settled: each member was told a power, and nothing changes any more."""
+        told, end = "", time.monotonic() + START_SECONDS
+        quiet_since = time.monotonic()
+        while self._lives() and time.monotonic() < min(end, quiet_since + QUIET_SECONDS):
+            newest, before = self._newest, told
+            told = self._look(0.0, told)
+            if told != before or self._newest is not newest or not all(self.controls[it].is_told for it in self.life.members):
+                quiet_since = time.monotonic()
+        return told
+
+    def _look(self, now: float, told: str) -> str:
+        """Lets time pass up to a minute, hands on what the devices offer then, and tells the sums if they differ from these. Gives them."""
+        for line in self.life.advance(now):
+            self._tell(f"{self._clock} {line}")
+        for name, offer in self.life.offers().items():
+            self.controls[name].offer(offer, time.monotonic())
+        self._stopping.wait(EVERY)
+        for name in self.life.members:
+            self.life.powers[name] = self.controls[name].power
+        if self._newest is not None and (sums := self._sums(self._newest)) != told:
+            told = sums
+            self._tell(f"{self._clock} {sums}")
+        return told
 
     @property
     def _clock(self) -> str:

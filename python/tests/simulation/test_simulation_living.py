@@ -79,7 +79,7 @@ def test_the_village_lives_and_its_page_says_that_its_devices_are_models(program
         thread.join(20)
     assert not thread.is_alive()
     assert told[1] == "00:00 phase 1: freezer1 joins, heat1 joins, bat1 joins, chp1 joins, solar1 joins, load1 joins, flex joins"
-    assert told[2] == "00:00 price 40: 7 devices take 2800 W and give 2800 W"
+    assert "00:00 price 40: 7 devices take 2800 W and give 2800 W" in told
     assert any(it.startswith("00:15 phase 3: solar1 has 300, goal joins") for it in told)
     assert any(it.startswith("00:45 phase 5: load1 leaves, goal leaves, flex has another bid") for it in told)
     assert "models" in view["note"] and "no part of the market" in view["note"]
