@@ -29,7 +29,7 @@ PIECES = [1, 7, 100, 100_000]
 
 def command_of_relay(chance):
     """A random command of a relay."""
-    return next(it for it in iter(lambda: random_command(chance), None) if it[0] == "relay")
+    return next(command for command in iter(lambda: random_command(chance), None) if command[0] == "relay")
 
 
 def stream_of_relay(chance):

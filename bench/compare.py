@@ -175,7 +175,7 @@ def ratio_lines(name, least, processors, peaks):
         lines.append(f"{MARKET} / {PLAIN}: time {whole}, without the reading {told(without_reading(least, PLAIN))}, "
                      f"time of processors {computing}")
     if PLAIN_THREADS in least:
-        time_taken, computing = (told(quotient(it[MARKET], it[PLAIN_THREADS]), THREADS_GOAL) for it in (least, processors))
+        time_taken, computing = (told(quotient(seconds[MARKET], seconds[PLAIN_THREADS]), THREADS_GOAL) for seconds in (least, processors))
         line = f"{MARKET} / {PLAIN_THREADS}: time {time_taken}, time of processors {computing}"
         if PLAIN_READING in least:
             line += f"; without the reading {told(without_reading(least, PLAIN_THREADS))}"
@@ -213,8 +213,8 @@ def counted(command, counter, path, due):
 
 def switches_of(taken):
     """How often the threads of a way were switched, in the median of its runs."""
-    left = statistics.median_low(it.left for it in taken)
-    forced = statistics.median_low(it.forced for it in taken)
+    left = statistics.median_low(run.left for run in taken)
+    forced = statistics.median_low(run.forced for run in taken)
     return f"{left:,} given up and {forced:,} forced"
 
 
@@ -241,8 +241,8 @@ def measured(ways, runs, counter, path):
         peaks[way], texts[way] = peak(command, path)
     compare_texts(texts)
     taken = runs_of(ways, runs, path)
-    least = {way: min(it.seconds for it in taken[way]) for way in ways}
-    processors = {way: min(it.processor_seconds for it in taken[way]) for way in ways}
+    least = {way: min(run.seconds for run in taken[way]) for way in ways}
+    processors = {way: min(run.processor_seconds for run in taken[way]) for way in ways}
     lines = [f"{name_of(path)}:"]
     for way in ways:
         lines.append(f"    {way:<13} {1000 * least[way]:8.1f} ms, {1000 * processors[way]:8.1f} ms of processors, "
@@ -258,7 +258,7 @@ def measured_largest(ways, runs, path):
     texts = {way: text_of(command, path) for way, command in ways.items()}
     compare_texts(texts)
     taken = runs_of(ways, runs, path)
-    times = ", ".join(f"{way} {min(it.seconds for it in taken[way]):.3f} s" for way in ways)
+    times = ", ".join(f"{way} {min(run.seconds for run in taken[way]):.3f} s" for way in ways)
     line = f"{name_of(path)}: {times}, {os.path.getsize(path):,} bytes read, {len(texts[MARKET]):,} bytes written"
     return [line], False
 
@@ -269,7 +269,7 @@ def envelope_of(path, folder):
     with open(path, "rb") as source, open(asked, "wb") as envelope:
         file = source.read()
         envelope.write(b"%d\n" % len(file) + file)
-        envelope.writelines(b"%d\n" % (it * 7 - 3 * TARGETS) for it in range(TARGETS))
+        envelope.writelines(b"%d\n" % (number * 7 - 3 * TARGETS) for number in range(TARGETS))
     return asked
 
 
@@ -322,7 +322,7 @@ def measured_judge(market, measure, path):
         raise Failed("market check and measure judge do not count the same moves")
     moves, size = moves_of(counted_moves), os.path.getsize(path)
     taken = runs_of(ways, LONG_RUNS, path)
-    least = {way: min(it.seconds for it in taken[way]) for way in ways}
+    least = {way: min(run.seconds for run in taken[way]) for way in ways}
     ratio, is_slow = beside(quotient(least[check], least[judge]), JUDGE_GOAL)
     memory, is_large = beside(megabytes - size / 1024 ** 2, JUDGE_MEGABYTES)
     return [f"{name_of(path)}: {moves:,} moves in {size:,} bytes, {check} {least[check]:.3f} s, {judge} {least[judge]:.3f} s, "
@@ -379,7 +379,7 @@ def tried(measure, *arguments):
 
 def main(runs, market, measure, plain, plain_threads, plain_serve, counter, folder):
     optional = (plain, plain_threads, plain_serve, counter)
-    plain, plain_threads, plain_serve, counter = (None if it == "-" else it for it in optional)
+    plain, plain_threads, plain_serve, counter = (None if word == "-" else word for word in optional)
     ways = ways_of(market, measure, plain, plain_threads)
     print(f"{os.cpu_count()} processors, {load()}, least of {runs} runs", flush=True)
     largest = sorted(glob.glob(os.path.join(folder, "largest", "*.json")))

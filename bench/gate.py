@@ -111,7 +111,7 @@ def git(*words):
 
 def table_of(page):
     """The proof's seconds of each crate of a page's table, and the seconds of all its rows and kinds."""
-    rows = {crate: [float(it.strip().replace(",", "") or 0) for it in cells.strip("|").split("|")] for crate, cells in ROW.findall(page)}
+    rows = {crate: [float(word.strip().replace(",", "") or 0) for word in cells.strip("|").split("|")] for crate, cells in ROW.findall(page)}
     # A fifth column has the sum of a row.
     return {crate: cells[0] for crate, cells in rows.items()}, sum(sum(cells[: len(KINDS)]) for cells in rows.values())
 
@@ -121,7 +121,7 @@ def beside(revision, page, table):
     proofs, whole = table_of(page)
     changed = set(SOURCES.findall(git("diff", "--name-only", revision, "--", "crates")))
     same = [crate for crate in proofs if crate in table and crate not in changed and min(proofs[crate], table[crate]["code"]) > 0]
-    before, now = sum(proofs[it] for it in same), sum(table[it]["code"] for it in same)
+    before, now = sum(proofs[crate] for crate in same), sum(table[crate]["code"] for crate in same)
     if not same:
         return f"no crate is as it was in {revision}: no pace can be told"
     pace = now / before
@@ -146,12 +146,12 @@ def main():
     order = [line.split(":")[0] for line in (TOP / "crates.txt").read_text().split("\n") if ":" in line]
     print("| Crate | Its proof s | That of its tests s | What its edits begin with s | Its edits s |")
     print("|---|---|---|---|---|")
-    for crate in sorted(table, key=lambda it: order.index(it) if it in order else len(order)):
+    for crate in sorted(table, key=lambda crate: order.index(crate) if crate in order else len(order)):
         print(f"| `{crate}` | " + " | ".join(f"{table[crate][kind]:.0f}" for kind in KINDS) + " |")
     sums = [sum(row[kind] for row in table.values()) for kind in KINDS]
-    print("| all | " + " | ".join(f"{it:.0f}" for it in sums) + " |")
+    print("| all | " + " | ".join(f"{sum_:.0f}" for sum_ in sums) + " |")
     print("\n| Edit | s |\n|---|---|")
-    for (crate, edit), spent in sorted(edits.items(), key=lambda it: -it[1])[:DEAREST]:
+    for (crate, edit), spent in sorted(edits.items(), key=lambda row: -row[1])[:DEAREST]:
         print(f"| `{crate}/{edit}` | {spent:.0f} |")
     print(f"\n{sum(sums) / 60:.0f} processor minutes in {minutes:.0f} minutes, status {status}")
     if revision:

@@ -21,7 +21,7 @@ import time
 from pathlib import Path
 
 TOP = Path(__file__).resolve().parents[1]
-sys.path[:0] = [str(TOP / it) for it in ("python", "python/tests/hub", "python/tests/live")]
+sys.path[:0] = [str(TOP / folder) for folder in ("python", "python/tests/hub", "python/tests/live")]
 
 from brokers import Certificates, live_program, wait_until  # noqa: E402
 from hubs import STEPS, HubProcess, TcpAgent, silent_connections, tokens_in  # noqa: E402
@@ -34,8 +34,8 @@ PROCESSOR_TICKS = os.sysconf("SC_CLK_TCK")
 def services_of(hub):
     """The processes of the hub's services, by their arguments."""
     found = subprocess.run(["ps", "-o", "pid=,args=", "--ppid", str(hub.process.pid)], capture_output=True, text=True, check=True)
-    words = [it.split() for it in found.stdout.splitlines()]
-    return {" ".join(it[2:]): int(it[0]) for it in words}
+    words = [line.split() for line in found.stdout.splitlines()]
+    return {" ".join(word[2:]): int(word[0]) for word in words}
 
 
 def processor_seconds(pid):
@@ -47,24 +47,24 @@ def processor_seconds(pid):
 def megabytes(pid):
     """The memory of a process that no other shares, in megabytes."""
     lines = Path(f"/proc/{pid}/smaps_rollup").read_text().splitlines()
-    return sum(int(it.split()[1]) for it in lines if it.startswith("Private")) / 1024
+    return sum(int(line.split()[1]) for line in lines if line.startswith("Private")) / 1024
 
 
 def rest(folder, agents=256, seconds=60):
-    tokens = tokens_in(folder, {f"agent{it}": it for it in range(1, agents + 1)})
+    tokens = tokens_in(folder, {f"agent{number}": number for number in range(1, agents + 1)})
     hub = HubProcess(folder, live_program(), tokens=tokens, pause=0.2)
     begin = time.monotonic()
     with hub:
         connected = []
         for number, name in enumerate(tokens, 1):
             connected.append(hub.agent(name).bids([number] * STEPS, 1))
-        wait_until(lambda: all(it.prices for it in connected), "each agent has a price", 600)
+        wait_until(lambda: all(agent.prices for agent in connected), "each agent has a price", 600)
         print(f"{agents} agents connected, bid and had a price within {time.monotonic() - begin:.1f} s")
         time.sleep(5)
         every = [hub.process.pid, *services_of(hub).values()]
-        before = {it: processor_seconds(it) for it in every}
+        before = {process: processor_seconds(process) for process in every}
         time.sleep(seconds)
-        used = {it: (processor_seconds(it) - before[it]) / seconds for it in every}
+        used = {process: (processor_seconds(process) - before[process]) / seconds for process in every}
         own = used.pop(every[0])
         print(f"at rest for {seconds} s: the hub uses {own:.2%} of a processor, its services {sum(used.values()):.2%}")
         services = sum(map(megabytes, every[1:]))
@@ -74,7 +74,7 @@ def rest(folder, agents=256, seconds=60):
             step = 3 + number % 2
             begin = time.monotonic()
             connected[0].bids([10_000_000] * step + [-10_000_000] * (STEPS - step), number)
-            wait_until(lambda step=step: all(it.has(step=step) for it in connected), "all have the price", 120)
+            wait_until(lambda step=step: all(agent.has(step=step) for agent in connected), "all have the price", 120)
             took.append(time.monotonic() - begin)
             time.sleep(0.5)
         median = statistics.median(took)
@@ -87,27 +87,27 @@ def records(folder, agents=256, times=20):
     from cogmaula.live.compressing import compress
 
     recordings = folder / "recorded"
-    tokens = tokens_in(folder, {f"agent{it}": it for it in range(1, agents + 1)})
+    tokens = tokens_in(folder, {f"agent{number}": number for number in range(1, agents + 1)})
     hub = HubProcess(folder, live_program(), tokens=tokens, pause=0.2, record=str(recordings))
 
     def size():
-        return sum(it.stat().st_size for it in recordings.iterdir())
+        return sum(path.stat().st_size for path in recordings.iterdir())
 
     with hub:
         connected = [hub.agent(name).bids([number] * STEPS, 1) for number, name in enumerate(tokens, 1)]
-        wait_until(lambda: all(it.prices for it in connected), "each agent has a price", 600)
+        wait_until(lambda: all(agent.prices for agent in connected), "each agent has a price", 600)
         time.sleep(2)
         begin, first = size(), connected[0].prices[-1]["clearing"]
         for number in range(2, times + 2):
             step = 3 + number % 2
             connected[0].bids([10_000_000] * step + [-10_000_000] * (STEPS - step), number)
-            wait_until(lambda step=step: all(it.has(step=step) for it in connected), "all have the price", 120)
+            wait_until(lambda step=step: all(agent.has(step=step) for agent in connected), "all have the price", 120)
         time.sleep(1)
         clearings = connected[0].prices[-1]["clearing"] - first
         made = (size() - begin) / clearings
     plain = size()
-    for it in recordings.glob("*.frames"):
-        compress(it)
+    for path in recordings.glob("*.frames"):
+        compress(path)
     share = size() / plain
     day = made * 86_400 / 1e9
     print(f"{agents} agents, {clearings} clearings: {made:,.0f} bytes a clearing, compressed {made * share:,.0f}")
@@ -189,18 +189,18 @@ class Flow:
     def _look(self):
         """Looks at what was told: no older clearing, and the power of just the bid that is named."""
         for name, agent in self.agents.items():
-            for it in agent.prices[agent.taken :]:
+            for price in agent.prices[agent.taken :]:
                 agent.taken += 1
-                self.wrong += it["clearing"] < self.last[name]
-                self.last[name] = it["clearing"]
+                self.wrong += price["clearing"] < self.last[name]
+                self.last[name] = price["clearing"]
                 if name == "store":
-                    self.wrong += it["power"] not in (0, -1_000 - it["bidNumber"])
-                    self.seen.append((time.monotonic(), it["bidNumber"]))
+                    self.wrong += price["power"] not in (0, -1_000 - price["bidNumber"])
+                    self.seen.append((time.monotonic(), price["bidNumber"]))
 
     def recovers(self):
         """The seconds until a bid that is made from now on has its price."""
         begin, number = time.monotonic(), self.number
-        wait_until(lambda: any(it[1] > number + 1 for it in self.seen[-50:]), "it comes back", 120)
+        wait_until(lambda: any(price[1] > number + 1 for price in self.seen[-50:]), "it comes back", 120)
         return time.monotonic() - begin
 
 

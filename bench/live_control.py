@@ -18,7 +18,7 @@ def main(host, port, device):
     first = (mqtt.CallbackAPIVersion.VERSION1,) if hasattr(mqtt, "CallbackAPIVersion") else ()
     client = mqtt.Client(*first, protocol=mqtt.MQTTv5)
     client.reconnect_delay_set(1, 1)
-    client.on_connect = lambda it, *_: it.subscribe(f"{PREFIX}/{device}/setpoint", 1)
+    client.on_connect = lambda client, *_: client.subscribe(f"{PREFIX}/{device}/setpoint", 1)
     client.on_message = lambda _it, _data, message: print(message.payload.decode(), flush=True)
     client.connect(host, int(port), 5)
     client.loop_start()

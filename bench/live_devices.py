@@ -55,9 +55,9 @@ class Device:
             return None
         falls, before, behind, _ = self.bids[number]
         self.index, self.step, self.power = index, step, before if step < falls else behind
-        made = [self.bids[it][3] for it in range(self.answered + 2, number + 1, 2)]
-        for it in range(max(2, self.answered), number, 2):
-            del self.bids[it]
+        made = [self.bids[earlier][3] for earlier in range(self.answered + 2, number + 1, 2)]
+        for earlier in range(max(2, self.answered), number, 2):
+            del self.bids[earlier]
         self.answered = number
         return made
 
@@ -77,7 +77,7 @@ class Devices:
         self._basis = f"{prefix}/basis".encode()
         self._session = ""
         self._link.subscribe([self._basis.decode()])
-        self._link.subscribe([f"{prefix}/{it}/price/+" for it in told["relays"]])
+        self._link.subscribe([f"{prefix}/{relay}/price/+" for relay in told["relays"]])
         self._rate, self._due, self._waiting = 0.0, 0.0, []
         self._behind = self._foreign = 0
         self._format = struct.Struct(f">BHI{self._steps}i")
@@ -131,7 +131,7 @@ class Devices:
                 _, _, number, index, step, *_ = PRICE_FORMAT.unpack(payload)
                 made = device.takes(number, index, step)
                 if made is not None:
-                    self._seconds += [now - it for it in made]
+                    self._seconds += [now - moment for moment in made]
                 elif index < device.index:
                     self._behind += 1
                 else:
@@ -160,7 +160,7 @@ class Devices:
             "bids": self._made,
             "confirmed": self._link.confirmed - self._confirmed,
             "prices": self._prices,
-            "waited": [round(it, 4) for it in self._seconds],
+            "waited": [round(seconds, 4) for seconds in self._seconds],
         }
         self._begin()
         return told
@@ -168,21 +168,21 @@ class Devices:
     def _state(self):
         sums = [0] * self._steps
         held = {}
-        for it in self._devices:
-            if it.number:
-                falls, before, behind, _ = it.bids[it.number]
+        for device in self._devices:
+            if device.number:
+                falls, before, behind, _ = device.bids[device.number]
                 for step in range(self._steps):
                     sums[step] += before if step < falls else behind
-            key = f"{it.index} {it.step}"
+            key = f"{device.index} {device.step}"
             held[key] = held.get(key, 0) + 1
         return {
             "devices": len(self._devices),
-            "bids": sum(1 for it in self._devices if it.number),
+            "bids": sum(1 for device in self._devices if device.number),
             "unconfirmed": self._link.unconfirmed,
             "sums": sums,
             "held": held,
-            "old": [it.topic[2:].decode() for it in self._devices if it.answered != it.number],
-            "power": sum(it.power or 0 for it in self._devices),
+            "old": [device.topic[2:].decode() for device in self._devices if device.answered != device.number],
+            "power": sum(device.power or 0 for device in self._devices),
             "behind": self._behind,
             "foreign": self._foreign,
         }

@@ -77,19 +77,19 @@ def measured(arguments, folder, log):
                 return False
             print(f"{len(PLACES)} nodes, {load()}; the first offers have setpoints after {took:.1f} s", flush=True)
             wire.begin(Faults(arguments.loss, arguments.duplicate, arguments.reorder, arguments.delay, arguments.jitter))
-            before, began, index = {it.name: len(it.setpoints) for it in market.devices}, time.monotonic(), market.clearing()
+            before, began, index = {device.name: len(device.setpoints) for device in market.devices}, time.monotonic(), market.clearing()
             count = storm(market, arguments)
             ended, told = time.monotonic(), wire.counts()
             wire.faults = Faults()
             clearings = market.clearing() - index
-            during = {it.name: [one for one in it.setpoints[before[it.name]:] if one[0] <= ended] for it in market.devices}
+            during = {device.name: [one for one in device.setpoints[before[device.name]:] if one[0] <= ended] for device in market.devices}
             wrong, took = market.settles(REST)
             print(f"{ended - began:.0f} s of faults: {told}; {count} kills; {clearings} clearings; {load()}")
             print("| Device | Offers | Setpoints | Longest without one s | From an offer to its setpoint |")
             print("|---|---|---|---|---|")
-            for it in market.devices:
-                longest = gaps(during[it.name], began, ended)
-                print(f"| {it.name} | {len(it.offers)} | {len(it.setpoints)} | {longest:.1f} | {times_text(it.waited())} |")
+            for device in market.devices:
+                longest = gaps(during[device.name], began, ended)
+                print(f"| {device.name} | {len(device.offers)} | {len(device.setpoints)} | {longest:.1f} | {times_text(device.waited())} |")
             print(f"healed: all have the newest setpoint after {took:.1f} s; {len(wrong)} wrong", flush=True)
             for line in wrong[:20]:
                 print(f"    {line}")

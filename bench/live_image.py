@@ -36,7 +36,7 @@ PARTS = ["broker", *NODES]
 PATIENCE = 90
 # What the official image has beyond debootstrap: no package's pages are kept, and no downloaded package.
 SLIM = {
-    "etc/dpkg/dpkg.cfg.d/docker": "".join(f"path-exclude /usr/share/{it}/*\n" for it in ("doc", "man", "locale")),
+    "etc/dpkg/dpkg.cfg.d/docker": "".join(f"path-exclude /usr/share/{folder}/*\n" for folder in ("doc", "man", "locale")),
     "etc/apt/apt.conf.d/docker-clean": 'Dir::Cache::pkgcache "";\nDir::Cache::srcpkgcache "";\n'
     'DPkg::Post-Invoke { "rm -f /var/cache/apt/archives/*.deb || true"; };\n',
 }
@@ -57,7 +57,7 @@ class Containers:
         )
         (self.folder.parent / "containers.conf").write_text(limits_text())
         told = {"CONTAINERS_STORAGE_CONF": "storage.conf", "CONTAINERS_CONF": "containers.conf"}
-        self._environment = {**os.environ, **{name: f"{folder}/{it}" for name, it in told.items()}}
+        self._environment = {**os.environ, **{name: f"{folder}/{path}" for name, path in told.items()}}
         # Nothing but the file system is to be apart while an image is built.
         self._environment["BUILDAH_ISOLATION"] = "chroot"
 
@@ -74,7 +74,7 @@ class Containers:
 
     def make_base(self, root):
         """Makes the base image from the root of a Debian."""
-        without = " ".join(f"--exclude=./{it}/*" for it in LEFT_OUT)
+        without = " ".join(f"--exclude=./{folder}/*" for folder in LEFT_OUT)
         more = self.folder.parent / "slim"
         for name, text in SLIM.items():
             (more / name).parent.mkdir(parents=True)
@@ -160,7 +160,7 @@ class Containers:
         wait_for(self.all_are_up, PATIENCE, "not all are up")
         told = self.offer()
         after = self.told()["store/setpoint"]
-        was, now = ([it["clearing"], it["bid"]] for it in (before, after))
+        was, now = ([setpoint["clearing"], setpoint["bid"]] for setpoint in (before, after))
         require(now[0] > was[0] and now[1] > was[1], f"{after} is not behind {before}")
         return f"clearing {now[0]} and bid {now[1]} after {was[0]} and {was[1]}; the store is {told}"
 
@@ -170,7 +170,7 @@ class Containers:
         began = time.monotonic()
         self.run(f"podman stop -t 10 {name}")
         took = time.monotonic() - began
-        told = wait_for(lambda: (it := self.told()["house/state"])["state"] == "down" and it, 5, "the broker does not say down")
+        told = wait_for(lambda: (state := self.told()["house/state"])["state"] == "down" and state, 5, "the broker does not say down")
         status = self.run(f"podman inspect -f '{{{{.State.ExitCode}}}}' {name}").strip()
         require((told["why"], status) == ("stopped", "0"), f"status {status}, {told}")
         return f"status 0 and down after {took:.1f} s"
@@ -193,14 +193,14 @@ def try_containers(found, containers):
     found.part("offers", containers.offer)
     found.part("secrets are apart", containers.secrets_are_apart)
     for part in PARTS:
-        found.part(f"the container of {part} is killed", lambda it=part: containers.killed(it))
+        found.part(f"the container of {part} is killed", lambda part_name=part: containers.killed(part_name))
     found.part("all containers are made anew", containers.goes_on)
     found.part("a container is stopped", containers.stopped)
 
 
 def limits_text():
     """The settings of podman for this system: no limit is raised, and crun takes no cgroups of two versions."""
-    nofile, nproc = (min(4096, resource.getrlimit(it)[1]) for it in (resource.RLIMIT_NOFILE, resource.RLIMIT_NPROC))
+    nofile, nproc = (min(4096, resource.getrlimit(limit)[1]) for limit in (resource.RLIMIT_NOFILE, resource.RLIMIT_NPROC))
     text = f'[containers]\ndefault_ulimits = ["nofile={nofile}:{nofile}", "nproc={nproc}:{nproc}"]\n'
     text += '[engine]\ncgroup_manager = "cgroupfs"\n'
     return text if (CGROUPS / "cgroup.procs").exists() else text + 'runtime = "runc"\n'
@@ -217,7 +217,7 @@ def main():
     need(
         (os.getuid() == 0, "root: run it as root"),
         (Path(arguments.package).is_file(), f"{arguments.package}: make deb makes it"),
-        *((shutil.which(it), f"{it}: install its package") for it in tools),
+        *((shutil.which(tool), f"{tool}: install its package") for tool in tools),
     )
     signal.signal(signal.SIGTERM, lambda *_: sys.exit(1))
     found = Found()

@@ -80,8 +80,8 @@ def cleared(told):
 
 def parts_of(market, control):
     """Of each part: how to kill it, how to start it or None, after how many seconds, and who is told setpoints through it."""
-    nodes, every = market.nodes, [market.nodes[it] for it in DEVICES]
-    west = [nodes[it] for it in DEVICES if it.startswith("west")]
+    nodes, every = market.nodes, [market.nodes[name] for name in DEVICES]
+    west = [nodes[name] for name in DEVICES if name.startswith("west")]
     return {
         "the broker": (market.broker.kill, market.broker.start, BROKER_RESTART, every),
         "the auctioneer's node": (nodes["auctioneer"].kill, nodes["auctioneer"].start, RESTART, every),
@@ -99,8 +99,8 @@ def trial(market, name, part, rate):
     kill, start, after, served = part
     market.flows(BEFORE, rate)
     killed_at, began = datetime.now(timezone.utc).timestamp(), time.monotonic()
-    others = [it for it in market.devices if it not in served]
-    before = sum(len(it.setpoints) for it in others)
+    others = [device for device in market.devices if device not in served]
+    before = sum(len(other.setpoints) for other in others)
     kill()
 
     def has_recovered(one):
@@ -113,8 +113,8 @@ def trial(market, name, part, rate):
         if time.monotonic() > began + PATIENCE:
             raise Failed(f"{name}: no new setpoints after {PATIENCE} s")
         market.flows(0.05, rate)
-    took = max(next(at for at, told in it.setpoints if cleared(told) > killed_at) for it in served) - began
-    meanwhile = sum(len(it.setpoints) for it in others) - before
+    took = max(next(at for at, told in device.setpoints if cleared(told) > killed_at) for device in served) - began
+    meanwhile = sum(len(other.setpoints) for other in others) - before
     if start is not None:
         start()
     wrong, _ = market.settles(PATIENCE)
@@ -132,7 +132,7 @@ def measured(arguments, folder, log):
             raise Failed("\n".join(["the market does not begin:", *wrong]))
         print(f"{load()}, pause {arguments.pause} s, {arguments.rate} offers a second")
         market.flows(20, arguments.rate)
-        waited = [it for one in market.devices for it in one.waited()]
+        waited = [seconds for one in market.devices for seconds in one.waited()]
         print(f"without kills, from an offer to its setpoint: {times_text(waited)}", flush=True)
         print("| Killed | Times | Recovers in s: median | most | Setpoints of others meanwhile |")
         print("|---|---|---|---|---|")
@@ -140,7 +140,7 @@ def measured(arguments, folder, log):
             if arguments.only and name not in arguments.only:
                 continue
             found = [trial(market, name, part, arguments.rate) for _ in range(arguments.times)]
-            took, meanwhile = [it for it, _ in found], sum(it for _, it in found)
+            took, meanwhile = [finding for finding, _ in found], sum(finding for _, finding in found)
             print(f"| {name} | {len(found)} | {statistics.median(took):.1f} | {max(took):.1f} | {meanwhile} |", flush=True)
         print(f"no setpoint went back, and after each kill all came to the newest one; {load()}")
 

@@ -35,7 +35,7 @@ class Machine:
         self._nspawn = self._init = None
         self._started = []
         tops = [CGROUPS] if (CGROUPS / "cgroup.procs").exists() else sorted(CGROUPS.iterdir())
-        self._groups = [it / f"cogmaula-{os.getpid()}" for it in tops] if ALONE else []
+        self._groups = [top / f"cogmaula-{os.getpid()}" for top in tops] if ALONE else []
 
     def boot(self, seconds=120):
         """Boots it, and waits until systemd says that all has started."""
@@ -53,10 +53,10 @@ class Machine:
 
     def _enter(self):
         """Takes the process to cgroups of its own, that are removed in the end."""
-        for it in self._groups:
+        for group in self._groups:
             with contextlib.suppress(OSError):
-                it.mkdir(exist_ok=True)
-                (it / "cgroup.procs").write_text(str(os.getpid()))
+                group.mkdir(exist_ok=True)
+                (group / "cgroup.procs").write_text(str(os.getpid()))
 
     @property
     def _init_root(self):
@@ -104,7 +104,7 @@ class Machine:
                     os.kill(number, signal.SIGKILL)
             self._nspawn.wait()
         self._nspawn = None
-        wait_for(lambda: not any(self._is_left(it) for it in self._groups), seconds, "its cgroups cannot be removed")
+        wait_for(lambda: not any(self._is_left(group) for group in self._groups), seconds, "its cgroups cannot be removed")
 
     @staticmethod
     def _is_left(group):

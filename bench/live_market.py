@@ -153,7 +153,7 @@ class Market:
     @property
     def devices(self):
         """The nodes that are devices."""
-        return [self.nodes[it] for it in DEVICES]
+        return [self.nodes[name] for name in DEVICES]
 
     def offer(self, name=None):
         """Lets a device make an offer, by chance."""
@@ -174,14 +174,14 @@ class Market:
 
     def unsettled(self):
         """What is wrong with the newest setpoints, if all is to be quiet: a line each."""
-        newest = {it.name: it.offers[max(it.offers)][0] for it in self.devices}
+        newest = {device.name: device.offers[max(device.offers)][0] for device in self.devices}
         sums = [sum(them) for them in zip(*newest.values(), strict=True)]
-        due = next((step for step, it in enumerate(sums) if it <= 0), STEPS - 1)
+        due = next((step for step, demand in enumerate(sums) if demand <= 0), STEPS - 1)
         last = self.clearing()
-        for it in self.devices:
-            told = it.setpoints[-1][1] if it.setpoints else {}
-            if (told.get("clearing"), told.get("step"), told.get("power")) != (last, due, newest[it.name][due]):
-                yield f"{it.name} has {told}; clearing {last}, step {due} and {newest[it.name][due]} W are due"
+        for device in self.devices:
+            told = device.setpoints[-1][1] if device.setpoints else {}
+            if (told.get("clearing"), told.get("step"), told.get("power")) != (last, due, newest[device.name][due]):
+                yield f"{device.name} has {told}; clearing {last}, step {due} and {newest[device.name][due]} W are due"
 
     def settles(self, seconds):
         """Lets each device offer once more, and waits until all have the newest setpoint.
@@ -198,6 +198,6 @@ class Market:
         took = time.monotonic() - began
         time.sleep(2)
         wrong = wrong or list(self.unsettled())
-        for it in self.devices:
-            wrong += it.faults()
+        for device in self.devices:
+            wrong += device.faults()
         return wrong, took

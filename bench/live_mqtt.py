@@ -79,7 +79,7 @@ class Connection:
 
     def subscribe(self, topics):
         """Subscribes to topics, each with QoS 1."""
-        told = self._number() + b"\x00" + b"".join(text(it) + b"\x01" for it in topics)
+        told = self._number() + b"\x00" + b"".join(text(topic) + b"\x01" for topic in topics)
         self._out += bytes([SUBSCRIBE]) + counted(told)
 
     def publish(self, topic, payload, properties):

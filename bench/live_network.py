@@ -27,7 +27,7 @@ def ip(*words):
 
 def remove_leftovers():
     """Removes the namespaces of runs that live no more, with what runs in them."""
-    for space in sorted(it.name for it in SPACES.iterdir()) if SPACES.exists() else []:
+    for space in sorted(path.name for path in SPACES.iterdir()) if SPACES.exists() else []:
         found = NAME.fullmatch(space)
         if found and not os.path.exists(f"/proc/{found[1]}"):
             remove(space)
@@ -88,22 +88,22 @@ class Network:
 
     def __exit__(self, *_):
         """Ends what runs in the namespaces, and removes them."""
-        for it in self.processes:
-            if it.stdin is not None:
+        for process in self.processes:
+            if process.stdin is not None:
                 try:
-                    it.stdin.close()
+                    process.stdin.close()
                 except OSError:
                     pass
         end = time.monotonic() + LAST_SECONDS
-        for it in reversed(self.processes):
-            if it.poll() is None:
-                it.terminate()
-        for it in self.processes:
+        for process in reversed(self.processes):
+            if process.poll() is None:
+                process.terminate()
+        for process in self.processes:
             try:
-                it.wait(max(0.1, end - time.monotonic()))
+                process.wait(max(0.1, end - time.monotonic()))
             except subprocess.TimeoutExpired:
-                it.kill()
-                it.wait()
+                process.kill()
+                process.wait()
         for name in [*self.addresses, "hub"]:
             remove(self._space(name))
 

@@ -26,12 +26,12 @@ class Nodes:
 
     def __init__(self, tables):
         self.heard, self.ended = 0, {}
-        self._nodes = {it["node"]["name"]: make_node(settings_of(it["sort"], it)) for it in tables}
+        self._nodes = {table["node"]["name"]: make_node(settings_of(table["sort"], table)) for table in tables}
         for node in self._nodes.values():
             self._count(node.serving)
-        self._threads = [threading.Thread(target=self._run, args=it, daemon=True) for it in self._nodes.items()]
-        for it in self._threads:
-            it.start()
+        self._threads = [threading.Thread(target=self._run, args=pair, daemon=True) for pair in self._nodes.items()]
+        for thread in self._threads:
+            thread.start()
 
     def _count(self, serving):
         """Counts the bids that a service is fed."""
@@ -52,14 +52,14 @@ class Nodes:
 
     def are_up(self):
         """Whether each node has a service, or has ended."""
-        return all(it.serving.service is not None or name in self.ended for name, it in self._nodes.items())
+        return all(node.serving.service is not None or name in self.ended for name, node in self._nodes.items())
 
     def stop(self):
         """Ends all nodes."""
-        for it in self._nodes.values():
-            it.stop()
-        for it in self._threads:
-            it.join(LAST_SECONDS)
+        for node in self._nodes.values():
+            node.stop()
+        for thread in self._threads:
+            thread.join(LAST_SECONDS)
 
 
 def main():

@@ -30,14 +30,14 @@ def processor_seconds(numbers):
 def resident(number):
     """The resident memory of a process in MB: all of it, and its proportional share of what it has in common with others."""
     told = dict(line.split(":", 1) for line in Path(f"/proc/{number}/smaps_rollup").read_text().splitlines()[1:])
-    return [int(told[it].split()[0]) / 1024 for it in ("Rss", "Pss")]
+    return [int(told[word].split()[0]) / 1024 for word in ("Rss", "Pss")]
 
 
 def memory_line(name, numbers):
     """A line of the memory of several processes of one kind."""
-    found = [resident(it) for it in numbers]
-    whole = [it[0] for it in found]
-    shares = sum(it[1] for it in found)
+    found = [resident(number) for number in numbers]
+    whole = [reading[0] for reading in found]
+    shares = sum(reading[1] for reading in found)
     middle = statistics.median(whole)
     return f"    {name}: {len(found)}, each {middle:.1f} MB (most {max(whole):.1f}), by share together {shares:.1f} MB"
 
@@ -69,9 +69,9 @@ class Spent:
         found = {}
         for name, spent in now.items():
             before = self._before[name]
-            found[name] = sum(it - before.get(number, 0.0) for number, it in spent.items()) / seconds
+            found[name] = sum(seconds - before.get(number, 0.0) for number, seconds in spent.items()) / seconds
         self._before = now
-        return ", ".join(f"{name} {it:.2f}" for name, it in found.items()) + f", together {sum(found.values()):.2f}"
+        return ", ".join(f"{name} {number:.2f}" for name, number in found.items()) + f", together {sum(found.values()):.2f}"
 
 
 def load():

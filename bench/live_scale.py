@@ -85,7 +85,7 @@ class Looker:
         network.add("looker")
         words = ["mosquitto_sub", "-h", address, "-p", str(PORT), "-F", "%t %x"]
         topics = [f"{COUNTS}received", f"{COUNTS}sent", f"{PREFIX}/auctioneer/resume"]
-        process = network.start("looker", [*words, *(it for topic in topics for it in ("-t", topic))], stdout=-1, text=True)
+        process = network.start("looker", [*words, *(word for topic in topics for word in ("-t", topic))], stdout=-1, text=True)
         self.newest = {}
         threading.Thread(target=self._read, args=(process.stdout,), daemon=True).start()
 
@@ -96,7 +96,7 @@ class Looker:
 
     def counts(self):
         """How many packets of MQTT the broker has taken and given, confirmations among them."""
-        return [int(self.newest.get(COUNTS + it, b"0")) for it in ("received", "sent")]
+        return [int(self.newest.get(COUNTS + word, b"0")) for word in ("received", "sent")]
 
     def clearing(self):
         """The index of the last clearing, by the auctioneer's Resume."""
@@ -123,22 +123,22 @@ class Market:
         self.arguments, self._network, self._log = arguments, network, log
         self.broker = Mosquitto(network, folder / "broker", *LINES).start()
         self.looker = Looker(network, self.broker.address)
-        above = [f"relay{it}" for it in range(1, relays + 1)]
-        self.lowest = [f"{name}-{it}" for name in above for it in range(1, relays + 1)]
+        above = [f"relay{number}" for number in range(1, relays + 1)]
+        self.lowest = [f"{name}-{number}" for name in above for number in range(1, relays + 1)]
         make = lambda *words: tables_of(arguments, folder / "state", self.broker.address, *words)  # noqa: E731
-        settings = [make("relay", name, "auctioneer", it) for it, name in enumerate(above, 1)]
+        settings = [make("relay", name, "auctioneer", child) for child, name in enumerate(above, 1)]
         settings += [make("relay", name, name.split("-")[0], int(name.split("-")[1])) for name in self.lowest]
         told = [] if arguments.broker_alone else [[make("auctioneer", "auctioneer")], *pieces(settings, arguments.nodes)]
-        self.nodes = [self._started(f"nodes{it}", ["live_nodes.py"]) for it in range(len(told))]
+        self.nodes = [self._started(f"nodes{number}", ["live_nodes.py"]) for number in range(len(told))]
         for part, tables in zip(self.nodes, told, strict=True):
             part.tell(json.dumps(tables))
-        for it in self.nodes:
-            it.answer()
+        for node in self.nodes:
+            node.answer()
         batches = pieces(self.lowest, max(1, arguments.devices // CHILDREN))
         broker = {"host": self.broker.address, "port": PORT, "prefix": PREFIX, "steps": arguments.steps, "children": CHILDREN}
         self.devices = [
-            self._started(f"devices{it}", ["live_devices.py", json.dumps({**broker, "relays": them, "seed": it})])
-            for it, them in enumerate(batches)
+            self._started(f"devices{number}", ["live_devices.py", json.dumps({**broker, "relays": them, "seed": number})])
+            for number, them in enumerate(batches)
         ]
 
     def _started(self, name, words):
@@ -147,29 +147,29 @@ class Market:
 
     def parts(self):
         """The numbers of the processes by part."""
-        nodes = [it.process.pid for it in self.nodes]
+        nodes = [node.process.pid for node in self.nodes]
         return {
             "broker": [self.broker.process.pid],
             "nodes": nodes,
-            "live": [it for number in nodes for it in children_of(number)],
-            "simulation": [it.process.pid for it in self.devices],
+            "live": [child for number in nodes for child in children_of(number)],
+            "simulation": [device.process.pid for device in self.devices],
         }
 
     def asked(self, parts, line):
         """The answers of some parts to a line."""
-        for it in parts:
-            it.tell(line)
-        return [json.loads(it.answer()) for it in parts]
+        for part in parts:
+            part.tell(line)
+        return [json.loads(part.answer()) for part in parts]
 
     def rate(self, word, rate):
         """Lets the devices bid, so many bids a second in all."""
-        for it in self.devices:
-            it.tell(f"{word} {rate if rate <= 0 else rate / len(self.devices)}")
+        for device in self.devices:
+            device.tell(f"{word} {rate if rate <= 0 else rate / len(self.devices)}")
 
     def phase(self, name, rate, seconds):
         """Lets bids flow for so many seconds, and prints what came."""
         self.asked(self.devices, "figures")
-        heard = sum(it["heard"] for it in self.asked(self.nodes, "figures"))
+        heard = sum(figures["heard"] for figures in self.asked(self.nodes, "figures"))
         counts, clearing = self.looker.counts(), self.looker.clearing()
         spent, began = Spent(self.parts()), time.monotonic()
         self.rate("rate", rate)
@@ -178,10 +178,10 @@ class Market:
         took = time.monotonic() - began
         clearings = self.looker.clearing() - clearing
         came, gone = (after - before for before, after in zip(counts, self.looker.counts(), strict=True))
-        heard = sum(it["heard"] for it in self.asked(self.nodes, "figures")) - heard
+        heard = sum(figures["heard"] for figures in self.asked(self.nodes, "figures")) - heard
         told = self.asked(self.devices, "figures")
-        bids, confirmed, prices = (sum(it[word] for it in told) for word in ("bids", "confirmed", "prices"))
-        waited = [it for one in told for it in one["waited"]]
+        bids, confirmed, prices = (sum(figures[word] for figures in told) for word in ("bids", "confirmed", "prices"))
+        waited = [seconds for one in told for seconds in one["waited"]]
         print(f"  {name}, {took:.0f} s, {load()}")
         print(f"    bids a second: made {bids / took:.1f}, confirmed by the broker {confirmed / took:.1f}, "
               f"given to services {heard / took:.1f}")
@@ -192,8 +192,8 @@ class Market:
 
     def require_nodes(self):
         """Raises Failed if a node has ended."""
-        for it in self.asked(self.nodes, "figures"):
-            for name, why in it["ended"].items():
+        for figures in self.asked(self.nodes, "figures"):
+            for name, why in figures["ended"].items():
                 raise Failed(f"the node {name} has ended: {why}")
 
     def rests(self):
@@ -211,24 +211,24 @@ class Market:
     def wrong(self, told):
         """What is wrong with what the devices hold, a line each."""
         steps, last = self.arguments.steps, self.looker.clearing()
-        sums = [sum(it["sums"][step] for it in told) for step in range(steps)]
-        due = next((step for step, it in enumerate(sums) if it <= 0), steps - 1)
+        sums = [sum(figures["sums"][step] for figures in told) for step in range(steps)]
+        due = next((step for step, demand in enumerate(sums) if demand <= 0), steps - 1)
         found, held = [], {}
-        for it in told:
-            for key, count in it["held"].items():
+        for figures in told:
+            for key, count in figures["held"].items():
                 held[key] = held.get(key, 0) + count
-            found += [f"{name} has no price for its newest bid" for name in it["old"]]
-            if it["bids"] < it["devices"]:
-                found.append(f"{it['devices'] - it['bids']} devices have not bid")
-            if it["behind"] or it["foreign"]:
-                found.append(f"{it['behind']} prices went back, and {it['foreign']} were for no bid")
+            found += [f"{name} has no price for its newest bid" for name in figures["old"]]
+            if figures["bids"] < figures["devices"]:
+                found.append(f"{figures['devices'] - figures['bids']} devices have not bid")
+            if figures["behind"] or figures["foreign"]:
+                found.append(f"{figures['behind']} prices went back, and {figures['foreign']} were for no bid")
         found += [f"{count} devices have the clearing and the step {key}, and {last} {due} is due" for key, count in held.items()
                   if key != f"{last} {due}"]
         return found
 
     def memory(self):
         """Prints the memory of each part."""
-        parts, services = self.parts(), [it for one in self.nodes[1:] for it in children_of(one.process.pid)]
+        parts, services = self.parts(), [child for one in self.nodes[1:] for child in children_of(one.process.pid)]
         print("  resident memory:")
         print(memory_line("mosquitto", parts["broker"]))
         if self.nodes:
@@ -262,7 +262,7 @@ def measured(arguments, relays, folder, log):
         market.rate("rate", 0)
         wrong, told, seconds = market.rests()
         market.memory()
-        power, clearing = sum(it["power"] for it in told), market.looker.clearing()
+        power, clearing = sum(figures["power"] for figures in told), market.looker.clearing()
         print(f"  in the end: {len(wrong)} wrong of {count:,} devices after {seconds:.0f} s; clearing {clearing}, "
               f"all setpoints together {power:,} W", flush=True)
         for line in wrong[:20]:

@@ -90,7 +90,7 @@ class Market:
     def all_are_up(self):
         """Waits until all are up."""
         for name in NODES:
-            wait_for(lambda it=name: self.is_up(it), PATIENCE, f"{name} is not up")
+            wait_for(lambda unit=name: self.is_up(unit), PATIENCE, f"{name} is not up")
 
     def index(self, name):
         """The index of the newest clearing that a node's Resume has."""
@@ -142,7 +142,7 @@ class Units:
     def cgroup(self, name, *files):
         """The words of those of these files that a unit's cgroup has."""
         group = self.show(name, "ControlGroup")
-        paths = " ".join(f"'/sys/fs/cgroup/{it[0]}{group}/{it[1]}'" for it in files)
+        paths = " ".join(f"'/sys/fs/cgroup/{file[0]}{group}/{file[1]}'" for file in files)
         return self._machine.run(f"cat {paths} 2>/dev/null", False).stdout.split()
 
 
@@ -230,7 +230,7 @@ def refused(market, units, name, edit, status):
     units.do("restart", name)
     market.all_are_up()
     require(is_left and ended == str(status), f"it ended with {ended}, and was started again")
-    return next(it for it in reversed(line) if it.startswith("cogmaula"))
+    return next(word for word in reversed(line) if word.startswith("cogmaula"))
 
 
 def set_as_in(machine, file, page, first):
@@ -243,7 +243,7 @@ def view_of(machine):
     """What the page of the machine shows, once it shows a clearing."""
 
     def shown():
-        code = "import urllib.request as it; print(it.urlopen('http://127.0.0.1:8080/view', timeout=5).read().decode())"
+        code = "import urllib.request; print(urllib.request.urlopen('http://127.0.0.1:8080/view', timeout=5).read().decode())"
         told = json.loads(machine.run(f'/usr/bin/python3 -c "{code}"', False).stdout or "{}")
         return told if told.get("clearing") else None
 
@@ -275,7 +275,7 @@ def page_on(market, units):
 
 def verified(machine, *units):
     """That systemd-analyze finds no fault in units."""
-    said = machine.run(f"systemd-analyze verify --man=no {' '.join(f'{it}.service' for it in units)}", False)
+    said = machine.run(f"systemd-analyze verify --man=no {' '.join(f'{unit}.service' for unit in units)}", False)
     require(said.returncode == 0 and not said.stderr.strip(), said.stderr.strip())
     return f"no fault in {', '.join(units)}"
 
@@ -292,7 +292,7 @@ def booted_again(market, units):
     require(market.told("basis")["session"] == session, "another session has begun")
     fallen = [name for name in NODES if market.index(name) < before[name]]
     require(not fallen, f"the index fell at {fallen}")
-    lines = [it for name in NODES for it in units.journal(name).splitlines() if "is newer than the one on disk" in it]
+    lines = [line for name in NODES for line in units.journal(name).splitlines() if "is newer than the one on disk" in line]
     require(not lines, f"a Resume on disk was lost: {lines}")
     return f"all are up {took:.1f} s after the order, in the same session; the next clearing is {market.offer()['clearing']}"
 
@@ -304,7 +304,7 @@ def limits(units, name):
     refusals = units.cgroup(name, *files)
     require(peak and refusals, "there is no controller of memory and of tasks")
     most = int(units.show(name, "MemoryMax")), int(units.show(name, "TasksMax"))
-    require(not any(int(it) for it in refusals if it.isdigit()), f"it was refused memory or tasks: {refusals}")
+    require(not any(int(refusal) for refusal in refusals if refusal.isdigit()), f"it was refused memory or tasks: {refusals}")
     tasks = units.show(name, "TasksCurrent")
     return f"{int(peak[0]) / 2**20:.0f} MB at most of {most[0] / 2**20:.0f}, and {tasks} tasks now of {most[1]}"
 
@@ -321,7 +321,7 @@ def hides(machine, units):
     users = {name: machine.run(f"stat -c %u /proc/{units.show(name, 'MainPID')}").stdout.strip() for name in NODES}
     require("house" in seen and "store" not in seen, f"it sees {seen.split()}")
     require("0" not in users.values(), f"it runs as root: {users}")
-    return f"house sees {', '.join(sorted(it for it in seen.split() if ':' not in it))}; users are {users}"
+    return f"house sees {', '.join(sorted(word for word in seen.split() if ':' not in word))}; users are {users}"
 
 
 def try_nodes(found, machine):
@@ -331,11 +331,11 @@ def try_nodes(found, machine):
     found.part("offers", lambda: f"told {json.dumps(market.offer())}")
     found.part("a node does not see what is another's", lambda: hides(machine, units))
     for name in NODES:
-        found.part(f"{unit_of(name)} is killed", lambda it=name: killed(market, units, it))
+        found.part(f"{unit_of(name)} is killed", lambda unit=name: killed(market, units, unit))
     for name in NODES:
-        found.part(f"the service of {name} is killed", lambda it=name: service_killed(market, units, it))
+        found.part(f"the service of {name} is killed", lambda unit=name: service_killed(market, units, unit))
     for name in NODES:
-        found.part(f"{unit_of(name)} is stopped and started", lambda it=name: stopped(market, units, it))
+        found.part(f"{unit_of(name)} is stopped and started", lambda unit=name: stopped(market, units, unit))
     found.part("a recording by the words of JUDGE.md", lambda: recording_on(market, units))
     found.part("a page by the words of OPERATE.md", lambda: page_on(market, units))
     found.part("systemd-analyze verify", lambda: verified(machine, *map(unit_of, NODES)))
@@ -344,8 +344,8 @@ def try_nodes(found, machine):
     found.part("status 2 is for good", lambda: refused(market, units, "house", "s/^child.*/child = 0/", 2))
     found.part("status 5 is for good", lambda: refused(market, units, "house", "s/^max.*/max = 18/", 5))
     for name in ("auctioneer", "street", "house"):
-        found.part(f"limits of {unit_of(name)}", lambda it=name: limits(units, it))
-        found.part(f"exposure of {unit_of(name)}", lambda it=name: exposure(machine, it))
+        found.part(f"limits of {unit_of(name)}", lambda unit=name: limits(units, unit))
+        found.part(f"exposure of {unit_of(name)}", lambda unit=name: exposure(machine, unit))
     found.part("the machine is stopped and booted", lambda: booted_again(market, units))
     for name in NODES:
         units.do("disable --now", name)
@@ -387,7 +387,7 @@ class Hub:
             self.agents[name] = self.machine.start(name, f"cd /root/hub; exec {command}", stdin=-1, stdout=-1, stderr=-2)
             threading.Thread(target=self._read, args=(self.lines[name], self.agents[name].stdout), daemon=True).start()
         for name in self.agents:
-            wait_for(lambda it=name: self.lines[it], PATIENCE, f"{name} is told nothing")
+            wait_for(lambda unit=name: self.lines[unit], PATIENCE, f"{name} is told nothing")
         clearing = self.bid()
         return f"listens after {took:.1f} s; the next clearing is {clearing}; house is told {self.lines['house'][-1]}"
 

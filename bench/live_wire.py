@@ -96,7 +96,7 @@ class Wire:
             raise
         self._places[frame[6:12]] = begin
         known = None if frame[0] & BROADCAST else self._places.get(frame[:6])
-        for end in [it for it in self._ends if it != begin] if known is None else [known]:
+        for end in [end for end in self._ends if end != begin] if known is None else [known]:
             self._travel(end, frame)
 
     def _travel(self, end, frame):

@@ -19,8 +19,8 @@ SEED = 3
 def bids(steps):
     """The demands of some bids, of devices that take and of devices that give, as bytes."""
     chance = random.Random(SEED)
-    for it in range(CHILDREN + 1):
-        most = 2_000 if it % 2 else 0
+    for child in range(CHILDREN + 1):
+        most = 2_000 if child % 2 else 0
         demands = sorted((most - chance.randint(0, 2_000) for _ in range(steps)), reverse=True)
         yield struct.pack(f">{steps}i", *demands)
 

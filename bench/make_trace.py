@@ -40,14 +40,14 @@ class Star:
 
     def __init__(self, devices, phases, events):
         self.chance = random.Random(SEED)
-        self.names = [f"d{it}" for it in range(1, devices + 1)]
+        self.names = [f"d{number}" for number in range(1, devices + 1)]
         self.fixed = range(devices - 1)
         self.starts = [self.chance.randint(0, MOST) for _ in self.fixed]
         # The device and its new number, for each event of each phase but the first.
         self.phases = [self.draw_events(events) for _ in range(1, phases)]
         self.demands = flexible_demands(devices)
         # What the manual device delivers at each step, which never falls.
-        self.given = [-it for it in self.demands]
+        self.given = [-demand for demand in self.demands]
 
     def draw_events(self, events):
         return [(self.chance.choice(self.fixed), self.chance.randint(0, MOST)) for _ in range(events)]
@@ -55,11 +55,11 @@ class Star:
     def file(self):
         """The cluster file."""
         kinds = ("load", "solar")
-        nodes = [{"name": self.names[it], "kind": kinds[it % 2], "parent": "auctioneer", "start": start}
-                 for it, start in enumerate(self.starts)]
+        nodes = [{"name": self.names[number], "kind": kinds[number % 2], "parent": "auctioneer", "start": start}
+                 for number, start in enumerate(self.starts)]
         flexible = {"name": self.names[-1], "kind": "manual", "parent": "auctioneer", "points": flexible_points(len(self.names))}
         phases = [{"events": [{"join": name} for name in self.names]}]
-        phases += [{"events": [{"state": self.names[it], "value": value} for it, value in events]} for events in self.phases]
+        phases += [{"events": [{"state": self.names[event], "value": value} for event, value in events]} for events in self.phases]
         basis = {"min": 0, "max": STEPS - 1, "steps": STEPS}
         return {"version": 1, "basis": basis, "nodes": [*nodes, flexible], "phases": phases}
 
@@ -77,7 +77,7 @@ class Run:
 
     def __init__(self, star):
         self.star = star
-        self.powers = [star.power(*it) for it in enumerate(star.starts)]
+        self.powers = [star.power(*pair) for pair in enumerate(star.starts)]
         # How many changes each device made, and how many of them the auctioneer learnt.
         self.made, self.learnt = [0] * len(star.names), [0] * len(star.names)
         self.clearings, self.changes = 0, 0

@@ -66,10 +66,10 @@ def main():
     for module, spent in found.items():
         last = module.rpartition(".")[2]
         sums[last if last in KINDS else "specs" if module.startswith("specs.") else "lemmas and others"] += spent
-    for kind, spent in sorted(sums.items(), key=lambda it: -it[1]):
+    for kind, spent in sorted(sums.items(), key=lambda pair: -pair[1]):
         print(f"{spent:8.1f}  {kind}")
     print()
-    for module, spent in sorted(found.items(), key=lambda it: -it[1]):
+    for module, spent in sorted(found.items(), key=lambda pair: -pair[1]):
         if spent >= LEAST:
             print(f"{spent:8.1f}  {module}")
     print(f"\n{sum(found.values()):.0f} seconds, status {check.returncode}")

@@ -45,10 +45,10 @@ def script_of(devices: int, quarters: int, seed: int) -> Cluster:
     leaves = [device_of(draw, at, f"feeder{at % 5}") for at in range(devices)]
     grid = Manual("grid", points=[(60, 200_000), (80, 0), (300, 0), (320, -200_000)])
     cluster = Cluster(Basis(0, 500, 501), [*feeders, *leaves, grid])
-    changing = [it for it in leaves if not isinstance(it, Battery)]
+    changing = [leaf for leaf in leaves if not isinstance(leaf, Battery)]
     phases = [cluster.join_all(), Tick(15)]
     for _ in range(1, quarters):
-        phases += [Events([State(it.name, draw.randrange(100, 4000)) for it in changing]), Tick(15)]
+        phases += [Events([State(device.name, draw.randrange(100, 4000)) for device in changing]), Tick(15)]
     return cluster.with_phases(*phases)
 
 
@@ -67,8 +67,8 @@ def load() -> str:
 
 def processor_time() -> float:
     """The seconds that this program and those that it started and that ended had of a processor."""
-    used = [resource.getrusage(it) for it in (resource.RUSAGE_SELF, resource.RUSAGE_CHILDREN)]
-    return sum(it.ru_utime + it.ru_stime for it in used)
+    used = [resource.getrusage(who) for who in (resource.RUSAGE_SELF, resource.RUSAGE_CHILDREN)]
+    return sum(usage.ru_utime + usage.ru_stime for usage in used)
 
 
 def year_of_a_house() -> Cluster:
@@ -169,7 +169,7 @@ def measure_study(folder: Path, many: int) -> None:
         outcomes = study(paths, processes=processes, program=program)
         took, used = time.monotonic() - begun, processor_time() - used
         alone = alone or (took, outcomes)
-        assert outcomes == alone[1] and not any(it.fault for it in outcomes)
+        assert outcomes == alone[1] and not any(outcome.fault for outcome in outcomes)
         told = f"{took:.1f} s, {used:.1f} s of a processor, {alone[0] / took:.2f} times as fast as one"
         print(f"study of {many} files over {processes} processes: {told}, {load()}")
 
@@ -195,12 +195,12 @@ def models_of(houses: int) -> list[Device]:
 
 def measure_simulation(ticks: int) -> None:
     """So many ticks of 50 models in a market of 100 steps."""
-    feeders = [Group(f"feeder{at}", -5000, 8000, tuple(it.name for it in models_of(10) if int(it.name[-1]) % 5 == at)) for at in range(5)]
+    feeders = [Group(f"feeder{at}", -5000, 8000, tuple(model.name for model in models_of(10) if int(model.name[-1]) % 5 == at)) for at in range(5)]
     for told, groups in (("one market", []), ("five groups with limits", feeders)):
         begun, used = time.monotonic(), processor_time()
         done = simulation.simulate(models_of(10), Basis(0, 99, 100), ticks=ticks, groups=groups, program=Program.find(TOP))
         took, used = time.monotonic() - begun, processor_time() - used
-        prices = len({it.price for it in done.ends})
+        prices = len({end.price for end in done.ends})
         memory = resource.getrusage(resource.RUSAGE_SELF).ru_maxrss // 1024
         print(f"{ticks} ticks of 50 models in {told}: {took:.1f} s, {used:.1f} s of a processor, {memory} MB, {prices} prices, {load()}")
 

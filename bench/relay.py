@@ -71,8 +71,8 @@ def measured_stream(commands, runs, path):
     taken = runs_of(commands, runs, path)
     lines = [f"{name_of(path)}: {frames:,} frames, {bids:,} bids, {os.path.getsize(path):,} bytes read, "
              f"{len(texts[LIVE]):,} bytes written"]
-    least = {way: min(it.seconds for it in taken[way]) for way in commands}
-    processors = {way: min(it.processor_seconds for it in taken[way]) for way in commands}
+    least = {way: min(run.seconds for run in taken[way]) for way in commands}
+    processors = {way: min(run.processor_seconds for run in taken[way]) for way in commands}
     for way, seconds in least.items():
         lines.append(f"    {way:<11} {1000 * seconds:8.1f} ms, {1000 * processors[way]:8.1f} ms of processors, "
                      f"{frames / seconds:,.0f} frames and {bids / seconds:,.0f} bids a second")

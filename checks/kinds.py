@@ -15,12 +15,12 @@ def forms():
     for form in json.loads((TOP / SCHEMA).read_text())["$defs"].values():
         kind = form.get("properties", {}).get("kind", {})
         if "const" in kind:
-            yield kind["const"], {name: it for name, it in form["properties"].items() if name not in COMMON}
+            yield kind["const"], {name: value for name, value in form["properties"].items() if name not in COMMON}
 
 
 def kinds():
     """The numbers of each kind with their limits. Of a manual device one of several lists is chosen, so it has none."""
     return {
-        kind: {name: (it["minimum"], it["maximum"]) for name, it in members.items() if "minimum" in it}
+        kind: {name: (member["minimum"], member["maximum"]) for name, member in members.items() if "minimum" in member}
         for kind, members in forms()
     }

@@ -30,33 +30,33 @@ def place() -> str:
 def has_store(kit: Any) -> bool:
     """Whether this kit keeps what it proved, by the calls that are made here."""
     known = hasattr(kit, "STORE") and hasattr(kit, "STORE_MOST") and hasattr(kit, "Kept")
-    return known and all(hasattr(kit.Kept, it) for it in CALLS)
+    return known and all(hasattr(kit.Kept, name) for name in CALLS)
 
 
 def seen_by_kit(crate: Any) -> Any:
     """The crate as the kit's store sees it: with the same sources, and with what is built below out/prove."""
-    it = copy.copy(crate)
-    it.folder = f"{crate.folder}/out/prove"
-    os.makedirs(f"{it.folder}/out", exist_ok=True)
+    seen = copy.copy(crate)
+    seen.folder = f"{crate.folder}/out/prove"
+    os.makedirs(f"{seen.folder}/out", exist_ok=True)
     for part in PARTS:
-        if os.path.isdir(f"{crate.folder}/{part}") and not os.path.islink(f"{it.folder}/{part}"):
-            os.symlink(f"../../{part}", f"{it.folder}/{part}")
-    return it
+        if os.path.isdir(f"{crate.folder}/{part}") and not os.path.islink(f"{seen.folder}/{part}"):
+            os.symlink(f"../../{part}", f"{seen.folder}/{part}")
+    return seen
 
 
 def remove_links(crates: Path) -> None:
     """Removes the links by which the kit's store saw the sources of these crates: other commands of the kit refuse links in a crate."""
     for part in PARTS:
-        for it in crates.glob(f"*/out/prove/{part}"):
-            if it.is_symlink():
-                it.unlink(missing_ok=True)
+        for path in crates.glob(f"*/out/prove/{part}"):
+            if path.is_symlink():
+                path.unlink(missing_ok=True)
 
 
 class Stores:
     """The kit's store and that of `market prove`, for the crates of one run."""
 
     def __init__(self, kit: Any, crates: list[Any]) -> None:
-        self.crates = {str(it.name): seen_by_kit(it) for it in crates}
+        self.crates = {str(crate.name): seen_by_kit(crate) for crate in crates}
         seen = self.crates
 
         class Own(kit.Kept):  # type: ignore[misc]
@@ -80,14 +80,14 @@ class Stores:
 
     def take(self, crate: Any) -> bool:
         """Gives the crate what was built of it by an earlier proof of the same, and returns whether there was one."""
-        it = self.crates[crate.name]
-        key = self.own.key(it)
-        return bool(self.own.give(it, False, key) or self.passed.give(it, False, key))
+        crate_seen = self.crates[crate.name]
+        key = self.own.key(crate_seen)
+        return bool(self.own.give(crate_seen, False, key) or self.passed.give(crate_seen, False, key))
 
     def keep(self, crate: Any) -> None:
         """Keeps what was proved just now of a crate, unless its files changed meanwhile."""
-        it = self.crates[crate.name]
-        self.own.keep(it, False, self.own.key(it))
+        crate_seen = self.crates[crate.name]
+        self.own.keep(crate_seen, False, self.own.key(crate_seen))
 
     def shrink(self) -> None:
         """Removes what was not used for longest, until the store is within bounds."""
@@ -104,6 +104,6 @@ def stores_of(kit: Any, crates: list[Any]) -> Stores | None:
 
 def clear(crate: Any) -> None:
     """Removes what an earlier run built below out/prove."""
-    for it in ("out", f"{crate.name}.rlib"):
-        shutil.rmtree(f"{crate.folder}/out/prove/{it}", ignore_errors=True)
+    for name in ("out", f"{crate.name}.rlib"):
+        shutil.rmtree(f"{crate.folder}/out/prove/{name}", ignore_errors=True)
     os.makedirs(f"{crate.folder}/out/prove/out/rlib")

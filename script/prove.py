@@ -152,7 +152,7 @@ class Lanes:
 
     def __init__(self, crates: list[Any], seconds: dict[str, float], processors: int, need: Callable[[Any], float]) -> None:
         self.waiting = list(crates)
-        self.open = {str(it.name) for it in crates}
+        self.open = {str(crate.name) for crate in crates}
         self.processors = processors
         self.need = need
         # By its name, the memory of each proof that runs.
@@ -195,7 +195,7 @@ class Lanes:
 
     def choose(self) -> list[tuple[Any, int, int]]:
         """The proofs that start now: of each the crate, its jobs, and its rank among the priorities."""
-        ready = [it for it in self.waiting if not any(below.name in self.open for below in it.below())]
+        ready = [crate for crate in self.waiting if not any(below.name in self.open for below in crate.below())]
         ready.sort(key=self.seconds_above, reverse=True)
         longest = max(self.above[name] for name in self.open)
         chosen = []
@@ -240,7 +240,7 @@ class Proofs:
         self.crates = [*self.program.below(), self.program]
         for crate in self.crates:
             crate.rlib = f"{crate.folder}/out/prove/out/rlib/{crate.name}.rlib"
-        self.sums = {it.name: sum_of(it) for it in self.crates}
+        self.sums = {crate.name: sum_of(crate) for crate in self.crates}
         self.stores = kept.stores_of(kit, self.crates)
 
     def built_program(self) -> Path:
@@ -253,8 +253,8 @@ class Proofs:
 
     def due_in_stamp(self, crate: Any) -> str:
         """What the stamp of a proved crate says: the kit, and a sum of the crate and of each below it, and of the built program."""
-        names = [crate.name, *(it.name for it in crate.below())]
-        lines = [Path(f"{self.kit.KIT}/KIT-ID").read_text().strip(), *(f"{it} {self.sums[it]}" for it in names)]
+        names = [crate.name, *(crate_below.name for crate_below in crate.below())]
+        lines = [Path(f"{self.kit.KIT}/KIT-ID").read_text().strip(), *(f"{name} {self.sums[name]}" for name in names)]
         if crate.name == self.program.name:
             lines.append(f"program {hashlib.sha256(self.built_program().read_bytes()).hexdigest()}")
         return "\n".join(lines)
@@ -316,8 +316,8 @@ class Proofs:
 
     def run(self, processors: int) -> bool:
         """Proves what is not kept, side by side, and returns whether all is proved."""
-        lines = {it.name: lines_of(it) for it in self.crates}
-        held = {it.name for it in self.crates if not self.is_anew and self.is_kept(it)}
+        lines = {crate.name: lines_of(crate) for crate in self.crates}
+        held = {crate.name for crate in self.crates if not self.is_anew and self.is_kept(crate)}
         for crate in self.crates:
             if crate.name in held and self.stores is not None:
                 self.stores.note(crate)
@@ -326,7 +326,7 @@ class Proofs:
         progress.tell()
         measured = measured_seconds()
         seconds = {name: measured.get(name, LEAST_SECONDS + SECONDS_A_LINE * count) for name, count in lines.items()}
-        lanes = Lanes([it for it in self.crates if it.name not in held], seconds, processors, self.kit.need)
+        lanes = Lanes([crate for crate in self.crates if crate.name not in held], seconds, processors, self.kit.need)
         failed = lanes.run(lambda crate, jobs: progress.run(crate.name, lambda: self.prove(crate, jobs)))
         for crate in failed:
             self.tell_of(crate)
@@ -350,12 +350,12 @@ def free_memory() -> int:
 def files_of(crate: Any) -> list[Path]:
     """The files that a crate is proved from."""
     folders = (Path(crate.folder) / part for part in ("src", "specs", "proofs"))
-    return sorted(it for folder in folders for it in folder.rglob("*") if it.is_file())
+    return sorted(path for folder in folders for path in folder.rglob("*") if path.is_file())
 
 
 def lines_of(crate: Any) -> int:
     """How many lines of code a crate has. Its proof costs about so much, whatever lines of proof it has."""
-    return sum(it.read_bytes().count(b"\n") for it in files_of(crate) if it.suffix == ".rt")
+    return sum(path.read_bytes().count(b"\n") for path in files_of(crate) if path.suffix == ".rt")
 
 
 def copy_program(one: Path, other: Path) -> None:
@@ -367,15 +367,15 @@ def copy_program(one: Path, other: Path) -> None:
 
 def measured_seconds() -> dict[str, float]:
     """The processor seconds of each proof that was measured, by the crate's name."""
-    rows = (it.split() for it in SECONDS.read_text().splitlines() if it and not it.startswith("#"))
+    rows = (line.split() for line in SECONDS.read_text().splitlines() if line and not line.startswith("#"))
     return {name: float(seconds) for name, seconds in rows}
 
 
 def sum_of(crate: Any) -> str:
     """A sum of the names and contents of a crate's files, and of what crates.txt says of it."""
     whole = hashlib.sha256(repr(crate.said).encode())
-    for it in files_of(crate):
-        whole.update(f"{it.relative_to(crate.folder)}\0".encode() + hashlib.sha256(it.read_bytes()).digest())
+    for path in files_of(crate):
+        whole.update(f"{path.relative_to(crate.folder)}\0".encode() + hashlib.sha256(path.read_bytes()).digest())
     return whole.hexdigest()
 
 
@@ -416,8 +416,8 @@ def main() -> int:
         return 0 if run_by_turns(given.program) else 1
     # The first call sets a signal's handler, which only the main thread may. What it starts ends with this process.
     kit.rtlib.guarded()
-    for it in (signal.SIGTERM, signal.SIGHUP, signal.SIGINT):
-        signal.signal(it, lambda number, _: end_at_once(128 + number))
+    for signal_number in (signal.SIGTERM, signal.SIGHUP, signal.SIGINT):
+        signal.signal(signal_number, lambda number, _: end_at_once(128 + number))
     try:
         return 0 if Proofs(kit, given.program, given.anew).run(given.jobs) else 1
     finally:

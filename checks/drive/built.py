@@ -20,8 +20,8 @@ def ended(program, arguments, text, seconds=SECONDS):
 
 def differs(found, due):
     """What is wrong with the status and the answers of a run, or None."""
-    def told(it):
-        return f"{it[0]} and answers that end with {it[1][-60:].hex()}"
+    def told(message):
+        return f"{message[0]} and answers that end with {message[1][-60:].hex()}"
 
     return None if found == due else f"it ends with {told(found)}, and due is {told(due)}"
 

@@ -73,7 +73,7 @@ class Carriers:
         # By relay and number the demands that it bid.
         self.announced = {}
         # By sender and receiver: the frames on their way, and the newest bid or price that was sent, with its number or index.
-        self.ways = {way: [] for it in self.tree.places[1:] for way in ((it.at, it.parent), (it.parent, it.at))}
+        self.ways = {way: [] for place in self.tree.places[1:] for way in ((place.at, place.parent), (place.parent, place.at))}
         self.newest = {}
         self.sites = [Site(place, None) for place in self.tree.places]
         for site in self.sites:
@@ -170,7 +170,7 @@ class Carriers:
         require(number == self.cuts.newest.get(at, 0) + 1, f"{site} goes on with number {number}")
         require(meaning == site.heard, f"{site} bids {meaning} as its number {number}, and {site.heard} is due")
         before = self.cuts.meant.get((at, number - 1), {})
-        back = [it for it in before if meaning.get(it, 0) < before[it]]
+        back = [device for device in before if meaning.get(device, 0) < before[device]]
         require(not back, f"{site} bids {meaning} as its number {number}, behind {before}")
         self.cuts.add(at, number, dict(meaning))
 
@@ -297,9 +297,9 @@ class Carriers:
         site.node, site.heard = started(self.program, site.place, self.tree.steps), {}
         number, meaning, site.index = self.parted(site, resume) if resume else (0, {}, 0)
         # A relay that comes back has heard the limits of its Resume.
-        heard = {it: meaning[it] for it in meaning if self.tree.places[it].kind == GIVER} if site.place.kind == RELAY else {}
+        heard = {child: meaning[child] for child in meaning if self.tree.places[child].kind == GIVER} if site.place.kind == RELAY else {}
         site.heard = heard
-        bounds = b"".join(bound(child, -it, it) for child, it in site.bounds.items())
+        bounds = b"".join(bound(child, -bound_, bound_) for child, bound_ in site.bounds.items())
         steps = self.tree.steps
         self.give(site, hello(steps, 0, steps - 1) + resume + bounds)
 

@@ -15,7 +15,7 @@ from checks.make.cases import DONE, Case, cases
 def ended(program, case):
     """The exit status, and what was written."""
     closed = [0] * (case.stdin is None) + [1] * (case.sink == "closed")
-    settings = {"stderr": subprocess.DEVNULL, "preexec_fn": lambda: [os.close(it) for it in closed], "timeout": 120}
+    settings = {"stderr": subprocess.DEVNULL, "preexec_fn": lambda: [os.close(number) for number in closed], "timeout": 120}
     opened = []
     try:
         if isinstance(case.stdin, bytes):
@@ -31,8 +31,8 @@ def ended(program, case):
         done = subprocess.run([program, *case.arguments], **settings)
         return done.returncode, done.stdout or b""
     finally:
-        for it in opened:
-            os.close(it)
+        for number in opened:
+            os.close(number)
 
 
 def why_failed(program, case):
@@ -55,7 +55,7 @@ def demos(program):
     """The largest demo is the same each time."""
     front = b"demo size 200 number 7 nodes 210 phases 21 changes "
     first = ended(program, Case("", ["demo", "200", "7"], CASES, None, DONE))[1]
-    yield Case("demo 200 7", ["demo", "200", "7"], CASES, lambda it: it.startswith(front) and it == first, DONE)
+    yield Case("demo 200 7", ["demo", "200", "7"], CASES, lambda line: line.startswith(front) and line == first, DONE)
 
 
 def main(programs):

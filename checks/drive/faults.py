@@ -204,8 +204,8 @@ def ended_into(program, arguments, text, output):
 def without_streams(program, arguments, text, closed):
     """A run to which the streams of these numbers are closed."""
     def close():
-        for it in closed:
-            os.close(it)
+        for number in closed:
+            os.close(number)
 
     child = start(program, arguments, stdin=subprocess.PIPE, preexec_fn=close)
     written = child.communicate(text, timeout=SECONDS)[0]

@@ -31,8 +31,8 @@ class Inputs:
     def __init__(self, program, seed):
         self.chance = random.Random(seed)
         folders = (TOP / "examples", CASES / "run", CASES / "limits")
-        files = [it.read_bytes() for folder in folders for it in sorted(folder.glob("*.json"))]
-        self.files = [it for it in files if len(it) < 10_000]
+        files = [path.read_bytes() for folder in folders for path in sorted(folder.glob("*.json"))]
+        self.files = [data for data in files if len(data) < 10_000]
         self.commands = ["run", "run", "trace", "bill", "ask", "ask", "check", "check", "serve", "serve", "free"]
         self.traces = {}
         self.program = program
@@ -41,7 +41,7 @@ class Inputs:
         """What stands behind a file: targets, or a trace of it."""
         if command == "ask":
             targets = [self.chance.choice([*NUMBERS[:32], 5, -50, 100]) for _ in range(self.chance.randint(0, 6))]
-            return b"".join(b"%d\n" % it for it in targets)
+            return b"".join(b"%d\n" % target for target in targets)
         if file not in self.traces:
             self.traces[file] = ended(self.program, ["trace"], file)[1]
         return self.traces[file]
@@ -74,8 +74,8 @@ def why_failed(program, command, text):
         why = why_wrong(command, text, found, due)
         if why is None and due[0] == 0 and command != "trace" and ended(program, [command], text, SECONDS) != found:
             why = "a second run writes another text"
-    except Hangs as it:
-        why = str(it)
+    except Hangs as fault:
+        why = str(fault)
     return why, due
 
 

@@ -42,7 +42,7 @@ def main(program, everything, minutes):
             tell("mutated inputs", fuzz.tried(program, counts=counts, **mutated)),
         ]
     print(fuzz.told(counts))
-    passed, failed = (sum(it) for it in zip(*results))
+    passed, failed = (sum(numbers) for numbers in zip(*results))
     print(f"{passed} passed, {failed} failed")
     return 1 if failed else 0
 

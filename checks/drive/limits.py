@@ -10,8 +10,8 @@ SECONDS = 120
 def why_not(program, command, text):
     try:
         return why_wrong(command, text, ended(program, [command], text, SECONDS), due_of(command, text))
-    except Hangs as it:
-        return str(it)
+    except Hangs as fault:
+        return str(fault)
 
 
 def tried(program, everything):

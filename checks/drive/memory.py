@@ -117,7 +117,7 @@ def main(program, everything):
     village = (TOP / "examples" / "village.json").read_bytes()
     deep = (CASES / "limits" / "load_under_6_concentrators.json").read_bytes()
     refused = [(["run"], two_bids), (["trace"], lone_load), (["run"], village), (["demo", "7", "7"], b"")]
-    refused += [([it], deep) for it in ("run", "trace", "bill", "free")] + [(["ask"], b"%d\n" % len(deep) + deep + b"0\n100\n")]
+    refused += [([command], deep) for command in ("run", "trace", "bill", "free")] + [(["ask"], b"%d\n" % len(deep) + deep + b"0\n100\n")]
     refused += [(["check"], (CASES / "check" / "two_bids_one_after_the_other.stdin").read_bytes()), (["serve"], small_stream())]
     tried = []
     with tempfile.TemporaryDirectory() as name:

@@ -59,7 +59,7 @@ class Network(Carriers):
 
     def drawn(self, *kinds):
         """A node of these kinds that runs, None if there is none."""
-        found = [it for it in self.sites if it.place.kind in kinds and not it.is_dead]
+        found = [site for site in self.sites if site.place.kind in kinds and not site.is_dead]
         return self.chance.choice(found) if found else None
 
     def give_limits(self):
@@ -96,7 +96,7 @@ class Network(Carriers):
 
     def end_one(self):
         """A device ends for good, or one that had comes back with its newest Resume."""
-        dead = [it for it in self.sites if it.is_dead]
+        dead = [site for site in self.sites if site.is_dead]
         site = self.chance.choice(dead) if dead and self.chance.random() < 0.5 else self.drawn(DEVICE)
         if site is None:
             return
@@ -105,7 +105,7 @@ class Network(Carriers):
             self.come_back(site)
 
     def deliver_one(self):
-        ways = [it for it, frames_on_it in self.ways.items() if frames_on_it]
+        ways = [way for way, frames_on_it in self.ways.items() if frames_on_it]
         if not ways:
             return
         way = self.chance.choice(ways)
@@ -149,7 +149,7 @@ class Network(Carriers):
                 self.deliver(way, on_it.pop())
         self.round()
         self.stops = 0
-        rounds = next((it for it in range(ROUNDS) if self.round()), None)
+        rounds = next((number for number in range(ROUNDS) if self.round()), None)
         require(rounds is not None, f"the network has not settled after {ROUNDS} rounds")
         self.stops = STOPS
 
@@ -165,10 +165,10 @@ class Network(Carriers):
                 answers += self.give(site, SEND if site.place.kind == RELAY else CLEAR)
         for site in self.sites[1:]:
             way = site.place.parent, site.place.at
-            for it in [it for it in self.ways[way] if it[0] == frames.OLD]:
-                self.deliver(way, it)
+            for frame in [frame for frame in self.ways[way] if frame[0] == frames.OLD]:
+                self.deliver(way, frame)
             self.deliver_newest(way)
-        return all(it == NOT_CHANGED for it in answers) and before == self.cuts.newest
+        return all(answer == NOT_CHANGED for answer in answers) and before == self.cuts.newest
 
     def deliver_newest(self, way):
         self.ways[way].clear()
@@ -177,7 +177,7 @@ class Network(Carriers):
 
     def compare_all(self):
         """Looks whether each member that lives holds the price of the last clearing, and this is the auction of their newest offers."""
-        devices = [it.place.at for it in self.sites if it.place.kind == DEVICE and not it.is_dead and it.place.at in self.cuts.newest]
+        devices = [site.place.at for site in self.sites if site.place.kind == DEVICE and not site.is_dead and site.place.at in self.cuts.newest]
         offers = {at: self.cuts.meant[at, self.cuts.newest[at]] for at in devices}
         members = {at: demands for at, demands in offers.items() if demands is not None}
         index = self.cuts.newest.get(0, 0)
@@ -185,16 +185,16 @@ class Network(Carriers):
             due = self.cuts.newest[at], index, step, members[at][step]
             require(self.sites[at].told == due, f"{self.sites[at]} holds {self.sites[at].told} at last, and due is {due}")
             self.compared += 1
-        told = [it.place.at for it in self.sites if it.place.kind == DEVICE and it.place.at in self.cuts.told(index)] if index else []
+        told = [site.place.at for site in self.sites if site.place.kind == DEVICE and site.place.at in self.cuts.told(index)] if index else []
         require(set(told) == members.keys(), f"clearing {index} tells {told}, and members are {list(members)}")
 
     def newest_limits(self):
         """The floor and the ceiling of each relay that were given last."""
-        given = {it.parent: self.cuts.newest.get(it.at, 0) for it in self.tree.places if it.kind == GIVER}
-        givers = {it.parent: it.at for it in self.tree.places if it.kind == GIVER}
+        given = {place.parent: self.cuts.newest.get(place.at, 0) for place in self.tree.places if place.kind == GIVER}
+        givers = {place.parent: place.at for place in self.tree.places if place.kind == GIVER}
         return {
-            it.at: self.cuts.meant[givers[it.at], given[it.at]] if given.get(it.at) else (it.floor, it.ceiling)
-            for it in self.tree.places if it.kind == RELAY
+            place.at: self.cuts.meant[givers[place.at], given[place.at]] if given.get(place.at) else (place.floor, place.ceiling)
+            for place in self.tree.places if place.kind == RELAY
         }
 
 

@@ -109,7 +109,7 @@ def first_of_each(parts):
 def of_two_bids(arguments, steps, *written):
     """A number under which a node bid two things in its lives, or None."""
     bids = {}
-    for answer in (it for data in written for it in answers_in(data, arguments, steps)):
+    for answer in (answer for data in written for answer in answers_in(data, arguments, steps)):
         if answer[0] in (frames.BID, frames.GONE) and bids.setdefault(answer[3:7], answer) != answer:
             return int.from_bytes(answer[3:7], "big")
     return None
@@ -128,7 +128,7 @@ def try_kills(program, number, folder):
         due = (-signal.SIGXFSZ, answers[:size]) if answers else (frames.DONE, b"")
         yield named(arguments, f"killed {seed} at byte {size}"), differs((status, written), due)
         kept = ([b"", *resumes_in(b"".join(parts[1:2]), arguments, steps)] + resumes_in(written, arguments, steps))[-1]
-        later = [it for it in parts[1:] if it[0] not in (nodes.RESUME, nodes.RESUME_GONE)]
+        later = [part for part in parts[1:] if part[0] not in (nodes.RESUME, nodes.RESUME_GONE)]
         second = parts[0] + kept + b"".join(later[chance.randint(0, len(later)) :])
         found, due = ended(program, arguments, second, SECONDS), nodes.answers_to(arguments, second)
         yield named(arguments, f"back {seed} from byte {size}"), differs(found, due)
@@ -212,7 +212,7 @@ def peak_after(program, number):
     """The peak of the resident memory of a relay in kilobytes once so many bids were answered, or None if not all answers came."""
     child = start(program, RELAY)
     parts = list(many_frames(number))
-    due, read = sum(it[1] for it in parts), []
+    due, read = sum(part[1] for part in parts), []
 
     def receive():
         left = due
@@ -223,7 +223,7 @@ def peak_after(program, number):
     receiver = threading.Thread(target=receive)
     receiver.start()
     for at in range(0, len(parts), 256):
-        child.stdin.write(b"".join(it[0] for it in parts[at : at + 256]))
+        child.stdin.write(b"".join(part[0] for part in parts[at : at + 256]))
     receiver.join(SECONDS)
     status = Path(f"/proc/{child.pid}/status").read_text()
     stop(child)

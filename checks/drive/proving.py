@@ -32,9 +32,9 @@ class Crate:
 
     def __post_init__(self):
         found = {}
-        for it in self.deps:
-            found.update({below.name: below for below in it.below()})
-            found[it.name] = it
+        for dep in self.deps:
+            found.update({below.name: below for below in dep.below()})
+            found[dep.name] = dep
         self.all_below = list(found.values())
 
     def below(self):
@@ -62,15 +62,15 @@ def crates_of(program):
     for line in (TOP / "crates.txt").read_text().splitlines():
         name, _, deps = line.partition("#")[0].partition(":")
         if name.strip():
-            known[name.split()[0]] = Crate(name.split()[0], [known[it] for it in deps.replace(",", " ").split() if it in known])
+            known[name.split()[0]] = Crate(name.split()[0], [known[word] for word in deps.replace(",", " ").split() if word in known])
     return [*known[program].below(), known[program]]
 
 
 def shares(proofs, processors):
     """How many processors each proof has: first those of the highest priority, then the others, in equal parts."""
     given, left = [0.0] * len(proofs), float(processors)
-    for rank in sorted({it.rank for it in proofs}):
-        asking = {at for at, it in enumerate(proofs) if it.rank == rank}
+    for rank in sorted({proof.rank for proof in proofs}):
+        asking = {at for at, proof in enumerate(proofs) if proof.rank == rank}
         while asking and left > 1e-9:
             part = left / len(asking)
             for at in list(asking):
@@ -90,29 +90,29 @@ def run(lanes, seconds, processors):
             begun[crate.name] = now
             proofs.append(Proof(crate, jobs, rank, ALONE * seconds[crate.name], (1 - ALONE) * seconds[crate.name]))
         given = shares(proofs, processors)
-        step = min((it.alone or it.shared) / part for it, part in zip(proofs, given) if part > 0)
+        step = min((proof.alone or proof.shared) / part for proof, part in zip(proofs, given) if part > 0)
         now += step
-        for it, part in zip(proofs, given):
-            if it.alone > 0:
-                it.alone = max(0.0, it.alone - step * part)
-                it.alone = it.alone if it.alone > 1e-6 else 0.0
+        for proof, part in zip(proofs, given):
+            if proof.alone > 0:
+                proof.alone = max(0.0, proof.alone - step * part)
+                proof.alone = proof.alone if proof.alone > 1e-6 else 0.0
             else:
-                it.shared -= step * part
-        for it in [it for it in proofs if it.alone == 0 and it.shared <= 1e-6]:
-            proofs.remove(it)
-            lanes.end(it.crate, True)
+                proof.shared -= step * part
+        for proof in [proof for proof in proofs if proof.alone == 0 and proof.shared <= 1e-6]:
+            proofs.remove(proof)
+            lanes.end(proof.crate, True)
     return now, begun
 
 
 def least_seconds(crates, seconds, processors):
     """What no schedule beats: for some crate all that is below it, by the processors, and then the longest chain from it to the top, each
     proof on as many processors as it can take."""
-    chain = {it.name: 0.0 for it in crates}
-    for it in reversed(crates):
-        chain[it.name] += seconds[it.name] * (ALONE + (1 - ALONE) / min(4, processors))
-        for below in it.below():
-            chain[below.name] = max(chain[below.name], chain[it.name])
-    return max(sum(seconds[below.name] for below in it.below()) / processors + chain[it.name] for it in crates)
+    chain = {crate.name: 0.0 for crate in crates}
+    for crate in reversed(crates):
+        chain[crate.name] += seconds[crate.name] * (ALONE + (1 - ALONE) / min(4, processors))
+        for below in crate.below():
+            chain[below.name] = max(chain[below.name], chain[crate.name])
+    return max(sum(seconds[below.name] for below in crate.below()) / processors + chain[crate.name] for crate in crates)
 
 
 def load_prove():
@@ -129,8 +129,8 @@ def leaves_no_link(kept):
     with tempfile.TemporaryDirectory() as folder:
         crate = Path(folder) / "crates" / "some"
         (crate / "src").mkdir(parents=True)
-        it = SimpleNamespace(folder=str(crate), name="some")
-        seen = Path(kept.seen_by_kit(it).folder)
+        known = SimpleNamespace(folder=str(crate), name="some")
+        seen = Path(kept.seen_by_kit(known).folder)
         had = (seen / "src").is_symlink()
         kept.remove_links(Path(folder) / "crates")
         return had and not (seen / "src").exists() and (crate / "src").is_dir()
@@ -140,11 +140,11 @@ def main(words):
     prove = load_prove()
     prove.free_memory = lambda: 1e12
     passed, failed = (1, 0) if leaves_no_link(prove.kept) else (0, 1)
-    for processors in [int(it) for it in words] or [1, 2, 4, 8]:
+    for processors in [int(word) for word in words] or [1, 2, 4, 8]:
         for program in prove.PROGRAMS:
             crates = crates_of(program)
             measured = prove.measured_seconds()
-            seconds = {it.name: measured.get(it.name, 60.0) for it in crates}
+            seconds = {crate.name: measured.get(crate.name, 60.0) for crate in crates}
             took, begun = run(prove.Lanes(crates, seconds, processors, lambda _: 0), seconds, processors)
             bound = least_seconds(crates, seconds, processors)
             is_right = took <= MOST_ABOVE * bound and set(begun) == set(seconds)

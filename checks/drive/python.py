@@ -39,15 +39,15 @@ DEBIAN = {
 
 def lacking(python, names):
     """Which of these packages this Python has not."""
-    code = "import sys; from importlib.util import find_spec; print(*[it for it in sys.argv[1:] if find_spec(it) is None])"
+    code = "import sys; from importlib.util import find_spec; print(*[name for name in sys.argv[1:] if find_spec(name) is None])"
     done = subprocess.run([python, "-c", code, *names], capture_output=True, text=True, check=False)
     return done.stdout.split() if done.returncode == 0 else list(names)
 
 
 def choose_python():
     """The Python that has most of the packages: the one that runs this, or Debian's."""
-    known = [it for it in (sys.executable, "/usr/bin/python3") if os.access(it, os.X_OK)]
-    return min(known, key=lambda it: len(lacking(it, DEBIAN)))
+    known = [program for program in (sys.executable, "/usr/bin/python3") if os.access(program, os.X_OK)]
+    return min(known, key=lambda program: len(lacking(program, DEBIAN)))
 
 
 class Part:
@@ -70,7 +70,7 @@ def missing(python, part, what, names):
     """Whether a part is skipped since it lacks packages. Says so."""
     lacks = lacking(python, names)
     if lacks:
-        part.say(f"skipped {what}: on Debian, apt-get install {' '.join(DEBIAN[it] for it in lacks)}")
+        part.say(f"skipped {what}: on Debian, apt-get install {' '.join(DEBIAN[module] for module in lacks)}")
     return bool(lacks)
 
 
@@ -106,7 +106,7 @@ def look_at_types(python):
     command = [python, "-m", "mypy", "--cache-dir", os.devnull]
     done = subprocess.run(command, cwd=PACKAGE, capture_output=True, text=True, check=False)
     part.count(done.returncode == 0, f"mypy --strict: {done.stdout}{done.stderr}")
-    files = sorted(str(it) for folder in ("cookbook", "devices") for it in (TOP / "examples" / folder).glob("*.py"))
+    files = sorted(str(path) for folder in ("cookbook", "devices") for path in (TOP / "examples" / folder).glob("*.py"))
     settings = ["--strict", "--config-file", "pyproject.toml", "--cache-dir", os.devnull]
     done = subprocess.run([python, "-m", "mypy", *settings, *files], cwd=PACKAGE, capture_output=True, text=True, check=False)
     part.count(done.returncode == 0, f"mypy --strict of the examples: {done.stdout}{done.stderr}")
@@ -143,8 +143,8 @@ def look_at_page(python, work):
         return part
     home = work / "home"
     shutil.copytree(PACKAGE, home / "checkout" / "python", ignore=shutil.ignore_patterns("tests", "__pycache__"))
-    commands = [it.strip() for it in lines[0].splitlines() if it.strip() != "./market prove"]
-    script = "\n".join(["set -e", *(it if it.startswith("export") else it.replace("python3 ", f"{python} ", 1) for it in commands)])
+    commands = [line.strip() for line in lines[0].splitlines() if line.strip() != "./market prove"]
+    script = "\n".join(["set -e", *(command if command.startswith("export") else command.replace("python3 ", f"{python} ", 1) for command in commands)])
     # No network, and nothing of the user's own home.
     environment = {**surroundings(work), "HOME": str(home), "PIP_NO_INDEX": "1", "PIP_DISABLE_PIP_VERSION_CHECK": "1"}
     done = subprocess.run(["bash", "-c", script], cwd=home / "checkout", env=environment, capture_output=True, text=True, check=False)
@@ -174,11 +174,11 @@ def parts(python, work, words):
     with_lines = with_tests and not words and not missing(python, first, "the count of lines", ["coverage", "pandas", "matplotlib", "distributed"])
     yield first
     with ThreadPoolExecutor(max_workers=os.cpu_count() or 1) as pool:
-        begun = [pool.submit(test_file, python, work, it, words, with_lines) for it in files] if with_tests else []
+        begun = [pool.submit(test_file, python, work, file, words, with_lines) for file in files] if with_tests else []
         if not words:
             begun += [pool.submit(look_at_types, python), pool.submit(look_at_installation, python, work), pool.submit(look_at_page, python, work)]
-        for it in begun:
-            yield it.result()
+        for run in begun:
+            yield run.result()
     if with_lines:
         yield look_at_lines(python, work)
 

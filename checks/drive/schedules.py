@@ -27,16 +27,16 @@ def deep_file():
     """Devices of all kinds under a chain of 6 concentrators, one of them limited, over ticks and events."""
     nodes = chain()
     nodes[-1] |= {"kind": "limited", "floor": -3_000, "ceiling": 2_000}
-    for it in range(1, DEVICES + 1):
+    for number in range(1, DEVICES + 1):
         kinds = [
-            {"kind": "load", "start": 100 * it},
-            {"kind": "battery", "capacity": 4_000, "charge": 900, "discharge": 700, "spread": 3, "start": 150 * it},
-            {"kind": "freezer", "low": -2_200, "high": -1_800, "power": 300, "warm": 30, "cool": 80, "start": -2_200 + 20 * it},
-            {"kind": "manual", "points": [[5, 50 * it], [35, -100 * it]]},
+            {"kind": "load", "start": 100 * number},
+            {"kind": "battery", "capacity": 4_000, "charge": 900, "discharge": 700, "spread": 3, "start": 150 * number},
+            {"kind": "freezer", "low": -2_200, "high": -1_800, "power": 300, "warm": 30, "cool": 80, "start": -2_200 + 20 * number},
+            {"kind": "manual", "points": [[5, 50 * number], [35, -100 * number]]},
         ]
-        nodes.append({"name": f"d{it}", "parent": f"c{1 + it % DEPTH}"} | kinds[it % 4])
-    names = [f"d{it}" for it in range(1, DEVICES + 1)]
-    leaves = {"events": [{"leave": it} for it in names[::3]]}
+        nodes.append({"name": f"d{number}", "parent": f"c{1 + number % DEPTH}"} | kinds[number % 4])
+    names = [f"d{number}" for number in range(1, DEVICES + 1)]
+    leaves = {"events": [{"leave": name} for name in names[::3]]}
     return document((0, 39, 40), nodes, [joins(names), {"tick": 15}, leaves, {"tick": 30}, joins(names[::3]), {"tick": 1_440}])
 
 
@@ -59,7 +59,7 @@ class Journals:
         self.seen.setdefault(name, []).append(hash(text))
 
     def told(self):
-        return ", ".join(f"{name} {len(set(it))} of {len(it)}" for name, it in self.seen.items())
+        return ", ".join(f"{name} {len(set(journals))} of {len(journals)}" for name, journals in self.seen.items())
 
 
 def started(program, command, text, prepare, limit_seconds=SECONDS):
@@ -96,14 +96,14 @@ def busy(count):
 
 
 def end(loops):
-    for it in loops:
-        it.terminate()
-        it.wait()
+    for process in loops:
+        process.terminate()
+        process.wait()
 
 
 def beside_each_other(program, times, journals):
     """So many programs at once."""
-    rows = list(itertools.chain.from_iterable([it] * times for it in inputs()))
+    rows = list(itertools.chain.from_iterable([data] * times for data in inputs()))
     with ThreadPoolExecutor(LOAD) as pool:
         found = pool.map(lambda row: ended(program, [row[1]], row[2]), rows)
     for (name, command, text, due), one in zip(rows, found):

@@ -79,8 +79,8 @@ def try_client(words):
             demands = sorted((chance.randint(-50, 50) for _ in range(21)), reverse=True)
             number = market.bid(one, demands)
             bids[one] = (number, demands)
-            total = [sum(it) for it in zip(*(it[1] for it in bids.values()))]
-            due = [Price(it, bids[it][0], index, frames.clearing_step(total)) for it in sorted(bids)]
+            total = [sum(demands) for demands in zip(*(bid[1] for bid in bids.values()))]
+            due = [Price(child, bids[child][0], index, frames.clearing_step(total)) for child in sorted(bids)]
             found = [waited(market) for _ in range(market.ask_to_clear())]
             yield f"client: clearing {index}", None if found == due else f"prices {found}, and {due} are due"
             market.bid(one, demands, number)

@@ -56,7 +56,7 @@ class Process(Node):
         )
         self.marker, self.last = price(place.child, 1, 0, 0, (0, steps - 1, steps)), dropped(1, 0)
         if place.kind == AUCTIONEER:
-            self.stranger = next(it for it in range(1, frames.CHILDREN + 1) if it not in place.children)
+            self.stranger = next(number for number in range(1, frames.CHILDREN + 1) if number not in place.children)
             self.marker, self.last = bid(self.stranger, 1, *(1,) * steps), too_much(self.stranger, 1)
 
     def stop(self):

@@ -49,12 +49,12 @@ def envelope(file, trace):
 
 
 def text_of(lines):
-    return b"".join(it + b"\n" for it in lines)
+    return b"".join(line + b"\n" for line in lines)
 
 
 def next_moves(market):
     """Each legal move."""
-    moves = [("change", it, count + 1) for it, count in market.counts.items() if market.may_change(it, count + 1)]
+    moves = [("change", device, count + 1) for device, count in market.counts.items() if market.may_change(device, count + 1)]
     moves += market.node_moves()
     return moves or [("close", market.closed + 1)]
 
@@ -65,7 +65,7 @@ def made_trace(plan, haste, chance):
     while not market.is_complete():
         moves = next_moves(market)
         broken = broken or broken_law(market, moves)
-        (move,) = chance.choices(moves, [haste.get(it[0], 1) for it in moves])
+        (move,) = chance.choices(moves, [haste.get(move[0], 1) for move in moves])
         market.make(move)
         lines.append(market.line_of(move))
     moves = len(lines) - len(plan.report)
@@ -75,7 +75,7 @@ def made_trace(plan, haste, chance):
 
 
 def is_at_most(cut, other):
-    return all(number <= other[it] for it, number in cut.items())
+    return all(number <= other[device] for device, number in cut.items())
 
 
 def broken_law(market, moves):
@@ -94,16 +94,16 @@ def broken_law(market, moves):
             return f"more is known of {name} than it did"
     if not is_at_most(market.plan.ends[market.closed], market.counts):
         return "a change of a closed phase is missing"
-    is_idle = not any(it[0] not in ("change", "close") for it in moves)
-    members = [it for it, count in market.counts.items() if market.plan.devices[it].member[count]]
-    if is_idle and (cleared[-1] != market.counts or any(market.last(it) != len(cleared) - 1 for it in members)):
+    is_idle = not any(move[0] not in ("change", "close") for move in moves)
+    members = [device for device, count in market.counts.items() if market.plan.devices[device].member[count]]
+    if is_idle and (cleared[-1] != market.counts or any(market.last(member) != len(cleared) - 1 for member in members)):
         return "nothing is pending, and the last clearing is not current"
     return None
 
 
 def bound(plan):
     """The moves that no run of a plan is longer than, as docs/DEFINITIONS.md has it."""
-    changes = sum(len(it.states) - 1 for it in plan.devices.values())
+    changes = sum(len(device.states) - 1 for device in plan.devices.values())
     return changes * (len(plan.parent) + 15) + len(plan.ends) - 1
 
 
@@ -150,7 +150,7 @@ def lines_of(text):
 def names_another_number(line, right):
     """Whether a line says the same as the right one except for a number that is determined there: all except the number of a `learn` and
     the index of a `pass`, of which several may be legal."""
-    without = [re.sub(rb"(?<= )-?[0-9]+(?= |$)", b"", it) for it in (line, right)]
+    without = [re.sub(rb"(?<= )-?[0-9]+(?= |$)", b"", line_text) for line_text in (line, right)]
     if without[0] != without[1] or line.startswith(b"learn "):
         return False
     return not line.startswith(b"pass ") or line.split()[:3] == right.split()[:3]
@@ -235,13 +235,13 @@ def rows():
 
 def beginnings():
     """Beginnings of journals, with the line that is bad or missing."""
-    for it in journals.worked():
-        yield it.name, envelope(it.file, it.trace()), b"invalid line %d\n" % it.bad_line()
+    for case in journals.worked():
+        yield case.name, envelope(case.file, case.trace()), b"invalid line %d\n" % case.bad_line()
 
 
 def headers():
     """First lines that are no number of bytes."""
-    file, trace = ((CASES / "trace" / f"only_trace.{it}").read_bytes() for it in ("json", "stdout"))
+    file, trace = ((CASES / "trace" / f"only_trace.{ending}").read_bytes() for ending in ("json", "stdout"))
     size = len(file)
     body = file + trace
     for header in [b"", b"%d" % size, b"0%d\n" % size, b"+%d\n" % size, b" %d\n" % size, b"%d\r\n" % size, b"%d \n" % size,

@@ -57,7 +57,7 @@ def imports_of(text: str) -> tuple[dict[str, tuple[str, str]], dict[str, tuple[s
     for crate, module, listed, other in IMPORT.findall(text):
         if other:
             modules[other] = (crate, module)
-        for name in filter(None, (it.strip() for it in listed.split(","))):
+        for name in filter(None, (word.strip() for word in listed.split(","))):
             names[name] = (crate, module)
     return names, modules
 
@@ -88,7 +88,7 @@ def definitions_in(crate: str, module: str, text: str) -> list[Definition]:
 def words_in(text: str, names: dict[str, tuple[str, str]]) -> list[str]:
     """The names that stand in a text, with the operators among those that its file imports; a `do` stands for two of them."""
     chains = {">>=", ">>"} if re.search(r"\bdo$", text, re.M) else set()
-    operators = [it for it in names if it.startswith("◌") and (it.strip("◌") in chains or re.search(rf"\s{re.escape(it.strip('◌'))}\s", text))]
+    operators = [name for name in names if name.startswith("◌") and (name.strip("◌") in chains or re.search(rf"\s{re.escape(name.strip('◌'))}\s", text))]
     return WORD.findall(text) + operators
 
 
@@ -100,8 +100,8 @@ def read_all() -> tuple[dict[tuple[str, str, str], Definition], dict[tuple[str, 
         module = path.relative_to(CRATES / crate / "specs").with_suffix("").as_posix().replace("/", ".")
         text = path.read_text()
         imported[crate, module] = imports_of(text)
-        for it in definitions_in(crate, module, text):
-            by_name[crate, module, it.name] = it
+        for definition in definitions_in(crate, module, text):
+            by_name[crate, module, definition.name] = definition
     return by_name, imported
 
 
@@ -128,7 +128,7 @@ def needed() -> list[tuple[str, list[Definition]]]:
     promised, _ = imported[PROMISES]
     stages = []
     for stage, names_of_stage in STAGES:
-        todo = [(*promised.get(it, PROMISES), it) for it in names_of_stage] or roots()
+        todo = [(*promised.get(name, PROMISES), name) for name in names_of_stage] or roots()
         found = []
         while todo:
             key = todo.pop()
@@ -171,7 +171,7 @@ def statement() -> str:
     """The page of the definitions: a table for each command and file, whose rows are definitions that share a comment."""
     rank = ranks()
     stages = needed()
-    total = sum(len(it.lines) for _, found in stages for it in found)
+    total = sum(len(definition.lines) for _, found in stages for definition in found)
     count = sum(len(found) for _, found in stages)
     parts = [
         f"# The statement, definition by definition\n\n{MADE}\n\n"
@@ -180,15 +180,15 @@ def statement() -> str:
     ]
     for stage, found in stages:
         files: dict[tuple[str, str], list[Definition]] = {}
-        for it in found:
-            files.setdefault((it.crate, it.module), []).append(it)
+        for definition in found:
+            files.setdefault((definition.crate, definition.module), []).append(definition)
         title = "The clauses themselves" if stage == "all" else stage
-        parts.append(f"## {title}\n\n{len(found)} definitions, {sum(len(it.lines) for it in found)} lines.\n")
-        for crate, module in sorted(files, key=lambda it: (rank[it[0]], it[1])):
+        parts.append(f"## {title}\n\n{len(found)} definitions, {sum(len(definition.lines) for definition in found)} lines.\n")
+        for crate, module in sorted(files, key=lambda place: (rank[place[0]], place[1])):
             path = f"crates/{crate}/specs/{module.replace('.', '/')}.antt"
             rows: dict[str, list[str]] = {}
-            for it in by_place(files[crate, module]):
-                rows.setdefault(it.comment, []).append(f"`{it.name}`")
+            for definition in by_place(files[crate, module]):
+                rows.setdefault(definition.comment, []).append(f"`{definition.name}`")
             lines = [f"| {', '.join(names)} | {cell(comment)} |" for comment, names in rows.items()]
             parts.append("\n".join([f"| [{crate} {module}](../{path}) | |", "|---|---|", *lines]) + "\n")
     return "\n".join(parts)
@@ -198,7 +198,7 @@ def by_place(found: list[Definition]) -> list[Definition]:
     """Definitions of one file in its order."""
     text = (CRATES / found[0].crate / "specs" / (found[0].module.replace(".", "/") + ".antt")).read_text()
     order = [head[1] for line in text.split("\n") if (head := HEAD.match(line))]
-    return sorted(found, key=lambda it: order.index(it.name))
+    return sorted(found, key=lambda definition: order.index(definition.name))
 
 
 @dataclass(frozen=True)
@@ -268,13 +268,13 @@ def contracts() -> str:
         for path in sorted((CRATES / crate / "src").rglob("*.rt")):
             found = calls_in(path)
             link = f"[{path.relative_to(CRATES / crate / 'src')}](../{path.relative_to(TOP)})"
-            names = ", ".join(f"`{it.name}`" for it in found if not it.is_law)
+            names = ", ".join(f"`{definition.name}`" for definition in found if not definition.is_law)
             if names:
                 lines.append(f"- {link}: {names}")
-            for it in found:
-                if it.is_law:
-                    told = re.sub(r"^A law: (.)", lambda word: word[1].upper(), it.comment)
-                    lines.append(f"- `{it.name}` in {link}: {told.replace('<', '&lt;')}")
+            for definition in found:
+                if definition.is_law:
+                    told = re.sub(r"^A law: (.)", lambda word: word[1].upper(), definition.comment)
+                    lines.append(f"- `{definition.name}` in {link}: {told.replace('<', '&lt;')}")
         if lines:
             parts.append("\n".join(lines) + "\n")
     return "\n".join(parts)

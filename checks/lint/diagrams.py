@@ -30,7 +30,7 @@ CHAIN = {
         {"name": "c", "kind": "concentrator", "parent": "auctioneer"},
         {"name": "d", "kind": "load", "parent": "c", "start": 1},
     ],
-    "phases": [{"events": [{"join": "d"}, *({"state": "d", "value": it} for it in (2, 3, 4))]}],
+    "phases": [{"events": [{"join": "d"}, *({"state": "d", "value": value} for value in (2, 3, 4))]}],
 }
 
 
@@ -54,7 +54,7 @@ def outside_fonts() -> Iterator[str]:
     """The diagrams that need something from outside: a font, an image, a style or a script."""
     for file in sorted(HERE.glob("*.svg")):
         text = file.read_text().replace('xmlns="http://www.w3.org/2000/svg"', "")
-        if any(it in text for it in ("http", "url(", "@import", "<image", "<script", "<style", "href")):
+        if any(word in text for word in ("http", "url(", "@import", "<image", "<script", "<style", "href")):
             yield f"pictures/diagrams/{file.name} needs something from outside: draw it with strokes.py alone"
 
 
@@ -88,5 +88,5 @@ def wrong_network() -> Iterator[str]:
 
 def findings() -> Iterator[list[str]]:
     """What each of the checks finds."""
-    for it in (stale_diagrams, outside_fonts, wrong_traces, wrong_network):
-        yield list(it())
+    for check in (stale_diagrams, outside_fonts, wrong_traces, wrong_network):
+        yield list(check())

@@ -130,10 +130,10 @@ def print_table(lines: Iterable[str]) -> int:
             print(edit.row(), flush=True)
             read.add(edit)
     clauses = {(crate, name): clause for crate, name, clause, _ in listed()}
-    others = [it for it in read if is_of_another(it.goal, clauses.get((it.crate, it.name), ""))]
-    for it in others:
-        print(f"docs/EDITS.md names a clause of another function than {it.goal}: {it.crate}/{it.name}.edit")
-    failed = len({it for it in read if it.origin in FAILURES}.union(others))
+    others = [edit for edit in read if is_of_another(edit.goal, clauses.get((edit.crate, edit.name), ""))]
+    for other in others:
+        print(f"docs/EDITS.md names a clause of another function than {other.goal}: {other.crate}/{other.name}.edit")
+    failed = len({edit for edit in read if edit.origin in FAILURES}.union(others))
     print(f"{len(read) - failed} passed, {failed} failed")
     return 1 if failed or not read else 0
 
@@ -221,7 +221,7 @@ def misreadings() -> Iterator[str]:
 
 def unlisted() -> Iterator[str]:
     """What docs/EDITS.md has that is not just the edits that there are, in the order of crates.txt and of their names."""
-    files = [(it, path.stem) for it in crates() for path in sorted((TOP / "crates" / it / "must-fail").glob("*.edit"))]
+    files = [(crate, path.stem) for crate in crates() for path in sorted((TOP / "crates" / crate / "must-fail").glob("*.edit"))]
     rows = [(crate, name) for crate, name, _, _ in listed()]
     for crate, name in files:
         if (crate, name) not in rows:
@@ -235,7 +235,7 @@ def unlisted() -> Iterator[str]:
 
 def unknown() -> Iterator[str]:
     """The rows that name a clause of a function which their crate does not have."""
-    known = {it: set(re.findall(r"\bfn (\w+)", "".join(sources(it)))) for it in crates()}
+    known = {crate: set(re.findall(r"\bfn (\w+)", "".join(sources(crate)))) for crate in crates()}
     for crate, name, clause, _ in listed():
         for function in re.findall(r"(?:of|by|in|from) `(?:\w+::)?(\w+)`", clause):
             if function not in known[crate]:
@@ -253,8 +253,8 @@ def test_self() -> int:
     passed, failed = 0, 0
     for check in (misreadings, unlisted, unknown):
         findings = list(check())
-        for it in findings:
-            print(it)
+        for finding in findings:
+            print(finding)
         failed += len(findings)
         passed += not findings
     print(f"{passed} passed, {failed} failed")
@@ -266,7 +266,7 @@ def main(words: list[str]) -> int:
         return test_self()
     if len(words) == 2 and words[0] == "--log":
         return print_table(Path(words[1]).read_text(errors="replace").splitlines())
-    if any(it not in crates() for it in words):
+    if any(word not in crates() for word in words):
         print(__doc__, file=sys.stderr)
         return 2
     return print_table(tried(words))

@@ -83,17 +83,17 @@ def limits() -> dict[str, tuple[int, str]]:
 def filled(text: str) -> str:
     """The text with the limits of the code for their names; `:d` leaves the commas out."""
     known = {name: number for name, (number, _) in limits().items()}
-    return re.sub(r"\{([A-Z_]+)(:d)?\}", lambda it: str(known[it[1]]) if it[2] else f"{known[it[1]]:,}", text)
+    return re.sub(r"\{([A-Z_]+)(:d)?\}", lambda match: str(known[match[1]]) if match[2] else f"{known[match[1]]:,}", text)
 
 
 def told(path: str, kept: str, source: str, variant: str) -> dict[int, dict[str, str]]:
     """The words of a file by their numbers. The numbers of its variants have to be those of the code."""
     words: dict[str, dict[str, str]] = tomllib.loads(text_of(path))
     numbers = {name: int(number) for name, number in re.findall(rf"{variant}::(\w+) => (\d+),", text_of(source))}
-    given = {it[kept]: int(number) for number, it in words.items() if kept in it}
+    given = {word[kept]: int(number) for number, word in words.items() if kept in word}
     if given != numbers:
         raise Unreadable(f"{path} and {source} differ in {sorted(set(given.items()) ^ set(numbers.items()))}")
-    return {int(number): {name: filled(text) for name, text in it.items()} for number, it in words.items()}
+    return {int(number): {name: filled(text) for name, text in texts.items()} for number, texts in words.items()}
 
 
 @cache
@@ -124,7 +124,7 @@ class Kind:
 @cache
 def code_of(crate: str) -> str:
     """The code of a crate, one file behind the other."""
-    return "\n".join(it.read_text() for it in sorted((CRATES / crate / "src").rglob("*.rt")))
+    return "\n".join(path.read_text() for path in sorted((CRATES / crate / "src").rglob("*.rt")))
 
 
 def part_of(crate: str, begin: str) -> str:
@@ -141,7 +141,7 @@ def kinds() -> list[Kind]:
     scene = code_of("pm_scene")
     words = dict(re.findall(r'const (\w+): Member = Member\("(\w+)"', scene))
     table = {
-        name: frozenset(words[it] for it in re.findall(r"\w+", members))
+        name: frozenset(words[word] for word in re.findall(r"\w+", members))
         for name, members in re.findall(r"static (\w+): \[Member; \d+\] = \[([^\]]*)\];", scene)
     }
     row_of = dict(re.findall(r"KindName::(\w+) => &(\w+)", part_of("pm_scene", "fn node_row(")))
@@ -150,8 +150,8 @@ def kinds() -> list[Kind]:
     found = []
     for word, variant in re.findall(r'"(\w+)" => Some\(KindName::(\w+)\)', part_of("pm_scene", "fn kind_named(")):
         rows = [row_of[variant]] if variant in row_of else manual
-        found.append(Kind(word, variant, tuple(table[it] - {"name", "kind", "parent"} for it in rows), variant in devices))
-    lost = devices - {it.variant for it in found}
+        found.append(Kind(word, variant, tuple(table[row] - {"name", "kind", "parent"} for row in rows), variant in devices))
+    lost = devices - {kind.variant for kind in found}
     if lost:
         raise Unreadable(f"pm_device has kinds that pm_scene does not name: {', '.join(sorted(lost))}")
     return found
@@ -166,7 +166,7 @@ def ticking() -> set[str]:
 
 
 def rows(head: list[str], body: list[list[str]]) -> str:
-    return "\n".join(f"| {' | '.join(it)} |" for it in [head, ["---"] * len(head), *body]).replace("| --- |", "|---|").replace(" --- |", "---|") + "\n"
+    return "\n".join(f"| {' | '.join(row)} |" for row in [head, ["---"] * len(head), *body]).replace("| --- |", "|---|").replace(" --- |", "---|") + "\n"
 
 
 def sentence(text: str) -> str:
@@ -174,36 +174,36 @@ def sentence(text: str) -> str:
 
 
 def refusals_of_shell() -> str:
-    lines = "".join(f"{code}|{it['meaning']}|{it['remedy']}\n" for code, it in refusals().items())
+    lines = "".join(f"{code}|{refusal['meaning']}|{refusal['remedy']}\n" for code, refusal in refusals().items())
     return f"refusals() {{\n    cat <<'END_OF_TABLE'\n{lines}END_OF_TABLE\n}}\n"
 
 
 def refusals_of_page() -> str:
     body = []
-    for it in refusals().values():
-        if "line" in it:
-            line = f"`{it['line']}`" if it["line"].startswith("refused") else it["line"]
-            body.append([line, it["meaning"] + (f": {it['more']}" if "more" in it else ""), it["remedy"]])
+    for refusal in refusals().values():
+        if "line" in refusal:
+            line = f"`{refusal['line']}`" if refusal["line"].startswith("refused") else refusal["line"]
+            body.append([line, refusal["meaning"] + (f": {refusal['more']}" if "more" in refusal else ""), refusal["remedy"]])
     return rows(["Line", "Meaning", "What to do"], body)
 
 
 def statuses_of_help() -> str:
-    lines = "".join(f"  {code}  {it['meaning']}{it.get('checkout', '')}\n" for code, it in statuses().items())
+    lines = "".join(f"  {code}  {status['meaning']}{status.get('checkout', '')}\n" for code, status in statuses().items())
     return f"help_statuses() {{\n    cat <<END_OF_TABLE\n{lines}END_OF_TABLE\n}}\n"
 
 
 def statuses_of_shell() -> str:
-    lines = "".join(f'        {code}) say "{it["said"]}" ;;\n' for code, it in statuses().items() if "said" in it)
+    lines = "".join(f'        {code}) say "{status["said"]}" ;;\n' for code, status in statuses().items() if "said" in status)
     return f'tell_status() {{\n    case "$1" in\n{lines}    esac\n}}\n'
 
 
 def statuses_of_page() -> str:
-    body = [[str(code), sentence(plain(it["meaning"])), it["output"], it.get("stream", "the same")] for code, it in statuses().items()]
+    body = [[str(code), sentence(plain(status["meaning"])), status["output"], status.get("stream", "the same")] for code, status in statuses().items()]
     return rows(["Status", "Meaning", "Standard output", "Of a stream"], body)
 
 
 def statuses_of_stream() -> str:
-    body = [[str(code), it["ends"], it.get("stream", it["output"])] for code, it in statuses().items() if "ends" in it]
+    body = [[str(code), status["ends"], status.get("stream", status["output"])] for code, status in statuses().items() if "ends" in status]
     return rows(["Status", "Comes if", "What is written then"], body)
 
 
@@ -213,11 +213,11 @@ def plain(meaning: str) -> str:
 
 
 def statuses_of_manual() -> str:
-    return "".join(f".TP\n.B {code}\n{sentence(plain(it['meaning']))}.\n" for code, it in statuses().items())
+    return "".join(f".TP\n.B {code}\n{sentence(plain(status['meaning']))}.\n" for code, status in statuses().items())
 
 
 def inputs_of_manual() -> str:
-    run, ask, check, stream = (f"{limits()[it][0]:,}" for it in ("INPUT_RUN", "INPUT_ASK", "INPUT_CHECK", "STREAM_LIMIT"))
+    run, ask, check, stream = (f"{limits()[limit][0]:,}" for limit in ("INPUT_RUN", "INPUT_ASK", "INPUT_CHECK", "STREAM_LIMIT"))
     return f"With 4 the input has more than {run} bytes, of\n.B ask\n{ask}, of\n.B check\n{check}, of\n.B serve\nand of a node {stream}.\n"
 
 
@@ -253,7 +253,7 @@ def limits_of_page() -> str:
 
 
 def python_of(words: dict[int, str], name: str) -> str:
-    return f"{name} = {{\n" + "".join(f"    {code}: {quoted(it)},\n" for code, it in words.items()) + "}\n"
+    return f"{name} = {{\n" + "".join(f"    {code}: {quoted(word)},\n" for code, word in words.items()) + "}\n"
 
 
 def quoted(text: str) -> str:
@@ -261,18 +261,18 @@ def quoted(text: str) -> str:
 
 
 def refusals_of_package() -> str:
-    words = {code: it for code, it in refusals().items() if "rule" in it}
-    pairs = "".join(f"    {code}: ({quoted(it['meaning'])}, {quoted(it['remedy'])}),\n" for code, it in words.items())
+    words = {code: refusal for code, refusal in refusals().items() if "rule" in refusal}
+    pairs = "".join(f"    {code}: ({quoted(refusal['meaning'])}, {quoted(refusal['remedy'])}),\n" for code, refusal in words.items())
     return (
         '"""What each code of a refusal means and what to do about it, in the words of `market help CODE`, and the rule that it breaks.\n\n'
         'Made of script/refusals.toml by `checks/run places write`.\n"""\n\n'
         f"# By code: the meaning and the remedy. The program's script prints the same words.\nWORDS = {{\n{pairs}}}\n\n"
-        "# What each code refuses, as a rule.\n" + python_of({code: it["rule"] for code, it in words.items()}, "RULES")
+        "# What each code refuses, as a rule.\n" + python_of({code: refusal["rule"] for code, refusal in words.items()}, "RULES")
     )
 
 
 def statuses_of_package() -> str:
-    words = {code: it["live"] for code, it in statuses().items() if "live" in it}
+    words = {code: status["live"] for code, status in statuses().items() if "live" in status}
     return (
         '"""What each exit status of the program `live` says of a service, for its node.\n\n'
         'Made of script/statuses.toml by `checks/run places write`.\n"""\n\n' + python_of(words, "STATUSES")
@@ -289,25 +289,25 @@ def limits_of_package() -> str:
 
 def facts_of_checks() -> str:
     numbers = "".join(f"{name} = {number:_}\n" for name, (number, _) in sorted(limits().items()))
-    ends = "".join(f"{snake(it['status'])} = {code}\n" for code, it in statuses().items() if "status" in it)
+    ends = "".join(f"{snake(status['status'])} = {code}\n" for code, status in statuses().items() if "status" in status)
     return (
         '"""The limits of the market, the exit statuses and the kinds of node, for what makes inputs and for the judges.\n\n'
         'Made of the constants of crates/*/src by `checks/run places write`.\n"""\n\n'
         f"# Limits: the names are those of the code, and INPUT_.. is the most bytes of the input of a command.\n{numbers}\n"
         f"# Exit statuses.\n{ends}\n"
-        f"# Kinds of node: those that are no device, and those that change at a tick.\nCONCENTRATORS = {named(lambda it: not it.is_device)}\n"
-        f"TICKING = {named(lambda it: it.variant in ticking())}\n"
+        f"# Kinds of node: those that are no device, and those that change at a tick.\nCONCENTRATORS = {named(lambda kind: not kind.is_device)}\n"
+        f"TICKING = {named(lambda kind: kind.variant in ticking())}\n"
     )
 
 
 def named(is_one: Callable[[Kind], bool]) -> str:
     """The words of some kinds, as a tuple of Python."""
-    return "(" + ", ".join(f'"{it.word}"' for it in kinds() if is_one(it)) + ")"
+    return "(" + ", ".join(f'"{kind.word}"' for kind in kinds() if is_one(kind)) + ")"
 
 
 def kinds_of_manual() -> str:
-    words = [it.word for it in kinds()]
-    return "".join(f".BR {it} ,\n" for it in words[:-2]) + f".B {words[-2]}\nand\n.BR {words[-1]} .\n"
+    words = [kind.word for kind in kinds()]
+    return "".join(f".BR {word} ,\n" for word in words[:-2]) + f".B {words[-2]}\nand\n.BR {words[-1]} .\n"
 
 
 def snake(name: str) -> str:

@@ -120,7 +120,7 @@ NUMBER = re.compile(r"(?<![\w.\-])\d[\d_]*(?![\w.])")
 
 def is_test(parts):
     """Whether a file has tests: it stands in a crate of tests alone, or below a module of that name."""
-    return parts[0] in TESTS or any(it.removesuffix(".rt") == "tests" for it in parts)
+    return parts[0] in TESTS or any(part.removesuffix(".rt") == "tests" for part in parts)
 
 
 def files(*kinds):
@@ -178,7 +178,7 @@ def long_clauses():
 def said_alike(statement):
     """The statement with its variables numbered, so that only their names can differ from another's."""
     text = re.sub(r"\s+", " ", statement)
-    variables = dict.fromkeys(it for group in re.findall(r"[({]([^():{}]+?) :", text) for it in group.split())
+    variables = dict.fromkeys(word for group in re.findall(r"[({]([^():{}]+?) :", text) for word in group.split())
     for number, name in enumerate(variables):
         text = re.sub(r"(?<![\w\-'.])" + re.escape(name) + r"(?![\w\-'])", f"v{number}", text)
     return text
@@ -202,7 +202,7 @@ def bare_limits():
         if crate == "pm_base" or path in others:
             continue
         for line in without_comments(text).split("\n"):
-            if any(it.replace("_", "") in LIMITS for it in NUMBER.findall(line)):
+            if any(number.replace("_", "") in LIMITS for number in NUMBER.findall(line)):
                 yield f"{path}: a limit without its name: write the name, or list the file in OTHER_MEANINGS: {line.strip()[:100]}"
 
 
@@ -245,8 +245,8 @@ def main():
     )
     for check in checks:
         findings = list(check())
-        for it in findings:
-            print(it)
+        for finding in findings:
+            print(finding)
         failed += len(findings)
         passed += not findings
     print(f"{passed} passed, {failed} failed")

@@ -44,11 +44,11 @@ REPORT = re.compile(r" {4,}((?:phase \d|member [\w-]+ power -?\d|limited [\w-]+ 
 def pages() -> list[Path]:
     """All pages, the README first."""
     found = []
-    for it in TOP.rglob("*.md"):
-        parts = it.relative_to(TOP).parts
+    for path in TOP.rglob("*.md"):
+        parts = path.relative_to(TOP).parts
         if not OTHERS & set(parts) and not any(part.startswith(".") for part in parts):
-            found.append(it)
-    return sorted(found, key=lambda it: (it != TOP / "README.md", str(it)))
+            found.append(path)
+    return sorted(found, key=lambda path: (path != TOP / "README.md", str(path)))
 
 
 def name_of(page: Path) -> str:
@@ -109,28 +109,28 @@ def path_named(page: Path, words: str) -> Path | None:
 
 def names_of(page: Path, text: str) -> Iterator[tuple[int, int, Path]]:
     """Where a text outside links names a path: in code the first word, elsewhere each word with a slash or an end."""
-    spans = [(it.start(), it.end(), it.group(1)) for it in CODE.finditer(text)]
+    spans = [(match.start(), match.end(), match.group(1)) for match in CODE.finditer(text)]
     for start, end, code in spans:
         found = path_named(page, code.split()[0]) if code.split() else None
         if found:
             yield start, end, found
-    rest = CODE.sub(lambda it: blanked(it.group()), text)
-    for it in PATH.finditer(rest):
-        words = it.group().rstrip(".")
+    rest = CODE.sub(lambda match: blanked(match.group()), text)
+    for match in PATH.finditer(rest):
+        words = match.group().rstrip(".")
         found = path_named(page, words) if "/" in words or re.search(r"\.(md|txt|json|py|sh)$", words) else None
         if found:
-            yield it.start(), it.start() + len(words), found
+            yield match.start(), match.start() + len(words), found
 
 
 def unlinked(page: Path) -> list[tuple[int, int, Path]]:
     """Where a page names a path for the first time without a link."""
     text = prose_of(page.read_text())
-    links = [(it.start(), target_of(page, it.group(2))) for it in LINK.finditer(text) if not re.match(r"[a-z]+:", it.group(2))]
-    rest = LINK.sub(lambda it: blanked(it.group()), text)
+    links = [(match.start(), target_of(page, match.group(2))) for match in LINK.finditer(text) if not re.match(r"[a-z]+:", match.group(2))]
+    rest = LINK.sub(lambda match: blanked(match.group()), text)
     named = [(start, end, path) for start, end, path in names_of(page, rest)]
-    events = sorted([(start, start, path, True) for start, path in links] + [(*it, False) for it in named])
+    events = sorted([(start, start, path, True) for start, path in links] + [(*place, False) for place in named])
     # What stands in a link counts as linked, whatever the link leads to.
-    inside = [(it.start(), path) for it in LINK.finditer(text) for _, _, path in names_of(page, it.group(1))]
+    inside = [(match.start(), path) for match in LINK.finditer(text) for _, _, path in names_of(page, match.group(1))]
     events = sorted(events + [(start, start, path, True) for start, path in inside])
     seen: set[Path] = set()
     findings = []
@@ -151,13 +151,13 @@ def paths_without_a_link(page: Path) -> Iterator[str]:
 
 def reports_of_no_example(page: Path) -> Iterator[str]:
     """The reports that a page quotes and that are no lines, one after another, of the text of an example."""
-    texts = [it.read_text() for it in sorted((TOP / "examples").rglob("*.txt"))]
+    texts = [path.read_text() for path in sorted((TOP / "examples").rglob("*.txt"))]
     quoted: list[str] = []
     for number, line in enumerate([*page.read_text().split("\n"), ""], 1):
         if found := REPORT.fullmatch(line):
             quoted.append(found.group(1))
         elif quoted:
-            if not any("".join(f"{it}\n" for it in quoted) in text for text in texts):
+            if not any("".join(f"{line}\n" for line in quoted) in text for text in texts):
                 yield f"{name_of(page)}:{number - len(quoted)}: the text of no example has the report that begins '{quoted[0]}'"
             quoted = []
 
@@ -166,8 +166,8 @@ def names_of_no_source() -> Iterator[str]:
     """The names of functions, types and definitions on the map that nothing defines, such as one that was renamed."""
     map_page = TOP / "ARCHITECTURE.md"
     sources = [*(TOP / "crates").glob("*/src/**/*.rt"), *(TOP / "python" / "cogmaula").rglob("*.py")]
-    defined = set(re.findall(r"\b(?:fn|def|class|struct|enum|trait|type|const) (\w+)", "\n".join(it.read_text() for it in sources)))
-    worded = set(re.findall(r"\w+", "\n".join(it.read_text() for it in (TOP / "crates").glob("*/specs/**/*.antt"))))
+    defined = set(re.findall(r"\b(?:fn|def|class|struct|enum|trait|type|const) (\w+)", "\n".join(source.read_text() for source in sources)))
+    worded = set(re.findall(r"\w+", "\n".join(path.read_text() for path in (TOP / "crates").glob("*/specs/**/*.antt"))))
     for name in sorted(set(re.findall(r"`([A-Za-z_]+(?:(?:::|\.)[A-Za-z_]+)*)`", map_page.read_text()))):
         if re.split(r"::|\.", name)[-1] not in defined | worded and not (TOP / "crates" / name).exists():
             yield f"{name_of(map_page)}: nothing in the sources has the name {name}: write what it is called now"
@@ -196,7 +196,7 @@ def make_links(chosen: list[Path]) -> int:
 
 def read_first() -> list[Path]:
     """The pages whose sentences are measured: the README and those of docs/."""
-    return [it for it in pages() if it == TOP / "README.md" or it.is_relative_to(TOP / "docs")]
+    return [page for page in pages() if page == TOP / "README.md" or page.is_relative_to(TOP / "docs")]
 
 
 def sources() -> list[Path]:
@@ -211,7 +211,7 @@ def text_of(path: Path) -> str:
 
 def mean_of(paths: list[Path]) -> tuple[float, int]:
     """The mean sentence of these pages or sources in words, and how many sentences they have."""
-    lengths = [it for path in paths for it in lengths_of(text_of(path))]
+    lengths = [length for path in paths for length in lengths_of(text_of(path))]
     return sum(lengths) / len(lengths), len(lengths)
 
 
@@ -245,10 +245,10 @@ def rows_of_means() -> Iterator[tuple[float, int, str]]:
     for page in pages():
         if lengths_of(text_of(page)):
             yield *mean_of([page]), name_of(page)
-    crates = sorted({it.relative_to(TOP).parts[1] for it in sources()})
+    crates = sorted({source.relative_to(TOP).parts[1] for source in sources()})
     for crate in crates:
-        paths = [it for it in sources() if it.relative_to(TOP).parts[1] == crate]
-        if any(lengths_of(text_of(it)) for it in paths):
+        paths = [source for source in sources() if source.relative_to(TOP).parts[1] == crate]
+        if any(lengths_of(text_of(path)) for path in paths):
             yield *mean_of(paths), f"crates/{crate}/src"
 
 
@@ -285,8 +285,8 @@ def check() -> int:
         mean, count = mean_of(paths)
         print(f"mean sentence of {what}: {mean:.1f} words in {count} sentences")
     passed, failed = 0, 0
-    for it in checks:
-        findings = list(it())
+    for check in checks:
+        findings = list(check())
         for line in findings:
             print(line)
         failed += len(findings)
@@ -305,7 +305,7 @@ def main() -> int:
         case ["long", limit] if limit.isdigit():
             return print_long(int(limit))
         case ["link", *chosen] if chosen:
-            return make_links([(TOP / it).resolve() for it in chosen])
+            return make_links([(TOP / path).resolve() for path in chosen])
     print("usage: checks/run pages [words | long N | link PAGE ..]", file=sys.stderr)
     return 2
 

@@ -55,7 +55,7 @@ def lacking() -> str:
 
 def made(name: str, output: Path) -> str:
     """Makes a picture or a page, and says what is wrong, or gives an empty text."""
-    words = [str(TOP / it) if it.startswith("examples/") else it for it in MADE[name]]
+    words = [str(TOP / word) if word.startswith("examples/") else word for word in MADE[name]]
     done = told_by("-m", "cogmaula", *words, "-o", str(output), "--program", str(TOP))
     return "" if done.returncode == 0 else f"{name} is not made: {done.stderr.strip()}"
 
@@ -74,16 +74,16 @@ def others() -> Iterator[str]:
 def draw_all() -> int:
     """Writes the pictures and the page."""
     why = lacking()
-    faults = [why] if why else [it for name in MADE if (it := made(name, TOP / name))]
-    for it in faults:
-        print(it, file=sys.stderr)
+    faults = [why] if why else [fault for name in MADE if (fault := made(name, TOP / name))]
+    for fault in faults:
+        print(fault, file=sys.stderr)
     return 1 if faults else 0
 
 
 def fits(file: dict, lines: list[str]) -> bool:
     """Whether the text fits the file."""
     try:
-        fitting_ends(file, "".join(f"{it}\n" for it in lines))
+        fitting_ends(file, "".join(f"{line}\n" for line in lines))
     except Misfit:
         return False
     return True
@@ -103,7 +103,7 @@ def misfits() -> Iterator[list[str]]:
     for case in [*examples(), *stored_cases()]:
         if case.arguments == ["run"] and case.status == DONE:
             file, lines = json.loads(case.stdin.read_text()), case.stdout.decode().splitlines()
-            right = fits(file, lines) and not any(fits(file, it) for it in wrong_texts(lines))
+            right = fits(file, lines) and not any(fits(file, wrong) for wrong in wrong_texts(lines))
             yield [] if right else [f"{case.name}: the text does not fit, or a wrong one does"]
 
 
@@ -116,11 +116,11 @@ def main() -> int:
         print(f"skipped: the pictures are not drawn again: {why}")
     else:
         wrong = list(others())
-        findings += [[it] for it in wrong] + [[]] * (len(MADE) - len(wrong))
-    for it in findings:
-        for line in it:
+        findings += [[text] for text in wrong] + [[]] * (len(MADE) - len(wrong))
+    for found in findings:
+        for line in found:
             print(line)
-    failed = sum(bool(it) for it in findings)
+    failed = sum(bool(finding) for finding in findings)
     print(f"{len(findings) - failed} passed, {failed} failed")
     return 1 if failed else 0
 

@@ -57,15 +57,15 @@ class Bound:
     that has the member behind it."""
 
     path: str
-    of: Callable[[int], int] = lambda it: it
+    of: Callable[[int], int] = lambda number: number
 
     def findings(self, limit: str, number: int) -> Iterator[str]:
         found = list(self.numbers())
         if not found:
             yield f"{SCHEMA} has no {self.path}, which repeats {limit}"
-        for it in found:
-            if it != self.of(number):
-                yield f"{SCHEMA} has {it} at {self.path}, and by {limit} it is {self.of(number)}"
+        for value in found:
+            if value != self.of(number):
+                yield f"{SCHEMA} has {value} at {self.path}, and by {limit} it is {self.of(number)}"
 
     def numbers(self) -> Iterator[Any]:
         first, *rest = self.path.split("/")
@@ -79,12 +79,13 @@ class Bound:
 
 def below(value: Any, path: list[str]) -> Iterator[Any]:
     """What stands at a path of members and places, if it is there."""
-    for it in path:
+    for part in path:
         if isinstance(value, list):
-            it = int(it)
-        elif it not in value:
+            value = value[int(part)]
+        elif part in value:
+            value = value[part]
+        else:
             return
-        value = value[it]
     yield value
 
 
@@ -106,8 +107,8 @@ class Said:
     def findings(self, limit: str, number: int) -> Iterator[str]:
         digits = rf"(?<![\d,.])({number:,}|{number})(?![\d]|,\d)"
         written = re.compile(rf"{digits}|\b{WORDS[number]}\b" if number in WORDS else digits)
-        said = [it for it in sentences(self.path) if re.search(self.words, it)]
-        if not any(written.search(it) for it in said):
+        said = [sentence for sentence in sentences(self.path) if re.search(self.words, sentence)]
+        if not any(written.search(sentence) for sentence in said):
             yield f"{self.path} does not say {number:,} where it speaks of /{self.words}/, and {limit} is {number:,}"
 
 
@@ -116,7 +117,7 @@ def sentences(path: str) -> list[str]:
     """The sentences and the rows of tables of a page, each in one line."""
     text = re.sub(r"(?m)^\.[A-Z]{1,2} ?", "", text_of(path)).replace("`", "")
     blocks = re.split(r"\n\s*\n|\n(?=\||- |\d+\. )", text)
-    return [re.sub(r"\s+", " ", it) for block in blocks for it in re.split(r"(?<=[.;:])\s", block)]
+    return [re.sub(r"\s+", " ", sentence) for block in blocks for sentence in re.split(r"(?<=[.;:])\s", block)]
 
 
 Place = Bound | Said
@@ -151,7 +152,7 @@ LIMITS: dict[str, list[Place]] = {
     "MOST_EVENTS": [Bound("$defs/events/properties/events/maxItems"), Said(PAGE, "events")],
     "MOST_CHANGES": [Said(PAGE, "changes")],
     "TEMPERATURE_LIMIT": [
-        *(it for member in ("low", "high") for it in both(f"node/{member}")), *(it for kind in HEATED for it in both(f"node {kind}/start")),
+        *(bound for member in ("low", "high") for bound in both(f"node/{member}")), *(bound for kind in HEATED for bound in both(f"node {kind}/start")),
         Said(PAGE, "low, high"),
     ],
     "CHANGE_LIMIT": [*(Bound(f"node/{member}/maximum") for member in ("warm", "cool", "loss", "gain")), Said(PAGE, "warm, cool, loss")],
@@ -186,14 +187,14 @@ def wrong_limits() -> Iterator[tuple[str, list[str]]]:
             yield name, [f"no source has the limit {name}, of which checks/lint/places.py knows places"]
             continue
         number, path = known[name]
-        yield name, [it for place in places for it in place.findings(f"{name} of {path}", number)]
+        yield name, [finding for place in places for finding in place.findings(f"{name} of {path}", number)]
 
 
 # Kinds of node.
 
 
-def listed(it: frozenset[str]) -> str:
-    return ", ".join(sorted(it)) or "none"
+def listed(members: frozenset[str]) -> str:
+    return ", ".join(sorted(members)) or "none"
 
 
 def differ(path: str, kind: Kind, found: list[frozenset[str]]) -> Iterator[str]:
@@ -201,7 +202,7 @@ def differ(path: str, kind: Kind, found: list[frozenset[str]]) -> Iterator[str]:
     if not found:
         yield f"{path} has no kind {kind.word}"
     elif set(found) != set(kind.forms):
-        have, due = (" or ".join(sorted(map(listed, it))) for it in (found, kind.forms))
+        have, due = (" or ".join(sorted(map(listed, form))) for form in (found, kind.forms))
         yield f"{path} has the members {have} of the kind {kind.word}, and the code has {due}"
 
 
@@ -224,9 +225,9 @@ def package_places(kind: Kind, ticks: bool) -> Iterator[str]:
     if known is None:
         yield f"{NODES} has no kind {kind.word}"
         return
-    members = {it.name for it in fields(known)} - {"name", "parent"}
+    members = {field.name for field in fields(known)} - {"name", "parent"}
     # Of the members of a kind with several forms one is chosen.
-    yield from differ(NODES, kind, [frozenset({it}) for it in members] if len(kind.forms) > 1 else [frozenset(members)])
+    yield from differ(NODES, kind, [frozenset({member}) for member in members] if len(kind.forms) > 1 else [frozenset(members)])
     if (known.is_device, known.ticks) != (kind.is_device, ticks):
         yield f"{NODES} has another word than the code on whether {kind.word} is a device, and whether it changes at a tick"
     if ticks and f"case {known.__name__}():" not in text_of(STATES):
@@ -239,14 +240,14 @@ def package_places(kind: Kind, ticks: bool) -> Iterator[str]:
 
 def page_places(kind: Kind, ticks: bool) -> Iterator[str]:
     """What the page of the cluster file lacks of a kind: a row with its members, its bid, its tick."""
-    rows = [re.split(r" ?(?<!\\)\| ?", it)[1:-1] for it in text_of(PAGE).splitlines() if it.startswith(f"| `{kind.word}`")]
+    rows = [re.split(r" ?(?<!\\)\| ?", line)[1:-1] for line in text_of(PAGE).splitlines() if line.startswith(f"| `{kind.word}`")]
     titles = {title for title in ("Nodes", "Bids by formula", "Ticks by formula") if f"| `{kind.word}`" in section(PAGE, title)}
     due = {"Nodes"} | ({"Bids by formula"} if kind.is_device else set()) | ({"Ticks by formula"} if ticks else set())
     for title in sorted(due - titles):
         yield f"{PAGE} has no row of the kind {kind.word} under {title}"
     if "Nodes" in titles:
         said = set(re.findall(r"`(\w+)`", rows[0][1]))
-        others = {it for it in said if it in {other.word for other in kinds()}}
+        others = {word for word in said if word in {other.word for other in kinds()}}
         for other in kinds():
             if other.word in others:
                 said |= set().union(*other.forms)
@@ -266,12 +267,12 @@ def wrong_kinds() -> Iterator[tuple[str, list[str]]]:
     known, tick = kinds(), ticking()
     for kind in known:
         yield kind.word, list(kind_places(kind, kind.variant in tick))
-    words = {it.word for it in known}
+    words = {kind.word for kind in known}
     for path, others in (
         (SCHEMA, {word for word, _ in forms()}),
         (NODES, set(module(NODES).KINDS)),
     ):
-        yield path, [f"{path} has the kind {it}, which the code has not" for it in sorted(others - words)]
+        yield path, [f"{path} has the kind {word}, which the code has not" for word in sorted(others - words)]
 
 
 # Frames.
@@ -312,8 +313,8 @@ def main() -> int:
     passed, failed = 0, 0
     try:
         for _, findings in [*facts.wrong(), *wrong_limits(), *wrong_kinds(), *wrong_frames()]:
-            for it in findings:
-                print(it)
+            for finding in findings:
+                print(finding)
             failed += len(findings)
             passed += not findings
     except Unreadable as error:

@@ -18,7 +18,7 @@ def prose_of(text: str) -> str:
     """The text with code blocks, comments and headings blanked out, so that all places stay where they are."""
     kept: list[str] = []
     fenced, code, blank, item = False, False, True, False
-    for line in re.sub(r"<!--.*?-->", lambda it: blanked(it.group()), text, flags=re.S).split("\n"):
+    for line in re.sub(r"<!--.*?-->", lambda match: blanked(match.group()), text, flags=re.S).split("\n"):
         if FENCE.match(line):
             fenced, line = not fenced, blanked(line)
         elif fenced or line.startswith("#"):
@@ -65,7 +65,7 @@ def length_of(sentence: str) -> int:
 
 def lengths_of(text: str) -> list[int]:
     """The words of each sentence of a text."""
-    return [length_of(it) for it in sentences_of(text)]
+    return [length_of(sentence) for sentence in sentences_of(text)]
 
 
 def comments_of(source: str) -> str:

@@ -50,8 +50,8 @@ def validators():
     schema = json.loads((TOP / SCHEMA).read_text())
     Draft202012Validator.check_schema(schema)
 
-    def is_whole(_, it):
-        return isinstance(it, int) and not isinstance(it, bool)
+    def is_whole(_, value):
+        return isinstance(value, int) and not isinstance(value, bool)
 
     types = Draft202012Validator.TYPE_CHECKER.redefine("integer", is_whole)
     return Draft202012Validator(schema), extend(Draft202012Validator, type_checker=types)(schema)
@@ -80,14 +80,14 @@ def why_wrong(check, name, file, code):
 
 def slips():
     """The name of a slip, a file with it, and the two findings that are due: of each member of each kind of node."""
-    nodes = [(kind, {it: value for it, (value, _, _) in limits.items()}) for kind, limits in members.KINDS.items()]
-    for kind, more in [*nodes, *(("manual", it) for it in members.BIDS)]:
+    nodes = [(kind, {word: value for word, (value, _, _) in limits.items()}) for kind, limits in members.KINDS.items()]
+    for kind, more in [*nodes, *(("manual", bid) for bid in members.BIDS)]:
         node = members.node_of(kind, more)
         for name in node:
             # Without `kind` no other member can be judged.
             slip = name[1] + name[0] + name[2:]
             missing, unknown = f"'{name}' is a required property", f"'{slip}' was unexpected"
-            wrong = {slip if it == name else it: value for it, value in node.items()}
+            wrong = {slip if member == name else member: value for member, value in node.items()}
             # Without `demand` and `points` the form is that of points.
             missing = missing.replace("'demand'", "'points'")
             yield f"{kind} with {slip}", members.with_node(wrong), {missing} if name == "kind" else {missing, unknown}
@@ -104,13 +104,13 @@ def slips():
 
 def without(value, name):
     """The object without a member."""
-    return {it: value[it] for it in value if it != name}
+    return {member: value[member] for member in value if member != name}
 
 
 def findings_of(check, file):
     """What the validator says of a file: each message, shortened to the member of which it speaks."""
-    messages = [it.message for it in check.iter_errors(file)]
-    return {re.sub(r"^Additional properties are not allowed \((.*)\)$", r"\1", it) for it in messages}
+    messages = [error.message for error in check.iter_errors(file)]
+    return {re.sub(r"^Additional properties are not allowed \((.*)\)$", r"\1", message) for message in messages}
 
 
 def points():
@@ -130,7 +130,7 @@ def results():
         found = findings_of(check, file)
         yield name, None if found == due else f"the schema says {sorted(found)}, and due is {sorted(due)}"
     for name, file in points():
-        said = [next(it.iter_errors(file), None) is None for it in (standard, check)]
+        said = [next(checker.iter_errors(file), None) is None for checker in (standard, check)]
         yield name, None if said == [True, False] else "passes by the text, or fails by the standard: say so in docs/CLUSTER_FILE.md"
 
 

@@ -40,8 +40,8 @@ class Case:
 
 def stored_cases():
     """The cases of checks/cases, one a name in a folder."""
-    for folder in sorted(it for it in CASES.iterdir() if it.is_dir()):
-        for name in sorted({it.stem for it in folder.iterdir() if it.suffix}):
+    for folder in sorted(path for path in CASES.iterdir() if path.is_dir()):
+        for name in sorted({path.stem for path in folder.iterdir() if path.suffix}):
             yield stored_case(folder, name)
 
 
@@ -53,8 +53,8 @@ def stored_case(folder, name):
                 return path.read_bytes()
         return default
 
-    inputs = (folder / f"{name}.{it}" for it in ("json", "stdin"))
-    stdin = next((it for it in inputs if it.is_file()), folder)
+    inputs = (folder / f"{name}.{ending}" for ending in ("json", "stdin"))
+    stdin = next((path for path in inputs if path.is_file()), folder)
     arguments = text_of("args", b"run\n").decode().splitlines()
     return Case(f"{folder.name}/{name}", arguments, stdin, text_of("stdout", b""), int(text_of("status", b"0")))
 
@@ -69,7 +69,7 @@ def examples():
 
 def file_of(name):
     """The file of a case, and the text due."""
-    return ((CASES / "run" / f"{name}.{it}").read_text() for it in ("json", "stdout"))
+    return ((CASES / "run" / f"{name}.{ending}").read_text() for ending in ("json", "stdout"))
 
 
 def changed(file, old, new):
@@ -137,7 +137,7 @@ def edited_members():
 
 def first_phases():
     """The village over its first two phases alone."""
-    file, text = ((EXAMPLES / it).read_text() for it in ("village.json", "village.txt"))
+    file, text = ((EXAMPLES / name).read_text() for name in ("village.json", "village.txt"))
     yield run_of(
         "the village's first two phases",
         file[: file.index(',\n{"events":[{"state":')] + "]}",

@@ -13,7 +13,7 @@ LAST_OFFER = LAST_NUMBER - 3
 
 
 def points(*pairs):
-    return bytes([128 + len(pairs)]) + b"".join(struct.pack(">ii", *it) for it in pairs)
+    return bytes([128 + len(pairs)]) + b"".join(struct.pack(">ii", *pair) for pair in pairs)
 
 
 def kind(number, *parameters):
@@ -46,7 +46,7 @@ def control_rows():
     for name, pairs, demands in [
         ("one point", [(5, 7)], (7, 7)), ("points at the ends", [(0, 600), (9, -300)], (600, -300)),
         ("points within", [(3, 10), (6, -20)], (10, -20)), ("points at one price", [(0, 5), (0, 2), (9, 1), (9, -1)], (2, -1)),
-        ("points as many as may be", [(0, 64 - it) for it in range(64)], (1, 1)),
+        ("points as many as may be", [(0, 64 - number) for number in range(64)], (1, 1)),
         ("points of the greatest power", [(0, MOST), (9, -MOST)], (MOST, -MOST)),
     ]:
         yield name, DEVICE, hello() + points(*pairs), DONE, offered(2, 0, *demands)
@@ -94,5 +94,5 @@ def control_rows():
         ("a cogeneration unit", KINDS[2][1], [-1_000_001, 1_000_001]), ("a battery", KINDS[3][1], [-1, 1001]),
         ("a solar panel", kind(SOLAR), [-1, MOST + 1]), ("a load", kind(LOAD), [-1, MOST + 1]),
     ]:
-        yield from bad_rows(DEVICE, hello() + named, [(f"state {it} of {name}", state(it)) for it in wrong])
+        yield from bad_rows(DEVICE, hello() + named, [(f"state {wrong_state} of {name}", state(wrong_state)) for wrong_state in wrong])
     yield from bad_rows(DEVICE, hello() + KINDS[3][1] + kind(SOLAR) + KINDS[3][1], [("a state of the kind before", state(1001))])

@@ -19,7 +19,7 @@ class Worked:
     last_is_legal: bool
 
     def trace(self):
-        return "".join(f"{it}\n" for it in [*self.report, *self.moves]).encode()
+        return "".join(f"{line}\n" for line in [*self.report, *self.moves]).encode()
 
     def bad_line(self):
         return len(self.report) + len(self.moves) + self.last_is_legal
@@ -67,10 +67,10 @@ def former_session():
 
 def full_window():
     """Eight numbers of a concentrator may be unanswered, and no ninth."""
-    events = [join("d"), *({"state": "d", "value": 100 + it} for it in range(1, WINDOW + 1))]
+    events = [join("d"), *({"state": "d", "value": 100 + number} for number in range(1, WINDOW + 1))]
     file = file_of([concentrator("c1"), load("d", "c1", 100)], events)
     report = ["phase 1 price 9 step 9 total 108 members 1", "member d power 108 bid 9", "end phases 1 changes 9"]
-    moves = [line.format(it) for it in range(1, WINDOW + 1) for line in ("change d {}", "learn c1 d {}", "publish c1 {}")]
+    moves = [line.format(number) for number in range(1, WINDOW + 1) for line in ("change d {}", "learn c1 d {}", "publish c1 {}")]
     ninth = [*moves, "change d 9", "learn c1 d 9"]
     yield Worked("eight unanswered numbers", file, report, ninth, True)
     yield Worked("a ninth unanswered number", file, report, [*ninth, "publish c1 9"], False)
@@ -114,12 +114,12 @@ def old_numbers():
 
 def two_full_windows():
     """A concentrator's full window stops its own publishing alone."""
-    nodes = [concentrator("c1"), concentrator("c2", "c1"), *(load(f"d{it}", "c2", 1) for it in range(1, 10)), load("e", "c1", 1)]
-    file = file_of(nodes, [*(join(f"d{it}") for it in range(1, 10)), join("e")])
-    report = ["phase 1 price 9 step 9 total 10 members 10", *(f"member d{it} power 1 bid 1" for it in range(1, 10)),
+    nodes = [concentrator("c1"), concentrator("c2", "c1"), *(load(f"d{number}", "c2", 1) for number in range(1, 10)), load("e", "c1", 1)]
+    file = file_of(nodes, [*(join(f"d{number}") for number in range(1, 10)), join("e")])
+    report = ["phase 1 price 9 step 9 total 10 members 10", *(f"member d{number} power 1 bid 1" for number in range(1, 10)),
               "member e power 1 bid 1", "end phases 1 changes 10"]
     lines = ("change d{0} 1", "learn c2 d{0} 1", "publish c2 {0}", "learn c1 c2 {0}", "publish c1 {0}")
-    moves = [line.format(it) for it in range(1, WINDOW + 1) for line in lines]
+    moves = [line.format(number) for number in range(1, WINDOW + 1) for line in lines]
     moves += ["change d9 1", "learn c2 d9 1", "change e 1", "learn c1 e 1"]
     yield Worked("two full windows", file, report, moves, True)
     yield Worked("the lower of two full windows", file, report, [*moves, "publish c2 9"], False)

@@ -46,7 +46,7 @@ def shape_edits(members):
     """The object without each of its members, with one more, and with each of a wrong type, and the code that is due."""
     yield "a further member", {**members, "note": 1}, 4
     for name, value in members.items():
-        yield f"no {name}", {it: members[it] for it in members if it != name}, 3
+        yield f"no {name}", {member: members[member] for member in members if member != name}, 3
         for wrong in WRONG_EVENTS if name == "events" else WRONG[type(value)]:
             yield f"{name} {json.dumps(wrong)}", {**members, name: wrong}, 2
 
@@ -84,7 +84,7 @@ def documents():
     """The name of each edit, the document, and the line of its refusal, or None if it is right."""
     right = with_node(node_of("load", {"start": 10}))
     for name in right:
-        yield f"document: no {name}", {it: right[it] for it in right if it != name}, "refused 3 document"
+        yield f"document: no {name}", {member: right[member] for member in right if member != name}, "refused 3 document"
         for wrong in ("1", 1.5, None):
             yield f"document: {name} {json.dumps(wrong)}", {**right, name: wrong}, "refused 2 document"
     for version in (0, 3):
@@ -92,7 +92,7 @@ def documents():
 
     basis = {name: value for name, (value, _, _) in BASIS.items()}
     edits = [*shape_edits(basis), *number_edits(BASIS, basis, 6)]
-    yield from edits_of("basis", edits, lambda it: {**right, "basis": it}, "basis")
+    yield from edits_of("basis", edits, lambda basis: {**right, "basis": basis}, "basis")
 
     for kind, limits in KINDS.items():
         node = node_of(kind, {name: value for name, (value, _, _) in limits.items()})
@@ -105,10 +105,10 @@ def documents():
             yield f"manual: {bid}", with_node(node_of("manual", bid)), f"refused {code} node 1 item 0"
         yield f"event: value {past}", with_event({"state": "node1", "value": past}), "refused 19 event 1 2"
 
-    for event in ({"join": "node1"}, {"leave": "node1"}, *({"state": "node1", **it} for it in ({"value": 1}, *BIDS))):
+    for event in ({"join": "node1"}, {"leave": "node1"}, *({"state": "node1", **bid} for bid in ({"value": 1}, *BIDS))):
         yield from edits_of("event", shape_edits(event), with_event, "event 1 2")
     for phase in ({"tick": 1}, {"events": []}):
-        yield from edits_of("phase", shape_edits(phase), lambda it: {**right, "phases": [it]}, "phase 1")
+        yield from edits_of("phase", shape_edits(phase), lambda phase: {**right, "phases": [phase]}, "phase 1")
 
 
 def files():

@@ -58,7 +58,7 @@ def new_word(text, chance):
 
 def new_number(text, chance):
     """One of the numbers of a text is another."""
-    places = [it for it in range(len(text)) if 48 <= text[it] <= 57 and not 48 <= text[it - 1] <= 57]
+    places = [index for index in range(len(text)) if 48 <= text[index] <= 57 and not 48 <= text[index - 1] <= 57]
     if not places:
         return text
     start = end = chance.choice(places)
@@ -75,8 +75,8 @@ def objects_of(value):
     """All objects and lists of a JSON value."""
     if isinstance(value, (dict, list)):
         yield value
-        for it in value.values() if isinstance(value, dict) else value:
-            yield from objects_of(it)
+        for member in value.values() if isinstance(value, dict) else value:
+            yield from objects_of(member)
 
 
 def places_of(value):
@@ -92,13 +92,13 @@ def other_value(chance, file):
 
 
 def names_in(file):
-    named = [it["name"] for it in objects_of(file) if isinstance(it, dict) and "name" in it]
-    return [it for it in named if isinstance(it, str)]
+    named = [node["name"] for node in objects_of(file) if isinstance(node, dict) and "name" in node]
+    return [name for name in named if isinstance(name, str)]
 
 
 def edit(file, chance):
     """One change of the members of one object, or of the elements of one list."""
-    where = [it for it in objects_of(file) if it]
+    where = [object_ for object_ in objects_of(file) if object_]
     if not where:
         return
     one = chance.choice(where)
@@ -127,7 +127,7 @@ def edit(file, chance):
 def add_limited(file, chance):
     """A limited concentrator is put under a concentrator, and a later node under it."""
     nodes, file["version"] = file["nodes"], 2
-    above = [at for at, it in enumerate(nodes) if it["kind"] in ("concentrator", "limited")]
+    above = [at for at, node in enumerate(nodes) if node["kind"] in ("concentrator", "limited")]
     at = chance.choice([-1, *above])
     name, parent = f"limit{chance.randint(1, 99)}", "auctioneer" if at < 0 else nodes[at]["name"]
     limits = {"floor": chance.choice([0, -100, -2_000]), "ceiling": chance.choice([0, 100, 2_000])}
@@ -141,7 +141,7 @@ def likely_edit(file, chance):
     what = chance.randrange(7)
     if what == 0 and nodes:
         node = chance.choice(nodes)
-        name = chance.choice([it for it in node if isinstance(node[it], int)] or ["start"])
+        name = chance.choice([member for member in node if isinstance(node[member], int)] or ["start"])
         node[name] = chance.choice([0, 1, node.get(name, 0) + chance.randint(-300, 300), chance.randint(-3_000, 3_000)])
     elif what == 1:
         phases.insert(chance.randint(0, len(phases)), {"tick": chance.choice([1, 7, 15, 59, 60, 61, 1440])})

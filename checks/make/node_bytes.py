@@ -7,7 +7,7 @@ from checks.facts import DEMAND_LIMIT as MOST
 from checks.facts import REFUSED
 
 LAST_NUMBER = 4_294_967_295
-SEND, WINDOW_FULL, LEAVE, NOT_CAUGHT_UP, OUT_OF_NUMBERS = (bytes([it]) for it in (9, 10, 14, 17, 18))
+SEND, WINDOW_FULL, LEAVE, NOT_CAUGHT_UP, OUT_OF_NUMBERS = (bytes([kind]) for kind in (9, 10, 14, 17, 18))
 USAGE_LINE = b"usage: live relay CHILD FLOOR CEILING [GIVER] | live auctioneer | live device CHILD\n"
 # The basis of a plain `hello()`: the least and the greatest price, and the number of steps.
 BASIS = (0, 9, 2)
@@ -50,7 +50,7 @@ def other_basis(number, index):
 
 def with_children(numbers):
     """The numbers of 256 children, of which these are not 0."""
-    return struct.pack(">256I", *(numbers.get(it, 0) for it in range(1, 257)))
+    return struct.pack(">256I", *(numbers.get(child, 0) for child in range(1, 257)))
 
 
 def relay_resume(last, answered, index, numbers, newest=None, given=(-1000, 1000, 0), basis=BASIS):

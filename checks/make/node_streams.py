@@ -21,7 +21,7 @@ class Drawing:
         self.parts, self.written, self.stream = [], b"", frames.Stream(self.node)
         self.widest = chance.choice([3, 100, MOST])
         children = chance.choice([(1,), (1, 2), (1, 2, 255, 256), (7, chance.randint(1, 256))])
-        self.children = [it for it in children if it != self.giver] or [3]
+        self.children = [child for child in children if child != self.giver] or [3]
         self.prices = chance.choice([0.01, 0.2, 0.4])
         self.add(hello(steps, *self.basis[:2]))
         if resume:
@@ -146,7 +146,7 @@ def answers_in(written, arguments, steps):
 
 def resumes_in(written, arguments, steps):
     """The frames of the kinds Resume and ResumeGone among the answers of a node."""
-    return [it for it in answers_in(written, arguments, steps) if it[0] in (node_frames.RESUME, node_frames.RESUME_GONE)]
+    return [answer for answer in answers_in(written, arguments, steps) if answer[0] in (node_frames.RESUME, node_frames.RESUME_GONE)]
 
 
 def moved(chance, resume, arguments):
@@ -195,7 +195,7 @@ def bad_frame(chance, arguments, steps):
     """A frame that no node reads, or not this one, or with a field that is refused."""
     falling = sorted((chance.randint(-9, 9) for _ in range(steps)), reverse=True)
     child, basis = int(arguments[1]) if arguments[1:] else 1, (0, 3 * (steps - 1), steps)
-    of_giver = [frame for it in map(int, arguments[4:]) for frame in (expire(it), gone(it, 2), bound(it, -1, 1))]
+    of_giver = [frame for child in map(int, arguments[4:]) for frame in (expire(child), gone(child, 2), bound(child, -1, 1))]
     return chance.choice(of_giver + [
         hello(), b"\x00", b"\x05", b"\x06", b"\x08", b"\x0c", b"\x10", b"\xff", SEND if arguments[0] != "relay" else LEAVE,
         CLEAR if arguments[0] != "auctioneer" else SEND, b"\x19" + bytes(resume_length(arguments, steps) - 1), resume_gone(1, 1),

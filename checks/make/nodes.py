@@ -13,7 +13,7 @@ from checks.oracle.frames import DONE, REFUSED, USAGE
 
 def from_hex(text):
     """The bytes of an example of the page. `..N` stands for N times four bytes of 0."""
-    return b"".join(bytes(4 * int(it[2:])) if it.startswith("..") else bytes.fromhex(it) for it in text.split())
+    return b"".join(bytes(4 * int(word[2:])) if word.startswith("..") else bytes.fromhex(word) for word in text.split())
 
 
 EXAMPLES = [

@@ -47,12 +47,12 @@ def random_tree(chance, widest):
     if chance.random() < 0.5:
         levels = LEVELS
         for depth in range(LEVELS):
-            above = next(it for it in places if it.depth == depth and it.kind != GIVER)
+            above = next(place for place in places if place.depth == depth and place.kind != GIVER)
             add_relay(places, chance, above, widest, narrow_limits(chance, widest))
     for _ in range(chance.randint(1, RELAYS[size])):
-        above = chance.choice([it for it in places if it.depth < levels and it.kind != GIVER])
+        above = chance.choice([place for place in places if place.depth < levels and place.kind != GIVER])
         add_relay(places, chance, above, widest)
-    inner = [it for it in places if it.kind != GIVER]
+    inner = [place for place in places if place.kind != GIVER]
     for _ in range(chance.randint(2, DEVICES[size])):
         add(places, chance, chance.choice(inner), DEVICE)
     return Tree(places, chance.choice(STEPS))

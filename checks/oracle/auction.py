@@ -49,7 +49,7 @@ def part_of(file):
 
 
 def demand_at(points, price):
-    before = [it for it in points if it[0] <= price]
+    before = [point for point in points if point[0] <= price]
     if not before:
         return points[0][1]
     if len(before) == len(points):
@@ -62,7 +62,7 @@ def state_of(given, prices):
     """The state that a node or an event gives: a number, or a demand for each step."""
     if "points" in given:
         return [demand_at(given["points"], price) for price in prices]
-    return next(given[it] for it in ("demand", "value", "start") if it in given)
+    return next(given[word] for word in ("demand", "value", "start") if word in given)
 
 
 def bid_of(node, state, steps):
@@ -75,7 +75,7 @@ def bid_of(node, state, steps):
     if kind == "battery":
         middle, spread = (node["capacity"] - state) * last // node["capacity"], node["spread"]
         charges = [node["charge"] * (k + spread < middle) for k in range(steps)]
-        return [it - node["discharge"] * (k > middle + spread) for k, it in enumerate(charges)]
+        return [charge - node["discharge"] * (k > middle + spread) for k, charge in enumerate(charges)]
     low, high, power = node["low"], node["high"], node["power"]
     if kind == "cogeneration":
         first = 0 if state <= low else steps if state >= high else -((low - state) * last // (high - low))
@@ -97,12 +97,12 @@ def after_tick(node, state, power, minutes):
 
 
 def clearing_step(sums):
-    return next((k for k, it in enumerate(sums) if it <= 0), len(sums) - 1)
+    return next((k for k, demand in enumerate(sums) if demand <= 0), len(sums) - 1)
 
 
 def local_step(sums, floor, ceiling, step):
     if sums[step] > ceiling:
-        return next((k for k, it in enumerate(sums) if it <= ceiling), len(sums) - 1)
+        return next((k for k, demand in enumerate(sums) if demand <= ceiling), len(sums) - 1)
     if sums[step] < floor:
         return next((k for k in reversed(range(len(sums))) if sums[k] >= floor), 0)
     return step
@@ -110,27 +110,27 @@ def local_step(sums, floor, ceiling, step):
 
 def parts_at(file, part, bids):
     """The whole cluster and its limited parts, where the members have these bids."""
-    limited = [it for it in file["nodes"] if it["kind"] == "limited"]
-    sums = {it: [0] * file["basis"]["steps"] for it in [None, *[it["name"] for it in limited]]}
+    limited = [node for node in file["nodes"] if node["kind"] == "limited"]
+    sums = {name: [0] * file["basis"]["steps"] for name in [None, *[group["name"] for group in limited]]}
     for name, bid in bids.items():
         sums[part[name]] = [a + b for a, b in zip(sums[part[name]], bid)]
-    for it in limited:
-        announced = [min(max(a, it["floor"]), it["ceiling"]) for a in sums[it["name"]]]
+    for group in limited:
+        announced = [min(max(a, group["floor"]), group["ceiling"]) for a in sums[group["name"]]]
         sums[None] = [a + b for a, b in zip(sums[None], announced)]
     step = clearing_step(sums[None])
-    steps = {it["name"]: local_step(sums[it["name"]], it["floor"], it["ceiling"], step) for it in limited}
+    steps = {group["name"]: local_step(sums[group["name"]], group["floor"], group["ceiling"], step) for group in limited}
     return {name: Part(sums[name], steps.get(name, step)) for name in sums}
 
 
 def ends_of(file):
     """The end of each phase."""
     prices, part, ends = prices_of(file), part_of(file), []
-    devices = {it["name"]: it for it in file["nodes"] if it["kind"] not in CONCENTRATORS}
-    states = {name: state_of(it, prices) for name, it in devices.items()}
+    devices = {node["name"]: node for node in file["nodes"] if node["kind"] not in CONCENTRATORS}
+    states = {name: state_of(device, prices) for name, device in devices.items()}
     numbers, joined = dict.fromkeys(devices, 0), set()
     for phase in file["phases"]:
         for event in phase.get("events", []):
-            name = next(event[it] for it in ("join", "leave", "state") if it in event)
+            name = next(event[word] for word in ("join", "leave", "state") if word in event)
             numbers[name] += 1
             if "join" in event:
                 joined.add(name)
@@ -139,10 +139,10 @@ def ends_of(file):
             else:
                 states[name] = state_of(event, prices)
         if "tick" in phase:
-            for name in [it for it in joined if devices[it]["kind"] in TICKING]:
+            for name in [name for name in joined if devices[name]["kind"] in TICKING]:
                 numbers[name] += 1
                 states[name] = after_tick(devices[name], states[name], ends[-1].powers[name], phase["tick"])
-        bids = {name: bid_of(it, states[name], len(prices)) for name, it in devices.items() if name in joined}
+        bids = {name: bid_of(device, states[name], len(prices)) for name, device in devices.items() if name in joined}
         parts = parts_at(file, part, bids)
         powers = {name: bid[parts[part[name]].step] for name, bid in bids.items()}
         ends.append(End(phase.get("tick"), powers, dict(numbers), parts))
@@ -157,7 +157,7 @@ def lines_of(file, ends):
             told = f"price {prices[part.step]} step {part.step} total {part.sums[part.step]}"
             if name is None:
                 yield f"phase {phase} {told} members {len(end.powers)}"
-                yield from (f"member {it} power {power} bid {end.numbers[it]}" for it, power in end.powers.items())
+                yield from (f"member {name} power {power} bid {end.numbers[name]}" for name, power in end.powers.items())
             else:
                 yield f"limited {name} {told}"
     changes = sum(ends[-1].numbers.values()) if ends else 0

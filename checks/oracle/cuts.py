@@ -51,13 +51,13 @@ class Tree:
 
 
 def added(total, bid):
-    for step, it in enumerate(bid or []):
-        total[step] += it
+    for step, demand in enumerate(bid or []):
+        total[step] += demand
 
 
 def steps_within(total, floor, ceiling):
     """The steps at which a sum keeps limits, one behind the other, since it falls."""
-    return [step for step, it in enumerate(total) if floor <= it <= ceiling]
+    return [step for step, power in enumerate(total) if floor <= power <= ceiling]
 
 
 def settled_step(total, floor, ceiling, step):
@@ -65,14 +65,14 @@ def settled_step(total, floor, ceiling, step):
     so that the ceiling is kept, or the last if all are above the ceiling."""
     within = steps_within(total, floor, ceiling)
     if within:
-        return min(within, key=lambda it: abs(it - step))
-    return next((at for at, it in enumerate(total) if it < floor), len(total) - 1)
+        return min(within, key=lambda other: abs(other - step))
+    return next((at for at, power in enumerate(total) if power < floor), len(total) - 1)
 
 
 def announced(total, floor, ceiling):
     """The bid of a relay: what it takes at each step, as far as a bid may say it."""
     taken = (total[settled_step(total, floor, ceiling, step)] for step in range(len(total)))
-    return [min(max(it, -MOST), MOST) for it in taken]
+    return [min(max(power, -MOST), MOST) for power in taken]
 
 
 class Cuts:
@@ -112,7 +112,7 @@ class Cuts:
     def limits_of(self, at, numbers):
         """The floor and the ceiling of a relay in a bid of these numbers."""
         place = self.tree.places[at]
-        given = [self.meant[child, it] for child, it in numbers.items() if self.tree.places[child].kind == GIVER]
+        given = [self.meant[child, number] for child, number in numbers.items() if self.tree.places[child].kind == GIVER]
         return given[0] if given else (place.floor, place.ceiling)
 
     def keeps(self, at, number):

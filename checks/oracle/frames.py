@@ -31,7 +31,7 @@ class Hello:
 def is_bid(demands, basis):
     """Whether there is a demand for each step, none above the one before, and each within the limit."""
     falls = all(a >= b for a, b in zip(demands, demands[1:]))
-    return len(demands) == basis.steps and falls and all(abs(it) <= MOST for it in demands)
+    return len(demands) == basis.steps and falls and all(abs(demand) <= MOST for demand in demands)
 
 
 @dataclass(frozen=True)
@@ -118,12 +118,12 @@ def gone(child, number):
 
 
 def clearing_step(total):
-    return next((at for at, it in enumerate(total) if it <= 0), len(total) - 1)
+    return next((at for at, demand in enumerate(total) if demand <= 0), len(total) - 1)
 
 
 def sum_of(bids, steps):
     """The demands of bids, added step by step."""
-    return [sum(it) for it in zip(*bids)] or [0] * steps
+    return [sum(demands) for demands in zip(*bids)] or [0] * steps
 
 
 class Stream:

@@ -54,16 +54,16 @@ class Plan:
     def __init__(self, file):
         self.file = file
         self.prices, self.groups, ends = prices_of(file), part_of(file), ends_of(file)
-        self.report = [it.encode() for it in lines_of(file, ends)]
-        self.parent = {it["name"]: it.get("parent", ROOT) for it in file["nodes"]}
-        self.children = {ROOT: []} | {it["name"]: [] for it in file["nodes"] if it["kind"] in CONCENTRATORS}
+        self.report = [line.encode() for line in lines_of(file, ends)]
+        self.parent = {node["name"]: node.get("parent", ROOT) for node in file["nodes"]}
+        self.children = {ROOT: []} | {node["name"]: [] for node in file["nodes"] if node["kind"] in CONCENTRATORS}
         for name, parent in self.parent.items():
             self.children[parent].append(name)
         self.devices = {
-            it["name"]: Device(it, state_of(it, self.prices)) for it in file["nodes"] if it["kind"] not in CONCENTRATORS
+            node["name"]: Device(node, state_of(node, self.prices)) for node in file["nodes"] if node["kind"] not in CONCENTRATORS
         }
         self.leaves = {name: self.leaves_of(name) for name in [*self.parent, ROOT]}
-        self.ends = [dict.fromkeys(self.devices, 0)] + [it.numbers for it in ends]
+        self.ends = [dict.fromkeys(self.devices, 0)] + [end.numbers for end in ends]
         for phase in range(len(ends)):
             self.add_phase(file["phases"][phase], ends[phase - 1].powers if phase else {})
         self.found = {}
@@ -75,12 +75,12 @@ class Plan:
                 device = self.parent[device]
             return device == name
 
-        return [it for it in self.devices if stands_below(it)]
+        return [device for device in self.devices if stands_below(device)]
 
     def add_phase(self, phase, powers):
         """Lists the changes of a phase; the powers are those at the end of the phase before."""
         for event in phase.get("events", []):
-            device = self.devices[next(event[it] for it in ("join", "leave", "state") if it in event)]
+            device = self.devices[next(event[word] for word in ("join", "leave", "state") if word in event)]
             if "state" in event:
                 device.change(state_of(event, self.prices), True)
             else:
@@ -94,8 +94,8 @@ class Plan:
         """The step that a device takes if the market clears a cut: that of its part of the cluster."""
         numbers = tuple(cut.values())
         if numbers not in self.found:
-            members = {it: device for it, device in self.devices.items() if device.member[cut[it]]}
-            bids = {it: bid_of(device.node, device.states[cut[it]], len(self.prices)) for it, device in members.items()}
+            members = {name: device for name, device in self.devices.items() if device.member[cut[name]]}
+            bids = {name: bid_of(device.node, device.states[cut[name]], len(self.prices)) for name, device in members.items()}
             self.found[numbers] = {part: found.step for part, found in parts_at(self.file, self.groups, bids).items()}
         return self.found[numbers][self.groups[name]]
 
@@ -127,14 +127,14 @@ class Market:
         cut = {}
         for child in self.plan.children[name]:
             cut.update(self.part(child, self.learnt[child]))
-        return {it: cut[it] for it in self.plan.leaves[name]}
+        return {leaf: cut[leaf] for leaf in self.plan.leaves[name]}
 
     def number_in(self, name, cut):
         """The number of a node that a cut contains."""
-        here = {it: cut[it] for it in self.plan.leaves[name]}
+        here = {leaf: cut[leaf] for leaf in self.plan.leaves[name]}
         if name in self.counts:
             return here[name]
-        return next((it for it in range(self.newest(name), 0, -1) if self.published[name][it] == here), 0)
+        return next((number for number in range(self.newest(name), 0, -1) if self.published[name][number] == here), 0)
 
     def last(self, name):
         """The index of the clearing that was passed to a node last, 0 if there was none."""
@@ -144,7 +144,7 @@ class Market:
         cut = self.published[ROOT][index]
         if name in self.counts:
             return self.plan.devices[name].member[cut[name]]
-        return any(cut[it] for it in self.plan.leaves[name])
+        return any(cut[leaf] for leaf in self.plan.leaves[name])
 
     def open_changes(self, name):
         """How many changes of a device belong to the phases up to the open one."""
@@ -180,8 +180,8 @@ class Market:
     def node_moves(self):
         """Each Learn, Publish, Clear and Pass that is legal."""
         for name, parent in self.plan.parent.items():
-            yield from (("learn", parent, name, it) for it in range(self.learnt[name] + 1, self.newest(name) + 1))
-            yield from (("pass", name, it) for it in range(self.last(name) + 1, self.newest(ROOT) + 1) if self.may_pass(name, it))
+            yield from (("learn", parent, name, number) for number in range(self.learnt[name] + 1, self.newest(name) + 1))
+            yield from (("pass", name, index) for index in range(self.last(name) + 1, self.newest(ROOT) + 1) if self.may_pass(name, index))
             if name in self.published and self.may_publish(name, self.newest(name) + 1):
                 yield "publish", name, self.newest(name) + 1
         if self.may_clear(self.newest(ROOT) + 1):
@@ -230,7 +230,7 @@ def move_of(line):
     for word, form in FORMS:
         found = form.fullmatch(line)
         if found:
-            return (word, *(int(it) if it[:1].isdigit() else it.decode() for it in found.groups()))
+            return (word, *(int(word) if word[:1].isdigit() else word.decode() for word in found.groups()))
     return None
 
 

@@ -36,12 +36,12 @@ def is_child(child):
 
 def with_numbers(numbers):
     """The numbers of 256 children by child, for those that have one."""
-    return {child: it for child, it in enumerate(numbers, 1) if it}
+    return {child: number for child, number in enumerate(numbers, 1) if number}
 
 
 def by_child(numbers):
     """The numbers of 256 children as a frame has them, 0 for a child without one."""
-    return [numbers.get(it, 0) for it in range(1, CHILDREN + 1)]
+    return [numbers.get(child, 0) for child in range(1, CHILDREN + 1)]
 
 
 # What a node reads.
@@ -101,11 +101,11 @@ class Kind:
             return False
         if node["kind"] == "battery":
             powers = node["charge"], node["discharge"]
-            return 1 <= node["capacity"] <= MOST and all(0 <= it <= MOST for it in powers) and 0 <= node["spread"] <= facts.SPREAD_LIMIT
+            return 1 <= node["capacity"] <= MOST and all(0 <= power <= MOST for power in powers) and 0 <= node["spread"] <= facts.SPREAD_LIMIT
         if node["kind"] in ("solar", "load"):
             return True
         low, high, power, *changes = self.numbers
-        return -TEMPERATURE <= low < high <= TEMPERATURE and 0 <= power <= MOST and all(0 <= it <= TEMPERATURE for it in changes)
+        return -TEMPERATURE <= low < high <= TEMPERATURE and 0 <= power <= MOST and all(0 <= change <= TEMPERATURE for change in changes)
 
 
 @dataclass(frozen=True)
@@ -227,33 +227,33 @@ class ResumeGone:
 
 def price_form(child):
     """The form of a Price that the child of this number reads."""
-    return f">HIIH{BASIS}", lambda *it: Price(child, *it[:4], Hello(*it[4:]))
+    return f">HIIH{BASIS}", lambda *fields: Price(child, *fields[:4], Hello(*fields[4:]))
 
 
 def relay_resume_form(arguments):
     """The form of the Resume of a relay with this floor, ceiling and giver."""
-    return f">III{BASIS}iiHii{CHILDREN}I", lambda *it: RelayResume(
-        arguments, *it[:3], Hello(*it[3:6]), it[6:9], it[9:11], with_numbers(it[11:])
+    return f">III{BASIS}iiHii{CHILDREN}I", lambda *fields: RelayResume(
+        arguments, *fields[:3], Hello(*fields[3:6]), fields[6:9], fields[9:11], with_numbers(fields[11:])
     )
 
 
 def control_forms(steps, node):
     """The frames of a device's control, whose kind as a node of a cluster file this is."""
-    pairs = {POINTS + many: (f">{2 * many}i", lambda *it: Points(tuple(zip(it[::2], it[1::2])))) for many in range(1, facts.MOST_POINTS + 1)}
+    pairs = {POINTS + many: (f">{2 * many}i", lambda *fields: Points(tuple(zip(fields[::2], fields[1::2])))) for many in range(1, facts.MOST_POINTS + 1)}
     return pairs | {
-        OFFER: (f">{steps}i", lambda *it: Offer(it)),
+        OFFER: (f">{steps}i", lambda *fields: Offer(fields)),
         LEAVE: (">", Leave),
-        KIND: (">B5i", lambda number, *it: Kind(number, it)),
-        STATE: (">i", lambda it: State(node, it)),
+        KIND: (">B5i", lambda number, *fields: Kind(number, fields)),
+        STATE: (">i", lambda value: State(node, value)),
     }
 
 
-AUCTIONEER_RESUME_FORM = f">I{BASIS}{CHILDREN}I", lambda *it: AuctioneerResume(it[0], Hello(*it[1:4]), with_numbers(it[4:]))
-RESUME_GONE_FORM = f">II{BASIS}", lambda *it: ResumeGone(*it[:2], Hello(*it[2:]))
+AUCTIONEER_RESUME_FORM = f">I{BASIS}{CHILDREN}I", lambda *fields: AuctioneerResume(fields[0], Hello(*fields[1:4]), with_numbers(fields[4:]))
+RESUME_GONE_FORM = f">II{BASIS}", lambda *fields: ResumeGone(*fields[:2], Hello(*fields[2:]))
 
 
 def device_resume_form(steps):
-    return f">II{BASIS}{steps}i", lambda *it: DeviceResume(*it[:2], Hello(*it[2:5]), it[5:])
+    return f">II{BASIS}{steps}i", lambda *fields: DeviceResume(*fields[:2], Hello(*fields[2:5]), fields[5:])
 
 
 # What a node writes.

@@ -26,7 +26,7 @@ USAGE_LINE = b"usage: live relay CHILD FLOOR CEILING [GIVER] | live auctioneer |
 
 
 def sum_of_heard(heard, steps):
-    return sum_of([it.demands for it in heard.values() if isinstance(it, Bid)], steps)
+    return sum_of([bid.demands for bid in heard.values() if isinstance(bid, Bid)], steps)
 
 
 def parents_number(number):
@@ -37,14 +37,14 @@ def parents_number(number):
 def settled_step(total, floor, ceiling, step):
     """The step for which a relay with this sum and these limits settles if this step is told to it."""
     last = len(total) - 1
-    first = next((it for it in range(last + 1) if total[it] <= ceiling), last)
-    return max(first, min(step, next((it for it in range(last, -1, -1) if total[it] >= floor), 0)))
+    first = next((step for step in range(last + 1) if total[step] <= ceiling), last)
+    return max(first, min(step, next((step for step in range(last, -1, -1) if total[step] >= floor), 0)))
 
 
 def announced(total, floor, ceiling):
     """What a relay announces: at each step what its sum is at the step for which it settles, as far as a bid may say it."""
-    settled = (total[settled_step(total, floor, ceiling, it)] for it in range(len(total)))
-    return [min(max(it, -MOST), MOST) for it in settled]
+    settled = (total[settled_step(total, floor, ceiling, step)] for step in range(len(total)))
+    return [min(max(power, -MOST), MOST) for power in settled]
 
 
 class Node:
@@ -102,7 +102,7 @@ class Parent(Node):
 
     def is_too_much(self, frame):
         least, greatest = self.bounds.get(frame.child, (-MOST, MOST))
-        return any(not least <= it <= greatest for it in frame.demands)
+        return any(not least <= demand <= greatest for demand in frame.demands)
 
     def counted(self, child, frame):
         """The answers to what a child sent under a number: it counts if its number is the greatest."""
@@ -130,7 +130,7 @@ class Parent(Node):
 
     def sent(self):
         """Notes that what was heard is what was sent last."""
-        self.numbers = {child: it.number for child, it in self.heard.items()}
+        self.numbers = {child: bid.number for child, bid in self.heard.items()}
         self.has_news = self.is_lost = False
 
     def prices_for(self, heard, index, step):
@@ -162,7 +162,7 @@ class Relay(Parent):
         return {RESUME: relay_resume_form(self.given)}
 
     def later_forms(self):
-        own = {PRICE: price_form(self.child), OLD: (">HI", lambda *it: Old(self.child, *it)), SEND: (">", Send)}
+        own = {PRICE: price_form(self.child), OLD: (">HI", lambda *fields: Old(self.child, *fields)), SEND: (">", Send)}
         if self.giver == 0:
             return self.forms_of_children() | own
         return self.without_giver(self.forms_of_children()) | own | {LIMITS: (">Iii", Limits)}
@@ -171,7 +171,7 @@ class Relay(Parent):
         """These forms, of which a frame with the giver as child is refused."""
         def refusing(make):
             def made(*fields):
-                return make(*(0 if at == 0 and it == self.giver else it for at, it in enumerate(fields)))
+                return make(*(0 if at == 0 and number == self.giver else number for at, number in enumerate(fields)))
             return made
         return {kind: (fields, refusing(make)) for kind, (fields, make) in forms.items()}
 
@@ -192,11 +192,11 @@ class Relay(Parent):
                 return self.counted(self.giver, frame)
         return self.of_child(frame)
 
-    def come_back(self, it):
-        self.last, self.answered, self.index, self.numbers, self.newest = it.last, it.answered, it.index, it.numbers, it.newest
+    def come_back(self, resume):
+        self.last, self.answered, self.index, self.numbers, self.newest = resume.last, resume.answered, resume.index, resume.numbers, resume.newest
         self.is_lost = self.last > 0
         number = self.numbers.get(self.giver, 0) if self.giver else 0
-        return self.counted(self.giver, Limits(number, *it.newest)) if number else b""
+        return self.counted(self.giver, Limits(number, *resume.newest)) if number else b""
 
     def counted(self, child, frame):
         if isinstance(frame, Limits) and frame.number > self.kept(child):
@@ -219,7 +219,7 @@ class Relay(Parent):
     def last_bid(self):
         record = self.records[self.last]
         floor, ceiling = record.limits
-        is_kept = any(floor <= it <= ceiling for it in record.total)
+        is_kept = any(floor <= power <= ceiling for power in record.total)
         told = b"" if is_kept else out_of_limits(self.last)
         return bid(self.child, self.last, announced(record.total, floor, ceiling)) + told
 
@@ -239,34 +239,34 @@ class Relay(Parent):
     def resume(self):
         return relay_resume(self.last, self.answered, self.index, self.basis, self.given, self.newest, self.numbers)
 
-    def priced(self, it):
+    def priced(self, price):
         """The answers to a Price that comes, or that waited."""
-        if it.index <= self.index or not self.answered <= it.number <= self.last:
-            return dropped(it.number, it.index)
-        if it.number == self.last and self.may_have_again():
-            return self.waits(it)
-        record = self.records.get(it.number)
-        self.answered, self.index = it.number, it.index
-        self.records = {number: kept for number, kept in self.records.items() if number >= it.number}
-        return (self.passed(record, it) if record else b"") + self.resume()
+        if price.index <= self.index or not self.answered <= price.number <= self.last:
+            return dropped(price.number, price.index)
+        if price.number == self.last and self.may_have_again():
+            return self.waits(price)
+        record = self.records.get(price.number)
+        self.answered, self.index = price.number, price.index
+        self.records = {number: kept for number, kept in self.records.items() if number >= price.number}
+        return (self.passed(record, price) if record else b"") + self.resume()
 
-    def waits(self, it):
+    def waits(self, found):
         if self.waiting is None:
-            self.waiting = it
+            self.waiting = found
             return b""
-        first, self.waiting = self.waiting, max(self.waiting, it, key=lambda price: price.index)
-        other = it if self.waiting is first else first
+        first, self.waiting = self.waiting, max(self.waiting, found, key=lambda price: price.index)
+        other = found if self.waiting is first else first
         return dropped(other.number, other.index)
 
     def tried_again(self):
         """The answers to a Price that waited."""
         if self.waiting is None:
             return b""
-        it, self.waiting = self.waiting, None
-        return self.priced(it)
+        price, self.waiting = self.waiting, None
+        return self.priced(price)
 
-    def passed(self, record, it):
-        return self.prices_for(record.heard, it.index, settled_step(record.total, *record.limits, it.step))
+    def passed(self, record, price):
+        return self.prices_for(record.heard, price.index, settled_step(record.total, *record.limits, price.step))
 
 
 class Auctioneer(Parent):
@@ -334,7 +334,7 @@ class Device(Node):
     def later_forms(self):
         return control_forms(self.basis.steps, self.kind) | {
             PRICE: price_form(self.child),
-            OLD: (">HI", lambda *it: Old(self.child, *it)),
+            OLD: (">HI", lambda *fields: Old(self.child, *fields)),
         }
 
     def answer(self, frame):
@@ -404,15 +404,15 @@ class Device(Node):
             return resume_gone(self.last, self.index, self.basis)
         return device_resume(self.last, self.index, self.basis, self.newest)
 
-    def priced(self, it):
-        if it.index <= self.index:
-            return dropped(it.number, it.index)
-        self.index = it.index
-        if it.number not in self.offers:
-            return dropped(it.number, it.index)
-        self.answered = it.number
-        self.offers = {number: kept for number, kept in self.offers.items() if number >= it.number}
-        return setpoint(it.number, it.index, it.step, self.offers[it.number][it.step]) + self.resume()
+    def priced(self, price):
+        if price.index <= self.index:
+            return dropped(price.number, price.index)
+        self.index = price.index
+        if price.number not in self.offers:
+            return dropped(price.number, price.index)
+        self.answered = price.number
+        self.offers = {number: kept for number, kept in self.offers.items() if number >= price.number}
+        return setpoint(price.number, price.index, price.step, self.offers[price.number][price.step]) + self.resume()
 
 
 def number_of(word, least, greatest):
@@ -426,7 +426,7 @@ def node_of(arguments):
     match arguments:
         case ["relay", *words] if len(words) in (3, 4):
             ranges = [(1, CHILDREN), (-MOST, 0), (0, MOST), (1, CHILDREN)]
-            numbers = [number_of(word, *it) for word, it in zip(words, ranges)]
+            numbers = [number_of(word, *values) for word, values in zip(words, ranges)]
             return None if None in numbers else Relay(*numbers)
         case ["auctioneer"]:
             return Auctioneer()

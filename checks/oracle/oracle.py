@@ -16,7 +16,7 @@ TARGET = re.compile(rb"0|-?[1-9][0-9]{0,9}")
 
 
 def report_of(scene):
-    return "".join(f"{it}\n" for it in lines_of(scene, ends_of(scene)))
+    return "".join(f"{line}\n" for line in lines_of(scene, ends_of(scene)))
 
 
 def too_long(limit):
@@ -46,7 +46,7 @@ def targets_of(text):
     for number, line in enumerate(lines, 1):
         if number > TARGETS or not TARGET.fullmatch(line) or abs(int(line)) > MOST_WATTS:
             return None, number
-    return ([int(it) for it in lines], None) if not rest else (None, len(lines) + 1)
+    return ([int(line) for line in lines], None) if not rest else (None, len(lines) + 1)
 
 
 def due_of_ask(text):
@@ -89,7 +89,7 @@ def why_wrong(command, text, ended, due=None):
         return None if found.startswith("valid ") else f"the judge says of the trace: {found.strip()}"
     if written == due[1]:
         return None
-    at = next((it for it, (a, b) in enumerate(zip(written, due[1])) if a != b), min(len(written), len(due[1])))
+    at = next((number for number, (a, b) in enumerate(zip(written, due[1])) if a != b), min(len(written), len(due[1])))
     return f"line {due[1][:at].count(10) + 1} differs: it wrote {written[max(0, at - 40) : at + 40]!r}"
 
 

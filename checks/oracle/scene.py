@@ -61,8 +61,8 @@ def require_characters(value):
     if isinstance(value, str):
         value.encode()
     elif isinstance(value, list):
-        for it in value:
-            require_characters(it)
+        for element in value:
+            require_characters(element)
 
 
 def object_of(pairs):
@@ -74,8 +74,8 @@ def object_of(pairs):
 def nesting(text):
     """How many objects and lists stand in each other."""
     depth = deepest = 0
-    for it in STRING.sub("", text):
-        depth += (it in "[{") - (it in "]}")
+    for character in STRING.sub("", text):
+        depth += (character in "[{") - (character in "]}")
         deepest = max(deepest, depth)
     return deepest
 
@@ -101,11 +101,11 @@ def require_members(value, members, place, chosen=()):
     """That an object has exactly these members, and of each choice the first that is there."""
     members = dict(members)
     for choice in chosen:
-        form = next((it for it in choice if it in value), None)
+        form = next((member for member in choice if member in value), None)
         require(form, 3, place)
         members[form] = choice[form]
-    require(all(it in value for it in members), 3, place)
-    require(all(it in members for it in value), 4, place)
+    require(all(member in value for member in members), 3, place)
+    require(all(name in members for name in value), 4, place)
     for name, kind in members.items():
         require(type(value[name]) is kind and has_elements(name, value[name]), 2, place)
 
@@ -113,9 +113,9 @@ def require_members(value, members, place, chosen=()):
 def has_elements(name, value):
     """Whether the elements of a demand, and of points, have the right type."""
     if name == "demand":
-        return all(type(it) is int for it in value)
+        return all(type(element) is int for element in value)
     if name == "points":
-        return all(type(it) is list and len(it) == 2 and has_elements("demand", it) for it in value)
+        return all(type(element) is list and len(element) == 2 and has_elements("demand", element) for element in value)
     return True
 
 
@@ -131,7 +131,7 @@ def require_node(node, version, place):
 
 def require_event(event, place):
     require(type(event) is dict, 2, place)
-    form = next((it for it in ("join", "leave", "state") if it in event), None)
+    form = next((word for word in ("join", "leave", "state") if word in event), None)
     require(form, 3, place)
     require_members(event, {form: str}, place, [{"value": int, "demand": list, "points": list}] if form == "state" else [])
 
@@ -189,7 +189,7 @@ def require_points(points, basis, place):
 
 
 def require_first(code, place, things, is_bad):
-    at = next((it for it in range(len(things)) if is_bad(it)), None)
+    at = next((index for index in range(len(things)) if is_bad(index)), None)
     require(at is None, code, place, at)
 
 
@@ -223,16 +223,16 @@ def require_numbers(nodes, basis):
 
 
 def require_script(file):
-    devices = {it["name"]: it for it in file["nodes"] if it["kind"] not in CONCENTRATORS}
+    devices = {node["name"]: node for node in file["nodes"] if node["kind"] not in CONCENTRATORS}
     joined, changes = set(), 0
     for at, phase in enumerate(file["phases"], 1):
         if "tick" in phase:
             require(MINUTES[0] <= phase["tick"] <= MINUTES[1], 13, f"phase {at}")
-            changes += sum(devices[it]["kind"] in TICKING for it in joined)
+            changes += sum(devices[name]["kind"] in TICKING for name in joined)
         events = phase.get("events", [])
         require(len(events) <= EVENTS, 20, f"phase {at}")
         for number, event in enumerate(events, 1):
-            place, form = f"event {at} {number}", next(it for it in ("join", "leave", "state") if it in event)
+            place, form = f"event {at} {number}", next(word for word in ("join", "leave", "state") if word in event)
             name = event[form]
             require(name in devices, 14, place)
             require(form != "join" or name not in joined, 15, place)

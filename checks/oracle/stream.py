@@ -37,9 +37,9 @@ class Answers:
         if not self.changed:
             return bytes([NOT_CHANGED])
         self.changed, self.index = False, self.index + 1
-        bids = [self.newest[it] for it in sorted(self.newest) if isinstance(self.newest[it], Bid)]
+        bids = [self.newest[child] for child in sorted(self.newest) if isinstance(self.newest[child], Bid)]
         step = clearing_step(sum_of([bid.demands for bid in bids], self.basis.steps))
-        return b"".join(price(it.child, it.number, self.index, step) for it in bids)
+        return b"".join(price(bid.child, bid.number, self.index, step) for bid in bids)
 
 
 def answers_to(data, ended=True):

@@ -20,7 +20,7 @@ def main(file: str, name: str) -> int:
     cluster = Cluster.load(file)
     car = cluster.node(name)
     assert isinstance(car, Battery)
-    leave = next(at for at, it in enumerate(cluster.phases) if isinstance(it, Events) and Leave(name) in it.events)
+    leave = next(at for at, phase in enumerate(cluster.phases) if isinstance(phase, Events) and Leave(name) in phase.events)
     day = run(cluster.with_script(cluster.phases[:leave]), start=BEGIN)
     charge, now = day.snapshot.states[name], day.times[-1]
     assert isinstance(charge, int)

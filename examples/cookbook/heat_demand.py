@@ -16,7 +16,7 @@ from cogmaula import Tick, continued, run
 def main(file: str, name: str, loss: int) -> int:
     """Runs both parts."""
     following = continued(run(file), [Tick(60), Tick(60)])
-    nodes = [replace(it, loss=loss) if it.name == name else it for it in following.nodes]
+    nodes = [replace(node, loss=loss) if node.name == name else node for node in following.nodes]
     day = run(replace(following, nodes=nodes))
     for end, temperature in zip(day.ends, day.states[name]):
         print(f"end of phase {end.phase}: {end.powers[name]} W, temperature {temperature}")

@@ -34,7 +34,7 @@ async def main(url, agent, token_file, ca, *demands):
     trust = ssl.create_default_context(cafile=ca) if url.startswith("wss:") else None
     while True:
         try:
-            await bid(url, agent, token, trust, [int(it) for it in demands])
+            await bid(url, agent, token, trust, [int(demand) for demand in demands])
         except (OSError, websockets.WebSocketException) as error:
             print(f"{url}: {error}", file=sys.stderr, flush=True)
         await asyncio.sleep(2)

@@ -51,7 +51,7 @@ def roof(draw: random.Random, sky: list[float]) -> list[float]:
     """The power of a roof in each row, in kilowatts."""
     peak, middle = draw.uniform(3.0, 7.0), draw.uniform(12.6, 14.2)
     sun = [max(0.0, math.cos((row * MINUTES / 60 - middle) * math.pi / 16)) ** 1.5 for row in range(ROWS)]
-    return [peak * it * through for it, through in zip(sun, sky)]
+    return [peak * strength * through for strength, through in zip(sun, sky)]
 
 
 def write(path: Path, names: list[str], columns: list[list[float]]) -> None:
@@ -61,7 +61,7 @@ def write(path: Path, names: list[str], columns: list[list[float]]) -> None:
         lines.writerow(["time", *names])
         for row in range(ROWS):
             time = BEGIN + timedelta(minutes=row * MINUTES)
-            lines.writerow([time.isoformat(timespec="minutes"), *(f"{it[row]:.3f}" for it in columns)])
+            lines.writerow([time.isoformat(timespec="minutes"), *(f"{column[row]:.3f}" for column in columns)])
 
 
 def main(seed: int, folder: Path) -> None:

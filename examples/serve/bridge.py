@@ -52,7 +52,7 @@ def demands_of(payload, steps):
         demands = json.loads(payload)
     except (RecursionError, ValueError):
         raise NoBid("it is no JSON") from None
-    if type(demands) is not list or any(type(it) is not int or abs(it) > MOST for it in demands):
+    if type(demands) is not list or any(type(demand) is not int or abs(demand) > MOST for demand in demands):
         raise NoBid("it is no list of whole numbers within the limits")
     if len(demands) != steps:
         raise NoBid(f"it has {len(demands)} demands, and {steps} are due")

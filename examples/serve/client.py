@@ -251,7 +251,7 @@ def print_answers(market):
 def send_lines(market, lines):
     for line in lines:
         word, *numbers = line.split() or [""]
-        numbers = [int(it) for it in numbers]
+        numbers = [int(number) for number in numbers]
         if word == "bid":
             market.bid(numbers[0], numbers[1:])
         elif word == "gone":

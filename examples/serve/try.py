@@ -165,7 +165,7 @@ class Started:
 
     def __init__(self, *commands, **settings):
         settings |= {"start_new_session": True, "stderr": subprocess.DEVNULL}
-        self.children = [subprocess.Popen(it, **settings) for it in commands]
+        self.children = [subprocess.Popen(command, **settings) for command in commands]
 
     def __enter__(self):
         return self.children
@@ -223,8 +223,8 @@ def try_broker(words, folder):
     with Started([broker, "-c", f"{folder}/broker"]):
         wait_for(f"127.0.0.1:{port}")
         came, client = queue.Queue(), mqtt_client()
-        client.on_connect = lambda it, *_: it.subscribe("market/price/+")
-        client.on_message = lambda _, __, it: came.put((it.topic, json.loads(it.payload)))
+        client.on_connect = lambda client, *_: client.subscribe("market/price/+")
+        client.on_message = lambda _, __, message: came.put((message.topic, json.loads(message.payload)))
         client.connect("127.0.0.1", port)
         client.loop_start()
         bridge = [sys.executable, str(HERE / "bridge.py"), f"127.0.0.1:{port}", "0", "9", "10", "0.2", "--", *words]

@@ -14,9 +14,9 @@ WIDE, TOP_OF_ROWS, ROW, LANE = 860, 118, 26, 62
 def traces_of(text_of_both: str) -> list[str]:
     """The traces in a text of several."""
     found, lines = [], []
-    for it in text_of_both.splitlines():
-        lines.append(it)
-        if it.startswith("moves "):
+    for line in text_of_both.splitlines():
+        lines.append(line)
+        if line.startswith("moves "):
             found.append("\n".join(lines) + "\n")
             lines = []
     return found
@@ -51,7 +51,7 @@ def run(x: float, heading: str, moves: list[str]) -> Iterator[str]:
 
 def drawn(both: list[str]) -> Iterator[str]:
     """The parts of the diagram, and last how high it is."""
-    journals, report = [moves_of(it) for it in both], report_of(both[0])
+    journals, report = [moves_of(run) for run in both], report_of(both[0])
     if report_of(both[1]) != report or journals[0] == journals[1]:
         raise ValueError("two_orders.trace has not two orders of one report")
     yield text(24, 30, "Two interleavings, one report", bold=True, size=15)
@@ -62,7 +62,7 @@ def drawn(both: list[str]) -> Iterator[str]:
     y = TOP_OF_ROWS + ROW * max(map(len, journals)) + 6
     yield box(24, y, WIDE - 48, 14 + 18 * len(report), fill=LIGHT, stroke="#CCCCCC")
     yield text(36, y + 20, "the report of both", size=12, bold=True)
-    yield from (text(190, y + 20 + 18 * at, it, size=12, code=True) for at, it in enumerate(report))
+    yield from (text(190, y + 20 + 18 * at, line, size=12, code=True) for at, line in enumerate(report))
     yield str(y + 14 + 18 * len(report) + 14)
 
 

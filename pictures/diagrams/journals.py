@@ -9,7 +9,7 @@ TOP = HERE.parents[1]
 def moves_of(trace: str) -> list[str]:
     """The lines of the moves."""
     lines = trace.splitlines()
-    first = next(at for at, it in enumerate(lines) if it.startswith("end phases ")) + 1
+    first = next(at for at, line in enumerate(lines) if line.startswith("end phases ")) + 1
     return lines[first:-1]
 
 
@@ -25,4 +25,4 @@ def until_close(moves: list[str], phase: int) -> list[str]:
 
 def last_of(moves: list[str], *words: str) -> list[str]:
     """The words of the last move that begins with these."""
-    return next(it.split() for it in reversed(moves) if it.split()[: len(words)] == list(words))
+    return next(move.split() for move in reversed(moves) if move.split()[: len(words)] == list(words))

@@ -25,12 +25,12 @@ class Layer:
 def layers_of(lines: list[str]) -> list[Layer]:
     """The layers that crates.txt has, the lowest first."""
     found: list[Layer] = []
-    for it in lines:
-        heading = re.fullmatch(r"# ([A-Z][\w ]+?)(?: \((.*)\))?", it)
+    for line in lines:
+        heading = re.fullmatch(r"# ([A-Z][\w ]+?)(?: \((.*)\))?", line)
         if heading:
             found.append(Layer(heading.group(1), heading.group(2) or ""))
-        elif re.match(r"\w+:", it):
-            name, _, stands_on = it.partition(":")
+        elif re.match(r"\w+:", line):
+            name, _, stands_on = line.partition(":")
             found[-1].crates[name] = stands_on.split()
     return found
 
@@ -40,8 +40,8 @@ def numbers_below(layers: list[Layer]) -> list[list[int]]:
     place = {name: at for at, layer in enumerate(layers, 1) for name in layer.crates}
     found = []
     for at, layer in enumerate(layers, 1):
-        named = {place[it] for stands_on in layer.crates.values() for it in stands_on if it in place}
-        if any(it > at for it in named):
+        named = {place[crate] for stands_on in layer.crates.values() for crate in stands_on if crate in place}
+        if any(layer > at for layer in named):
             raise ValueError(f"crates.txt: the layer '{layer.name}' stands on a layer above it")
         found.append(sorted(named - {at}))
     return found
@@ -77,7 +77,7 @@ def band(y: float, number: int, layer: Layer, below: list[int]) -> tuple[float, 
     high = max(len(rows) * ROW + 2 * PAD - 6, 22 + 15 * len(knows) + PAD)
     parts = [box(14, y, WIDE - 28, high, fill=LIGHT, stroke="#CCCCCC")]
     parts.append(text(26, y + 20, f"{number}  {layer.name}", bold=True))
-    parts += [text(26, y + 37 + 15 * at, it, size=11, colour=GREY) for at, it in enumerate(knows) if it]
+    parts += [text(26, y + 37 + 15 * at, line, size=11, colour=GREY) for at, line in enumerate(knows) if line]
     for at, row in enumerate(rows):
         for x, wide, name in row:
             parts.append(box(x, y + PAD + ROW * at, wide, ROW - 6, stroke=UP))

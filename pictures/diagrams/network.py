@@ -121,30 +121,30 @@ def told() -> Story:
 
 def journal() -> list[str]:
     """The moves of the market that the run stands for."""
-    return [it for _, moves in told().moves for it in moves]
+    return [move for _, moves in told().moves for move in moves]
 
 
-def drawn_message(it: Message) -> Iterator[str]:
+def drawn_message(message: Message) -> Iterator[str]:
     """A message as an arrow from line to line; a lost one ends half-way, a dropped one at the receiver with a cross."""
-    colour = UP if it.words.startswith("bid") else DOWN
-    x1, x2 = LINES[it.sender], LINES[it.receiver]
-    y1 = FIRST + ROW * it.sent
+    colour = UP if message.words.startswith("bid") else DOWN
+    x1, x2 = LINES[message.sender], LINES[message.receiver]
+    y1 = FIRST + ROW * message.sent
     side = 1 if x2 > x1 else -1
-    if it.comes is None:
+    if message.comes is None:
         middle = (x1 + x2) / 2
         yield arrow(x1, y1, middle, y1 + 12, colour=colour, dashed=True)
         yield cross(middle + 10, y1 + 13, colour=colour)
         yield text(middle + 22, y1 + 17, "lost", size=11, colour=colour)
-        yield text(x1 + 14, y1 - 4, it.words, size=11, colour=colour, bold=True)
+        yield text(x1 + 14, y1 - 4, message.words, size=11, colour=colour, bold=True)
         return
-    y2 = FIRST + ROW * it.comes
-    dropped = it.fate == "dropped"
+    y2 = FIRST + ROW * message.comes
+    dropped = message.fate == "dropped"
     yield arrow(x1, y1, x2 - side * (12 if dropped else 2), y2, colour=colour, dashed=dropped)
     if dropped:
         yield cross(x2 - side * 6, y2, colour=colour)
         anchor = "end" if side > 0 else "start"
         yield text(x2 - side * 16, y2 + 15, "dropped: it is no newer", size=11, colour=colour, anchor=anchor)
-    yield text(x1 + side * 14, y1 - 4, it.words, size=11, colour=colour, bold=True, anchor="start" if side > 0 else "end")
+    yield text(x1 + side * 14, y1 - 4, message.words, size=11, colour=colour, bold=True, anchor="start" if side > 0 else "end")
 
 
 def machines(bottom: float) -> Iterator[str]:

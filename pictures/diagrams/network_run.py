@@ -92,7 +92,7 @@ class Network:
         require(was_sent, "a price that was never sent")
         if price.index <= self.relay_index:
             return None, []
-        moves = [f"pass c {it}" for it in range(self.passed + 1, price.index + 1)]
+        moves = [f"pass c {number}" for number in range(self.passed + 1, price.index + 1)]
         self.relay_index, self.answered, self.passed = price.index, price.number, max(self.passed, price.index)
         require(price.number in self.records, "the record is gone")
         return Price(price.index, self.records[price.number]), moves

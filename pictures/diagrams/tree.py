@@ -22,11 +22,11 @@ def bids_at(file: dict[str, Any], phase: int) -> dict[str, list[int]]:
     """The demands of each device's bid at the end of a phase, by the states that the events before gave it. No device here
     changes its state by a tick except the battery, which neither takes nor delivers before."""
     prices, states = prices_of(file), {}
-    nodes = {it["name"]: it for it in file["nodes"] if it["kind"] != "concentrator"}
+    nodes = {node["name"]: node for node in file["nodes"] if node["kind"] != "concentrator"}
     for name, node in nodes.items():
         states[name] = state_of(node, prices)
-    for it in file["phases"][:phase]:
-        for event in it.get("events", []):
+    for phase_now in file["phases"][:phase]:
+        for event in phase_now.get("events", []):
             if "state" in event:
                 states[event["state"]] = state_of(event, prices)
     return {name: bid_of(node, states[name], len(prices)) for name, node in nodes.items()}
@@ -35,10 +35,10 @@ def bids_at(file: dict[str, Any], phase: int) -> dict[str, list[int]]:
 def cells(middle: float, y: float, numbers: list[int], step: int, *, colour: str = "#000000") -> Iterator[str]:
     """A number for each price, with the one at a step marked."""
     left = middle - CELL * len(numbers) / 2
-    for at, it in enumerate(numbers):
+    for at, number in enumerate(numbers):
         if at == step:
             yield box(left + CELL * at + 1, y - 12, CELL - 2, 16, fill="#FFFFFF", stroke=DOWN)
-        word = str(it).replace("-", "\u2212")
+        word = str(number).replace("-", "\u2212")
         yield text(left + CELL * (at + 0.5), y, word, anchor="middle", size=11, bold=at == step, colour=colour)
 
 
@@ -77,9 +77,9 @@ def drawn() -> Iterator[str]:
     moves = until_close(moves_of((HERE / "street.trace").read_text()), PHASE)
     end, prices, bids = ends_of(file)[PHASE - 1], prices_of(file), bids_at(file, PHASE)
     step, total = end.parts[None].step, end.parts[None].sums
-    parent = {it["name"]: it["parent"] for it in file["nodes"]}
-    bids["street"] = [sum(it) for it in zip(*(bids[name] for name in bids if parent[name] == "street"))]
-    if [sum(it) for it in zip(bids["street"], bids["supplier"])] != total:
+    parent = {node["name"]: node["parent"] for node in file["nodes"]}
+    bids["street"] = [sum(demands) for demands in zip(*(bids[name] for name in bids if parent[name] == "street"))]
+    if [sum(demands) for demands in zip(bids["street"], bids["supplier"])] != total:
         raise ValueError("the bids of street.json do not add up to the total of its report")
     clearing = last_of(moves, "clear")[1]
     number = {name: last_of(moves, "pass", name, clearing)[6] for name in bids if name != "street"}

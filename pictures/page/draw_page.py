@@ -74,7 +74,7 @@ async def take(port: int) -> None:
     """Lets the browser of this port take the pictures."""
     for _ in range(600):
         try:
-            found = [it for it in json.loads(get(port, "/json")[2]) if it["type"] == "page"]
+            found = [load for load in json.loads(get(port, "/json")[2]) if load["type"] == "page"]
             break
         except OSError:
             await asyncio.sleep(0.1)

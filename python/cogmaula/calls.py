@@ -82,7 +82,7 @@ def ask(source: Source, targets: Iterable[int], *, program: Program | None = Non
 
     Refused has the code 25 and the line of the target if one is too large or there are too many.
     """
-    rest = "".join(f"{whole('a target', it)}\n" for it in targets).encode()
+    rest = "".join(f"{whole('a target', target)}\n" for target in targets).encode()
     return answers_of(chosen(program).answer("ask", envelope(bytes_of(source), rest)))
 
 

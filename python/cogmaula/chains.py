@@ -30,14 +30,14 @@ class Members:
     def __init__(self, cluster: Cluster) -> None:
         self.now: set[str] = set()
         self.changes: Counter[str] = Counter()
-        self._ticking = [it.name for it in cluster.devices if it.ticks]
+        self._ticking = [device.name for device in cluster.devices if device.ticks]
 
     def changed_by(self, phase: Phase) -> list[str]:
         """The device of each change of a phase, in order. The members are then those after it."""
         if isinstance(phase, Tick):
-            found = [it for it in self._ticking if it in self.now]
+            found = [device for device in self._ticking if device in self.now]
         else:
-            found = [it.device for it in phase.events]
+            found = [event.device for event in phase.events]
             for event in phase.events:
                 if isinstance(event, Join):
                     self.now.add(event.device)
@@ -146,7 +146,7 @@ def whole_of(cluster: Cluster, runs: Iterable[Run], ask: Callable[[Run], Callabl
     if first is None:
         raise ValueError("a chain has at least one part")
     report = Report(tuple(ends), members.changes.total())
-    return Run(cluster, report, first.start, first.program, bill=lambda: sum_of([it() for it in bills]))
+    return Run(cluster, report, first.start, first.program, bill=lambda: sum_of([make_bill() for make_bill in bills]))
 
 
 def later_bill(done: Run) -> Callable[[], Bill]:
@@ -163,10 +163,10 @@ def sum_of(bills: Sequence[Bill]) -> Bill:
 
     def added(accounts: Iterable[Account]) -> Account:
         them = list(accounts)
-        return Account(sum(it.amount for it in them), sum(it.taken for it in them), sum(it.given for it in them))
+        return Account(sum(account.amount for account in them), sum(account.taken for account in them), sum(account.given for account in them))
 
-    devices = {name: added(it.devices[name] for it in bills) for name in bills[0].devices}
-    return Bill(devices, added(it.grid for it in bills), sum(it.ticks for it in bills), sum(it.minutes for it in bills))
+    devices = {name: added(bill.devices[name] for bill in bills) for name in bills[0].devices}
+    return Bill(devices, added(bill.grid for bill in bills), sum(bill.ticks for bill in bills), sum(bill.minutes for bill in bills))
 
 
 def chain(

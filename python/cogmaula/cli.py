@@ -46,8 +46,8 @@ class Command(Protocol):
 
 def command_names() -> dict[str, str]:
     """The module of each command, by the command's name."""
-    modules = sorted(it.name for it in pkgutil.iter_modules(commands.__path__))
-    return {it.rstrip("_").replace("_", "-"): it for it in modules if not it.startswith("_")}
+    modules = sorted(module.name for module in pkgutil.iter_modules(commands.__path__))
+    return {module.rstrip("_").replace("_", "-"): module for module in modules if not module.startswith("_")}
 
 
 def command_of(module: str) -> Command:

@@ -83,7 +83,7 @@ class Cluster:
 
     def to_json(self) -> str:
         """The text of the cluster file, with a node or a phase in each line."""
-        nodes, phases = (",\n".join(json.dumps(it.members()) for it in them) for them in (self.nodes, self.phases))
+        nodes, phases = (",\n".join(json.dumps(part.members()) for part in them) for them in (self.nodes, self.phases))
         basis = {"min": self.basis.min, "max": self.basis.max, "steps": self.basis.steps}
         return (
             f'{{\n"version": {json.dumps(self.version)},\n"basis": {json.dumps(basis)},\n'
@@ -114,32 +114,32 @@ class Cluster:
 
     def join_all(self) -> Events:
         """A phase in which all devices join, in the order of the file."""
-        return Events(Join(it.name) for it in self.devices)
+        return Events(Join(device.name) for device in self.devices)
 
     # Looking.
 
     @property
     def devices(self) -> list[Node]:
         """The leaves of the tree, in the order of the file."""
-        return [it for it in self.nodes if it.is_device]
+        return [node for node in self.nodes if node.is_device]
 
     def node(self, name: str) -> Node:
         """The node with this name. Raises KeyError if there is none."""
-        for it in self.nodes:
-            if it.name == name:
-                return it
+        for node in self.nodes:
+            if node.name == name:
+                return node
         raise KeyError(name)
 
     @property
     def minutes(self) -> int:
         """The minutes of all ticks."""
-        return sum(it.minutes for it in self.phases if isinstance(it, Tick))
+        return sum(phase.minutes for phase in self.phases if isinstance(phase, Tick))
 
     def groups(self) -> dict[str, str | None]:
         """For each node the limited concentrator that it is or stands below, or None."""
         found: dict[str, str | None] = {AUCTIONEER: None}
-        for it in self.nodes:
-            found[it.name] = it.name if it.kind == "limited" else found.get(it.above)
+        for node in self.nodes:
+            found[node.name] = node.name if node.kind == "limited" else found.get(node.above)
         del found[AUCTIONEER]
         return found
 

@@ -35,8 +35,8 @@ def started(node: Node, state: DeviceState) -> Node:
 
 def resumed(cluster: Cluster, now: Snapshot, phases: Iterable[Phase] = ()) -> Cluster:
     """The cluster from a moment on: its devices start with their states, and the first phase joins the members."""
-    nodes = [started(it, now.states[it.name]) if it.is_device else it for it in cluster.nodes]
-    joins = Events(Join(it.name) for it in cluster.devices if it.name in now.members)
+    nodes = [started(node, now.states[node.name]) if node.is_device else node for node in cluster.nodes]
+    joins = Events(Join(device.name) for device in cluster.devices if device.name in now.members)
     return Cluster(cluster.basis, nodes, [joins, *phases], cluster.version)
 
 
@@ -58,7 +58,7 @@ def script_for(cluster: Cluster, following: Cluster) -> tuple[Phase, ...]:
     """
     if following.basis != cluster.basis:
         raise NoContinuation("the file of the next day has other prices")
-    same = [_without_start(it) for it in cluster.nodes] == [_without_start(it) for it in following.nodes]
+    same = [_without_start(node) for node in cluster.nodes] == [_without_start(node) for node in following.nodes]
     if not same:
         raise NoContinuation("the file of the next day has other nodes: it needs those of the first, and may differ in their starts")
     return following.phases
@@ -66,4 +66,4 @@ def script_for(cluster: Cluster, following: Cluster) -> tuple[Phase, ...]:
 
 def _without_start(node: Node) -> dict[str, object]:
     """The members of a node that stay as they are from day to day."""
-    return {name: it for name, it in node.members().items() if name not in ("start", "demand", "points")}
+    return {name: value for name, value in node.members().items() if name not in ("start", "demand", "points")}

@@ -79,7 +79,7 @@ class Refused(MarketError):
 
     def __init__(self, code: int, place: Place, item: int | None = None) -> None:
         self.answer = f"refused {code} {place}" + ("" if item is None else f" item {item}")
-        super().__init__(": ".join([self.answer, *("; ".join(it) for it in [WORDS.get(code)] if it)]))
+        super().__init__(": ".join([self.answer, *("; ".join(words) for words in [WORDS.get(code)] if words)]))
         self.code = code
         self.place = place
         self.item = item

@@ -45,16 +45,16 @@ def index_of(times: Sequence[datetime], ends: Sequence[PhaseEnd]) -> Any:
     """The index of `time` and `phase`, a row for each phase."""
     pd = pandas()
     stamps = pd.DatetimeIndex(times, name="time")
-    return pd.MultiIndex.from_arrays([stamps, [it.phase for it in ends]], names=["time", "phase"])
+    return pd.MultiIndex.from_arrays([stamps, [end.phase for end in ends]], names=["time", "phase"])
 
 
 def prices(index: Any, ends: Sequence[PhaseEnd], durations: Sequence[int]) -> Any:
     """A row for each phase: price, step, total_W, members, minutes. All are int64."""
     columns = {
-        "price": [it.price for it in ends],
-        "step": [it.step for it in ends],
-        "total_W": [it.total for it in ends],
-        "members": [len(it.powers) for it in ends],
+        "price": [end.price for end in ends],
+        "step": [end.step for end in ends],
+        "total_W": [end.total for end in ends],
+        "members": [len(end.powers) for end in ends],
         "minutes": list(durations),
     }
     return pandas().DataFrame(columns, index=index, dtype="int64")
@@ -72,15 +72,15 @@ def wide(index: Any, names: Iterable[str], rows: Sequence[dict[str, int]]) -> An
 def states(index: Any, cluster: Cluster, ends: Sequence[PhaseEnd]) -> Any:
     """The state of each device but the manual ones at the end of each phase, wide."""
     numbers = [
-        {name: it for name, it in now.states.items() if isinstance(it, int)} for now in snapshots(cluster, ends)
+        {name: state for name, state in now.states.items() if isinstance(state, int)} for now in snapshots(cluster, ends)
     ]
-    return wide(index, [it.name for it in cluster.devices if it.kind != "manual"], numbers)
+    return wide(index, [device.name for device in cluster.devices if device.kind != "manual"], numbers)
 
 
 def limited_groups(times: Sequence[datetime], cluster: Cluster, ends: Sequence[PhaseEnd], durations: Sequence[int]) -> Any:
     """A row for each phase and limited concentrator: the price below it, the sum there, its limits and what is past them."""
     pd = pandas()
-    limits = {it.name: (it.floor, it.ceiling) for it in cluster.nodes if isinstance(it, Limited)}
+    limits = {node.name: (node.floor, node.ceiling) for node in cluster.nodes if isinstance(node, Limited)}
     rows, keys = [], []
     for time, end, minutes in zip(times, ends, durations, strict=True):
         for group in end.groups:
@@ -90,7 +90,7 @@ def limited_groups(times: Sequence[datetime], cluster: Cluster, ends: Sequence[P
             keys.append((time, end.phase, group.name))
     names = ["price", "step", "total_W", "floor_W", "ceiling_W", "excess_W", "minutes"]
     index = pd.MultiIndex.from_arrays(
-        [pd.DatetimeIndex([it[0] for it in keys]), [it[1] for it in keys], [it[2] for it in keys]],
+        [pd.DatetimeIndex([key[0] for key in keys]), [key[1] for key in keys], [key[2] for key in keys]],
         names=["time", "phase", "group"],
     )
     return pd.DataFrame(rows, index=index, columns=names, dtype="int64")
@@ -103,12 +103,12 @@ def accounts(bill: Bill) -> Any:
     bits. The others are int64.
     """
     pd = pandas()
-    parties = [("device", name, it) for name, it in bill.devices.items()] + [("grid", "", bill.grid)]
-    index = pd.MultiIndex.from_arrays([[it[0] for it in parties], [it[1] for it in parties]], names=["party", "name"])
+    parties = [("device", name, account) for name, account in bill.devices.items()] + [("grid", "", bill.grid)]
+    index = pd.MultiIndex.from_arrays([[party[0] for party in parties], [party[1] for party in parties]], names=["party", "name"])
     frame = pd.DataFrame(index=index)
-    frame["amount"] = pd.Series([it[2].amount for it in parties], index=index, dtype="object")
-    frame["taken_Wmin"] = pd.Series([it[2].taken for it in parties], index=index, dtype="int64")
-    frame["given_Wmin"] = pd.Series([it[2].given for it in parties], index=index, dtype="int64")
+    frame["amount"] = pd.Series([party[2].amount for party in parties], index=index, dtype="object")
+    frame["taken_Wmin"] = pd.Series([party[2].taken for party in parties], index=index, dtype="int64")
+    frame["given_Wmin"] = pd.Series([party[2].given for party in parties], index=index, dtype="int64")
     return frame
 
 
@@ -123,9 +123,9 @@ def money_accounts(bill: Bill, currency: Currency, number: type[float] | type[De
     exact = accounts(bill)
     made: Any = float if number is float else decimal_of
     frame = pandas().DataFrame(index=exact.index)
-    frame[f"amount_{currency.unit}"] = [made(currency.money(it)) for it in exact["amount"]]
-    frame["taken_kWh"] = [made(energy(int(it))) for it in exact["taken_Wmin"]]
-    frame["given_kWh"] = [made(energy(int(it))) for it in exact["given_Wmin"]]
+    frame[f"amount_{currency.unit}"] = [made(currency.money(amount)) for amount in exact["amount"]]
+    frame["taken_kWh"] = [made(energy(int(energy_taken))) for energy_taken in exact["taken_Wmin"]]
+    frame["given_kWh"] = [made(energy(int(energy_given))) for energy_given in exact["given_Wmin"]]
     return frame
 
 
@@ -138,7 +138,7 @@ def series(start: datetime, names: Sequence[str], powers: Any, members: Any, min
     pd = pandas()
     width = math.gcd(*minutes) if minutes else 0
     index = pd.date_range(start, periods=sum(minutes) // width if width else 0, freq=pd.Timedelta(minutes=width or 1), name="time")
-    rows = [at for at, it in enumerate(minutes) for _ in range(it // (width or 1))]
+    rows = [at for at, length in enumerate(minutes) for _ in range(length // (width or 1))]
     columns = {name: pd.arrays.IntegerArray(powers[rows, at], ~members[rows, at]) for at, name in enumerate(names)}
     frame = pd.DataFrame(columns, index=index)
     frame.columns.name = "device"
@@ -150,10 +150,10 @@ def curve(answers: Answers) -> Any:
     pd = pandas()
     return pd.DataFrame(
         {
-            "step": pd.array([it.step for it in answers.curve], dtype="int64"),
-            "price": pd.array([it.price for it in answers.curve], dtype="int64"),
-            "from_W": pd.array([it.least for it in answers.curve], dtype="Int64"),
-            "to_W": pd.array([it.most for it in answers.curve], dtype="Int64"),
+            "step": pd.array([point.step for point in answers.curve], dtype="int64"),
+            "price": pd.array([point.price for point in answers.curve], dtype="int64"),
+            "from_W": pd.array([point.least for point in answers.curve], dtype="Int64"),
+            "to_W": pd.array([point.most for point in answers.curve], dtype="Int64"),
         }
     )
 
@@ -161,9 +161,9 @@ def curve(answers: Answers) -> Any:
 def targets(answers: Answers) -> Any:
     """A row for each target in order: target_W, price, step, total_W. All are int64."""
     columns = {
-        "target_W": [it.target for it in answers.answers],
-        "price": [it.price for it in answers.answers],
-        "step": [it.step for it in answers.answers],
-        "total_W": [it.total for it in answers.answers],
+        "target_W": [answer.target for answer in answers.answers],
+        "price": [answer.price for answer in answers.answers],
+        "step": [answer.step for answer in answers.answers],
+        "total_W": [answer.total for answer in answers.answers],
     }
     return pandas().DataFrame(columns, dtype="int64")

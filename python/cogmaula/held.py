@@ -49,7 +49,7 @@ class Held:
 
     def without(self, connection: str | None) -> list[int]:
         """The columns of all devices but the connection."""
-        return [at for at, it in enumerate(self.names) if it != connection]
+        return [at for at, name in enumerate(self.names) if name != connection]
 
     def bills(self, firsts: Sequence[int], connection: str | None = None) -> list[Bill]:
         """The bills of stretches of time: each from one of these intervals, which rise from 0, up to the next of them.
@@ -64,14 +64,14 @@ class Held:
         kind = numpy.int64 if most * int(self.minutes.sum()) * max(1, len(self.names)) < MOST_EXACT else object
         energies = self.powers[:, own].astype(kind) * self.minutes.astype(kind)[:, None]
         totals = energies.sum(axis=1)
-        sums = [numpy.add.reduceat(it, firsts, axis=0) for it in (
+        sums = [numpy.add.reduceat(amounts, firsts, axis=0) for amounts in (
             energies * self.prices[:, self.column[own]].astype(kind),
             numpy.maximum(energies, 0), numpy.maximum(-energies, 0), numpy.maximum(-totals, 0), numpy.maximum(totals, 0))]
         found, names = list[Bill](), [self.names[at] for at in own]
         for at, (first, last) in enumerate(zip(firsts, lasts, strict=True)):
-            amounts, taken, given, *grid = (it[at] for it in sums)
+            amounts, taken, given, *grid = (sum_[at] for sum_ in sums)
             devices = {name: Account(int(amounts[by]), int(taken[by]), int(given[by])) for by, name in enumerate(names)}
-            paid = sum(it.amount for it in devices.values())
+            paid = sum(account.amount for account in devices.values())
             found.append(Bill(devices, Account(-paid, *map(int, grid)), last - first, int(self.minutes[first:last].sum())))
         return found
 
@@ -85,11 +85,11 @@ class Held:
 
 def held_of(cluster: Cluster, ends: Sequence[PhaseEnd]) -> Held:
     """What holds over the ticks of a run with these ends of phases."""
-    phases = [at for at, it in enumerate(cluster.phases) if isinstance(it, Tick)]
-    minutes = numpy.array([it.minutes for it in cluster.phases if isinstance(it, Tick)], dtype=numpy.int64)
-    names = tuple(it.name for it in cluster.devices)
+    phases = [at for at, phase in enumerate(cluster.phases) if isinstance(phase, Tick)]
+    minutes = numpy.array([phase.minutes for phase in cluster.phases if isinstance(phase, Tick)], dtype=numpy.int64)
+    names = tuple(device.name for device in cluster.devices)
     places = {name: at for at, name in enumerate(names)}
-    groups = [it.name for it in cluster.nodes if it.kind == "limited"]
+    groups = [node.name for node in cluster.nodes if node.kind == "limited"]
     inside = cluster.groups()
     powers = numpy.zeros((len(phases), len(names)), dtype=numpy.int64)
     members = numpy.zeros(powers.shape, dtype=bool)
@@ -97,9 +97,9 @@ def held_of(cluster: Cluster, ends: Sequence[PhaseEnd]) -> Held:
     for row, before in enumerate(phases):
         if before:
             end = ends[before - 1]
-            columns = [places[it] for it in end.powers]
+            columns = [places[name] for name in end.powers]
             powers[row, columns] = list(end.powers.values())
             members[row, columns] = True
-            prices[row] = [end.price, *(it.price for it in end.groups)]
-    column = numpy.array([1 + groups.index(group) if (group := inside[it]) is not None else 0 for it in names], dtype=numpy.int64)
+            prices[row] = [end.price, *(group.price for group in end.groups)]
+    column = numpy.array([1 + groups.index(group) if (group := inside[name]) is not None else 0 for name in names], dtype=numpy.int64)
     return Held(names, minutes, minutes.cumsum(), numpy.array(phases, dtype=numpy.int64), powers, members, prices, column)

@@ -31,7 +31,7 @@ def text(place: str, value: object) -> str:
 
 def demand(place: str, given: Iterable[object]) -> Demand:
     """A demand for each step, as a tuple. Raises TypeError."""
-    return tuple(whole(f"{place}[{at}]", it) for at, it in enumerate(given))
+    return tuple(whole(f"{place}[{at}]", value) for at, value in enumerate(given))
 
 
 def points(place: str, given: Iterable[Iterable[object]]) -> Points:
@@ -51,17 +51,17 @@ _KEEP: dict[str, Callable[[str, Any], object]] = {"int": whole, "str": text, "De
 
 def look(owner: Any) -> None:
     """Looks at each member of a frozen dataclass, and keeps it as its type. Raises TypeError with the class and the member."""
-    for it in fields(owner):
-        found, kind = getattr(owner, it.name), str(it.type)
+    for field in fields(owner):
+        found, kind = getattr(owner, field.name), str(field.type)
         if found is not None or not kind.endswith(" | None"):
             keep = _KEEP[kind.removesuffix(" | None")]
-            object.__setattr__(owner, it.name, keep(f"{type(owner).__name__}.{it.name}", found))
+            object.__setattr__(owner, field.name, keep(f"{type(owner).__name__}.{field.name}", found))
 
 
 def kept(kind: type[T], **members: Any) -> T:
     """An object of a frozen dataclass with these members as they are, of whatever type: the program looks at them."""
     made = object.__new__(kind)
-    for it in fields(kind):
-        default = None if it.default is MISSING else it.default
-        object.__setattr__(made, it.name, members.get(it.name, default))
+    for field in fields(kind):
+        default = None if field.default is MISSING else field.default
+        object.__setattr__(made, field.name, members.get(field.name, default))
     return made

@@ -39,7 +39,7 @@ class Node:
 
     def members(self) -> dict[str, Any]:
         """The members of the node in the cluster file, in the order of the page."""
-        own = {it.name: getattr(self, it.name) for it in fields(self)}
+        own = {field.name: getattr(self, field.name) for field in fields(self)}
         parent = {"parent": own.pop("parent")} if "parent" in own else {}
         own = {name: value for name, value in own.items() if value is not None or name not in BIDS}
         return {"name": own.pop("name"), "kind": self.kind, **parent, **own}
@@ -144,7 +144,7 @@ class Battery(Child):
             total, up_to = sum(weights), [0, *accumulate(weights)]
             return [whole * after // total - whole * before // total for before, after in pairwise(up_to)]
 
-        capacities, charges, discharges = (shares(it, [1] * count) for it in (self.capacity, self.charge, self.discharge))
+        capacities, charges, discharges = (shares(amount, [1] * count) for amount in (self.capacity, self.charge, self.discharge))
         starts = shares(self.start, capacities)
         digits = len(str(count - 1))
         return [
@@ -197,4 +197,4 @@ class Manual(Child):
 ALL: tuple[type[Node], ...] = (
     Concentrator, Limited, Freezer, HeatPump, Cogeneration, Battery, Solar, Load, Objective, Manual,
 )
-KINDS: dict[str, type[Node]] = {it.kind: it for it in ALL}
+KINDS: dict[str, type[Node]] = {kind.kind: kind for kind in ALL}

@@ -47,7 +47,7 @@ class State:
     def members(self) -> dict[str, Any]:
         """The members of the event in the cluster file."""
         given = {"value": self.value, "demand": self.demand, "points": self.points}
-        return {"state": self.device, **{name: it for name, it in given.items() if it is not None}}
+        return {"state": self.device, **{name: value for name, value in given.items() if value is not None}}
 
 
 Event = Join | Leave | State
@@ -64,7 +64,7 @@ class Events:
 
     def members(self) -> dict[str, Any]:
         """The members of the phase in the cluster file."""
-        return {"events": [it.members() for it in self.events]}
+        return {"events": [event.members() for event in self.events]}
 
 
 @dataclass(frozen=True)

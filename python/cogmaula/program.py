@@ -149,7 +149,7 @@ def _made(path: Path, found: str) -> Program:
 
 def _is_checkout(folder: Path) -> bool:
     """Whether a folder is a checkout of the program's sources."""
-    return all((folder / it).is_file() for it in ("market", "crates.txt", "script/program.sh"))
+    return all((folder / word).is_file() for word in ("market", "crates.txt", "script/program.sh"))
 
 
 def _named(path: Path) -> Program:
@@ -179,7 +179,7 @@ def _of_checkout(folder: Path, name: str = "market") -> Program:
             if line.startswith(f"{words}{named} is at hand, "):
                 return _made(folder / place.format(name), f"the checkout {folder}: {line}")
     start = f"no proved program{named} is at hand: "
-    why = next((it.removeprefix(start) for it in lines if it.startswith(start)), "its script market does not answer")
+    why = next((line.removeprefix(start) for line in lines if line.startswith(start)), "its script market does not answer")
     raise NoProgram(f"{folder}: {why}")
 
 

@@ -25,8 +25,8 @@ def cluster_of(text: str | bytes) -> Cluster:
     """The cluster of a text. Raises Unreadable."""
     document = _object("", _json(text), ("version", "basis", "nodes", "phases"))
     basis = _object("basis", document["basis"], ("min", "max", "steps"))
-    nodes = [node_of(f"nodes[{at}]", it) for at, it in enumerate(_list("nodes", document["nodes"]))]
-    phases = [_phase(f"phases[{at}]", it) for at, it in enumerate(_list("phases", document["phases"]))]
+    nodes = [node_of(f"nodes[{at}]", value) for at, value in enumerate(_list("nodes", document["nodes"]))]
+    phases = [_phase(f"phases[{at}]", value) for at, value in enumerate(_list("phases", document["phases"]))]
     return Cluster(kept(Basis, **basis), nodes, phases, document["version"])
 
 
@@ -77,7 +77,7 @@ def _bid(path: str, value: dict[str, Any]) -> dict[str, Any]:
 
 
 def _are_pairs(value: Any) -> bool:
-    return isinstance(value, list) and all(isinstance(it, list) and len(it) == 2 for it in value)
+    return isinstance(value, list) and all(isinstance(pair, list) and len(pair) == 2 for pair in value)
 
 
 def node_of(path: str, value: Any) -> Node:
@@ -86,10 +86,10 @@ def node_of(path: str, value: Any) -> Node:
     kind = value.get("kind")
     if not isinstance(kind, str) or kind not in KINDS:
         raise Unreadable(path, f"no kind of node is {kind!r}" if "kind" in value else "the member kind is missing")
-    named = [it for it in fields(KINDS[kind]) if it.default is MISSING or it.name == "parent"]
-    members = ["name", "kind", *(it.name for it in named if it.name != "name")]
+    named = [field for field in fields(KINDS[kind]) if field.default is MISSING or field.name == "parent"]
+    members = ["name", "kind", *(field.name for field in named if field.name != "name")]
     if kind == "manual":
-        members.append(next((it for it in ("demand", "points") if it in value), "demand"))
+        members.append(next((word for word in ("demand", "points") if word in value), "demand"))
     own = dict(_bid(path, _object(path, value, tuple(members))))
     del own["kind"]
     return kept(KINDS[kind], **own)
@@ -102,7 +102,7 @@ def _event(path: str, value: Any) -> Event:
     for word, maker in makers.items():
         if word in value:
             return maker(_object(path, value, (word,))[word])
-    form = next((it for it in FORMS if it in value), "value")
+    form = next((form for form in FORMS if form in value), "value")
     own = _bid(path, _object(path, value, ("state", form)))
     if own[form] is None:
         raise Unreadable(path, f"{form} is null")
@@ -114,5 +114,5 @@ def _phase(path: str, value: Any) -> Phase:
         raise Unreadable(path, "an object is due")
     if "events" in value:
         events = _list(f"{path}.events", _object(path, value, ("events",))["events"])
-        return Events(_event(f"{path}.events[{at}]", it) for at, it in enumerate(events))
+        return Events(_event(f"{path}.events[{at}]", value) for at, value in enumerate(events))
     return kept(Tick, minutes=_object(path, value, ("tick",))["tick"])

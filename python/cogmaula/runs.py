@@ -90,7 +90,7 @@ class Run:
 
         The powers and prices of a phase's end hold over the tick behind it. The bill goes by the same.
         """
-        following = [it.minutes if isinstance(it, Tick) else 0 for it in self.cluster.phases[1:]]
+        following = [phase.minutes if isinstance(phase, Tick) else 0 for phase in self.cluster.phases[1:]]
         return [*following, 0][: len(self.ends)]
 
     # Data frames.
@@ -136,12 +136,12 @@ class Run:
         Phases that last no time have rows too. Drop them before you add up or take means: `powers[prices["minutes"] > 0]`, or take
         `series`, which has none.
         """
-        return frames.wide(self._index, [it.name for it in self.cluster.devices], [it.powers for it in self.ends])
+        return frames.wide(self._index, [device.name for device in self.cluster.devices], [end.powers for end in self.ends])
 
     @cached_property
     def bids(self) -> Any:
         """The number of each device's bid, which is that of its last change: shaped as `powers`."""
-        return frames.wide(self._index, [it.name for it in self.cluster.devices], [it.bids for it in self.ends])
+        return frames.wide(self._index, [device.name for device in self.cluster.devices], [end.bids for end in self.ends])
 
     @cached_property
     def states(self) -> Any:
@@ -299,7 +299,7 @@ class Run:
                 "step": end.step,
                 "total_W": end.total,
                 "members": {name: {"power_W": power, "bid": end.bids[name]} for name, power in end.powers.items()},
-                "limited": {it.name: {"price": it.price, "step": it.step, "total_W": it.total} for it in end.groups},
+                "limited": {group.name: {"price": group.price, "step": group.step, "total_W": group.total} for group in end.groups},
             }
 
     def to_json_lines(self, path: str | os.PathLike[str]) -> None:

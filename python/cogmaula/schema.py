@@ -19,7 +19,7 @@ def schema() -> dict[str, Any]:
 def forms() -> dict[str, dict[str, Any]]:
     """The form of each object, by its name in the schema, such as battery, basis, join and manual_by_demand."""
     parts: dict[str, dict[str, Any]] = schema()["$defs"]
-    return {"document": schema(), **{name: it for name, it in parts.items() if "properties" in it}}
+    return {"document": schema(), **{name: part for name, part in parts.items() if "properties" in part}}
 
 
 def members_of(form: str) -> list[str]:

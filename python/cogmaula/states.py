@@ -47,7 +47,7 @@ def start_of(node: Node) -> DeviceState:
 
 def first_snapshot(cluster: Cluster) -> Snapshot:
     """All devices before the first phase: nobody is a member."""
-    return Snapshot({it.name: start_of(it) for it in cluster.devices}, frozenset())
+    return Snapshot({device.name: start_of(device) for device in cluster.devices}, frozenset())
 
 
 def after_tick(node: Node, state: int, power: int, minutes: int) -> int:
@@ -99,7 +99,7 @@ def next_snapshot(ticking: Mapping[str, Node], now: Snapshot, phase: Phase, powe
 
 def snapshots(cluster: Cluster, ends: Iterable[PhaseEnd]) -> Iterator[Snapshot]:
     """All devices at the end of each phase of a run of the cluster."""
-    ticking = {it.name: it for it in cluster.devices if it.ticks}
+    ticking = {device.name: device for device in cluster.devices if device.ticks}
     now, powers = first_snapshot(cluster), dict[str, int]()
     for phase, end in zip(cluster.phases, ends, strict=True):
         now = next_snapshot(ticking, now, phase, powers)

@@ -78,13 +78,13 @@ def summary(file: bytes, program: Program) -> Summary:
     cluster = Cluster.from_json(file)
     done = whole_run(cluster, program=program)
     paid = done.bill
-    prices = [it.price for it in done.ends]
-    limits = {it.name: (getattr(it, "floor"), getattr(it, "ceiling")) for it in cluster.nodes if it.kind == "limited"}
+    prices = [end.price for end in done.ends]
+    limits = {node.name: (getattr(node, "floor"), getattr(node, "ceiling")) for node in cluster.nodes if node.kind == "limited"}
     outside = [
         minutes
         for end, minutes in zip(done.ends, done.durations, strict=True)
-        for it in end.groups
-        if not limits[it.name][0] <= it.total <= limits[it.name][1]
+        for group in end.groups
+        if not limits[group.name][0] <= group.total <= limits[group.name][1]
     ]
     devices = paid.devices.values()
     return Summary(
@@ -93,10 +93,10 @@ def summary(file: bytes, program: Program) -> Summary:
         minutes=paid.minutes,
         lowest_price=min(prices, default=0),
         highest_price=max(prices, default=0),
-        price_minutes=sum(price * it for price, it in zip(prices, done.durations, strict=True)),
-        taken_Wmin=sum(it.taken for it in devices),
-        given_Wmin=sum(it.given for it in devices),
-        amount=sum(it.amount for it in devices),
+        price_minutes=sum(price * length for price, length in zip(prices, done.durations, strict=True)),
+        taken_Wmin=sum(account.taken for account in devices),
+        given_Wmin=sum(account.given for account in devices),
+        amount=sum(account.amount for account in devices),
         grid_taken_Wmin=paid.grid.taken,
         grid_given_Wmin=paid.grid.given,
         ends_outside=len(outside),
@@ -186,9 +186,9 @@ def outcomes_of(
 
     Results do not depend on the number of processes or machines.
     """
-    named = sources.items() if isinstance(sources, Mapping) else ((None, it) for it in sources)
+    named = sources.items() if isinstance(sources, Mapping) else ((None, source) for source in sources)
     is_far = client is not None
-    jobs = [_job_of(name or str(at), it, work, program, on_error, is_far, name) for at, (name, it) in enumerate(named, 1)]
+    jobs = [_job_of(name or str(at), source, work, program, on_error, is_far, name) for at, (name, source) in enumerate(named, 1)]
     outcomes = _by_client(client, jobs) if is_far else _by_processes(processes or count(), jobs)
     yield from tracked(outcomes, "study", len(jobs), quiet)
 
@@ -246,16 +246,16 @@ def frame_of(outcomes: Iterable[Outcome[Any]]) -> Any:
     """
     rows = [
         {
-            "name": it.name,
-            "sha256": it.digest,
-            "fault": it.fault,
-            **(_members(it.result) if is_dataclass(it.result) else {} if it.result is None else {"result": it.result}),
+            "name": outcome.name,
+            "sha256": outcome.digest,
+            "fault": outcome.fault,
+            **(_members(outcome.result) if is_dataclass(outcome.result) else {} if outcome.result is None else {"result": outcome.result}),
         }
-        for it in outcomes
+        for outcome in outcomes
     ]
     return frames.pandas().DataFrame(rows, columns=None if rows else ["name", "sha256", "fault"]).set_index("name")
 
 
 def _members(result: Any) -> dict[str, Any]:
     """The members of a result, by their names."""
-    return {it.name: getattr(result, it.name) for it in fields(result)}
+    return {field.name: getattr(result, field.name) for field in fields(result)}

@@ -12,7 +12,7 @@ from pathlib import Path
 from .errors import Unreadable
 from .study import Outcome, Summary
 
-NAMES = [it.name for it in fields(Summary)]
+NAMES = [field.name for field in fields(Summary)]
 HEAD = ["name", "sha256", "fault", *NAMES]
 
 
@@ -38,10 +38,10 @@ def written(outcomes: Iterable[Outcome[Summary]], path: str | os.PathLike[str]) 
     """The outcomes, each as soon as its row is in the file at `path`, which is made anew. Raises OSError."""
     with open(path, "w", encoding="utf-8", newline="") as text:
         text.write(line_of(HEAD))
-        for it in outcomes:
-            text.write(line_of(row_of(it)))
+        for outcome in outcomes:
+            text.write(line_of(row_of(outcome)))
             text.flush()
-            yield it
+            yield outcome
 
 
 def read_table(path: str | os.PathLike[str]) -> list[Outcome[Summary]]:
@@ -57,7 +57,7 @@ def read_table(path: str | os.PathLike[str]) -> list[Outcome[Summary]]:
     found = []
     for at, row in enumerate(rows, 2):
         try:
-            numbers = [int(it) for it in row[3:]] if row[3:] != [""] * len(NAMES) else None
+            numbers = [int(text) for text in row[3:]] if row[3:] != [""] * len(NAMES) else None
             found.append(Outcome(row[0], row[1], None if numbers is None else Summary(*numbers), row[2]))
         except (ValueError, TypeError, IndexError):
             raise Unreadable(os.fspath(path), f"line {at} is no row of a study") from None
@@ -68,4 +68,4 @@ def known_of(path: str | os.PathLike[str]) -> dict[str, Summary]:
     """The summaries of a table by the SHA-256 of their files; none if there is no such table. Raises Unreadable and OSError."""
     if not Path(path).exists():
         return {}
-    return {it.digest: it.result for it in read_table(path) if it.result is not None}
+    return {outcome.digest: outcome.result for outcome in read_table(path) if outcome.result is not None}

@@ -62,7 +62,7 @@ class Tariff:
         pd = pandas()
         frame = pd.DataFrame({"buy": self._over(self.buy, index), "sell": self._over(self.sell, index)}, index=index)
         for hours in reversed(self.hours):
-            inside = [hours.holds(it) for it in index]
+            inside = [hours.holds(time) for time in index]
             for name, price in (("buy", hours.buy), ("sell", hours.sell)):
                 if price is not None:
                     frame.loc[inside, name] = price

@@ -98,7 +98,7 @@ class Bill:
         return money_accounts(self, currency_of(currency, per_kwh), number)
 
     def __repr__(self) -> str:
-        paid = sum(it.amount for it in self.devices.values())
+        paid = sum(account.amount for account in self.devices.values())
         return f"Bill({len(self.devices)} devices, {self.ticks} ticks, {self.minutes} minutes, devices pay {paid} price units\u00b7W\u00b7min)"
 
     def _repr_html_(self) -> str:
@@ -158,7 +158,7 @@ class Move:
 
 def lines_of(text: bytes) -> list[list[str]]:
     """The words of each line of a text."""
-    return [it.split(" ") for it in text.decode("ascii").splitlines()]
+    return [line.split(" ") for line in text.decode("ascii").splitlines()]
 
 
 def misread(words: list[str]) -> ProgramFault:
@@ -169,7 +169,7 @@ def misread(words: list[str]) -> ProgramFault:
 def report_of(text: bytes) -> Report:
     """The report that a text of `run` or `free` is. Raises ProgramFault if it has another form."""
     # A line at a time: the words of a year's report at once would take ten times its memory.
-    return _report(it.decode("ascii").split(" ") for it in text.splitlines())
+    return _report(line.decode("ascii").split(" ") for line in text.splitlines())
 
 
 def _report(lines: Iterable[list[str]]) -> Report:
@@ -201,9 +201,9 @@ def report_text(report: Report) -> bytes:
     for end in report.ends:
         lines.append(f"phase {end.phase} price {end.price} step {end.step} total {end.total} members {len(end.powers)}")
         lines.extend(f"member {name} power {power} bid {end.bids[name]}" for name, power in end.powers.items())
-        lines.extend(f"limited {it.name} price {it.price} step {it.step} total {it.total}" for it in end.groups)
+        lines.extend(f"limited {group.name} price {group.price} step {group.step} total {group.total}" for group in end.groups)
     lines.append(f"end phases {len(report.ends)} changes {report.changes}")
-    return "".join(f"{it}\n" for it in lines).encode()
+    return "".join(f"{line}\n" for line in lines).encode()
 
 
 def bill_of(text: bytes) -> Bill:

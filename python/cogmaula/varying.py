@@ -20,12 +20,12 @@ def vary(cluster: Cluster, /, **members: Iterable[Any]) -> dict[str, Cluster]:
     A variant is called after its members: `capacity=5000 charge=2500`. Raises ValueError if no node has such a member.
     """
     for word in members:
-        if not any(has(it, word) for it in cluster.nodes):
+        if not any(has(node, word) for node in cluster.nodes):
             raise ValueError(f"no node has a member {word}: the members are those of docs/CLUSTER_FILE.md, such as capacity or store.capacity")
     found = {}
     for values in itertools.product(*members.values()):
         chosen = dict(zip(members, values, strict=True))
-        nodes = [changed(it, chosen) for it in cluster.nodes]
+        nodes = [changed(node, chosen) for node in cluster.nodes]
         found[" ".join(f"{word}={value}" for word, value in chosen.items())] = replace(cluster, nodes=tuple(nodes))
     return found
 
@@ -33,7 +33,7 @@ def vary(cluster: Cluster, /, **members: Iterable[Any]) -> dict[str, Cluster]:
 def has(node: Node, word: str) -> bool:
     """Whether a word names a member of the node."""
     name, _, member = word.rpartition(".")
-    return name in ("", node.name) and member != "name" and member in {it.name for it in fields(node)}
+    return name in ("", node.name) and member != "name" and member in {field.name for field in fields(node)}
 
 
 def changed(node: Node, chosen: dict[str, Any]) -> Node:

@@ -80,7 +80,7 @@ def devices(draw, name, parents, basis):
         high=low + draw(st.integers(1, 400)),
         power=draw(POWERS),
         start=draw(st.one_of(WARMTHS, st.sampled_from([-1_000_000, 1_000_000]))),
-        **{it: draw(RATES) for it in rates},
+        **{name: draw(RATES) for name in rates},
     )
 
 
@@ -117,11 +117,11 @@ def state_of(draw, node, basis):
 def scripts(draw, nodes, basis, members, most=6):
     """Phases that the program takes, from these members on. Brings the members up to date."""
     found = []
-    all_devices = [it for it in nodes if it.is_device]
+    all_devices = [node for node in nodes if node.is_device]
     # Most scripts begin with all devices, so that much is going on.
     if not members and draw(st.integers(0, 3)):
-        found.append(Events([Join(it.name) for it in all_devices]))
-        members.update(it.name for it in all_devices)
+        found.append(Events([Join(device.name) for device in all_devices]))
+        members.update(device.name for device in all_devices)
     for _ in range(draw(st.integers(0, most))):
         if draw(st.booleans()):
             found.append(Tick(draw(st.integers(1, 200))))

@@ -19,7 +19,7 @@ NAMED = os.environ.get("COGMAULA_MARKET") or str(TOP)
 
 # The package of this checkout, and the plain auction by which texts are worked out without the program.
 FOLDERS = ("python", "", "python/tests")
-sys.path[:0] = [str(TOP / it) for it in FOLDERS]
+sys.path[:0] = [str(TOP / folder) for folder in FOLDERS]
 
 # Nothing is aimed at, which would take half of the time, and nothing is kept beside the tests. The same cases are drawn each time, so
 # that a gate says the same of one tree twice. With COGMAULA_SEARCH set, new ones are drawn.

@@ -45,19 +45,19 @@ def market(bare: Sequence[int], slices: int) -> list[Hour]:
 
 def tariff(net: Sequence[float]) -> float:
     """What these watts of each hour cost in EUR."""
-    return sum(it * (BUY if it > 0 else SELL) for it in net) / 1_000_000
+    return sum(power * (BUY if power > 0 else SELL) for power in net) / 1_000_000
 
 
 def plain(bare: Sequence[int]) -> list[float]:
     """The watts of each hour if the battery charges by what is left over, and discharges by what is lacking."""
     charge, found = 0.0, []
-    for it in bare:
-        if it < 0:
-            flow = min(-it, POWER, CAPACITY - charge)
+    for net in bare:
+        if net < 0:
+            flow = min(-net, POWER, CAPACITY - charge)
         else:
-            flow = -min(it, POWER, charge)
+            flow = -min(net, POWER, charge)
         charge += flow
-        found.append(it + flow)
+        found.append(net + flow)
     return found
 
 
@@ -65,8 +65,8 @@ def costs(bare: Sequence[int], slices: int) -> dict[str, float]:
     """The four costs in EUR."""
     hours = market(bare, slices)
     return {
-        "market": sum(it.net * it.price for it in hours) / 1_000_000,
-        "tariff": tariff([it.net for it in hours]),
+        "market": sum(hour.net * hour.price for hour in hours) / 1_000_000,
+        "tariff": tariff([hour.net for hour in hours]),
         "no battery": tariff(bare),
         "plain rule": tariff(plain(bare)),
     }

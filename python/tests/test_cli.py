@@ -37,7 +37,7 @@ def test_the_commands_are_listed(capsys):
         main(["--help"])
     text = capsys.readouterr().out
     assert {"run", "explain", "continue", "chain"} <= command_names().keys()
-    assert all(it in text for it in command_names())
+    assert all(name in text for name in command_names())
 
 
 def test_no_command(capsys):
@@ -71,8 +71,8 @@ def test_run_writes_tables(tmp_path):
 
 def test_run_writes_json_lines(tmp_path):
     assert main(["run", VILLAGE, "-o", str(tmp_path / "run.jsonl"), "--format", "json-lines"]) == 0
-    rows = [json.loads(it) for it in (tmp_path / "run.jsonl").read_text().splitlines()]
-    assert [it["phase"] for it in rows] == [1, 2, 3, 4, 5]
+    rows = [json.loads(line) for line in (tmp_path / "run.jsonl").read_text().splitlines()]
+    assert [row["phase"] for row in rows] == [1, 2, 3, 4, 5]
 
 
 def test_run_without_pandas(tmp_path, monkeypatch, capsys):
@@ -192,7 +192,7 @@ def test_continue(tmp_path, capsys):
     assert main(["continue", VILLAGE]) == 0
     written = Cluster.from_json(capsys.readouterr().out)
     done = run(VILLAGE)
-    assert {it.device for it in written.phases[0].events} == done.snapshot.members
+    assert {event.device for event in written.phases[0].events} == done.snapshot.members
     assert run(written).ends[0].powers == done.ends[-1].powers
 
 
@@ -204,14 +204,14 @@ def test_continue_then(tmp_path):
     assert main(words) == 0
     both = run(cluster.with_phases(*following.phases))
     two = run(tmp_path / "day2.json")
-    assert [it.powers for it in two.ends] == [it.powers for it in both.ends[len(cluster.phases) - 1 :]]
+    assert [end.powers for end in two.ends] == [end.powers for end in both.ends[len(cluster.phases) - 1 :]]
 
 
 def test_chain(tmp_path, capsys):
     assert main(["chain", VILLAGE, "--minutes", "15", "--parts", str(tmp_path / "parts")]) == 0
     assert capsys.readouterr().out == (EXAMPLES / "village.txt").read_text()
     parts = sorted((tmp_path / "parts").iterdir())
-    assert [it.name for it in parts][:2] == ["part_0001.json", "part_0002.json"]
+    assert [part.name for part in parts][:2] == ["part_0001.json", "part_0002.json"]
     for part in parts:
         run(part)
 
@@ -300,6 +300,6 @@ def test_the_calls_of_the_page_are_exported():
     """What the first table of docs/PYTHON.md names as a call is one of the package, and not a module of the same name."""
     page = (TOP / "docs" / "PYTHON.md").read_text()
     table = page[page.index("| You want to |") : page.index("`cogmaula COMMAND --help`")]
-    names = {it for row in table.splitlines()[2:] if row for it in re.findall(r"`(\w+)`", row.split("|")[2])}
+    names = {word for row in table.splitlines()[2:] if row for word in re.findall(r"`(\w+)`", row.split("|")[2])}
     assert {"run", "explain", "chain", "report", "from_csv", "study", "bill", "ask"} <= names
-    assert all(callable(getattr(cogmaula, it)) for it in names - {"drawing"})
+    assert all(callable(getattr(cogmaula, name)) for name in names - {"drawing"})

@@ -30,7 +30,7 @@ from cogmaula import (
 FILES = sorted([*EXAMPLES.glob("*.json"), *CASES.glob("*/*.json")])
 
 
-@pytest.mark.parametrize("file", sorted(EXAMPLES.glob("*.json")), ids=lambda it: it.name)
+@pytest.mark.parametrize("file", sorted(EXAMPLES.glob("*.json")), ids=lambda node: node.name)
 def test_an_example_is_written_as_it_was_read(file):
     cluster = Cluster.load(file)
     assert json.loads(cluster.to_json()) == json.loads(file.read_text())
@@ -149,7 +149,7 @@ def test_building_by_code(program, tmp_path):
     street.save(tmp_path / "street.json")
     assert Cluster.load(tmp_path / "street.json") == street
     street.check(program)
-    assert [it.name for it in street.devices] == ["house", "flex", "goal"]
+    assert [device.name for device in street.devices] == ["house", "flex", "goal"]
     assert street.groups() == {"feeder": "feeder", "house": "feeder", "flex": "feeder", "goal": None}
     assert street.minutes == 15
     assert street.node("house").above == "feeder"

@@ -21,7 +21,7 @@ MANY = settings(max_examples=300)
 
 def plain(ends):
     """Phase ends without what is numbered anew: phases and bids."""
-    return [replace(it, phase=0, bids={}) for it in ends]
+    return [replace(end, phase=0, bids={}) for end in ends]
 
 
 @MANY
@@ -42,7 +42,7 @@ def test_a_run_goes_on_where_it_ended(given_days):
 @given(given_days=days(count=3))
 def test_a_chain_is_the_run_of_the_whole_script(given_days):
     cluster, scripts = given_days
-    whole = run(cluster.with_script([it for script in scripts for it in script]))
+    whole = run(cluster.with_script([phase for script in scripts for phase in script]))
     linked = whole_of(whole.cluster, run_parts(cluster, scripts))
     assert linked.text == whole.text
     assert linked.bill == whole.bill
@@ -57,9 +57,9 @@ def test_a_chain_is_the_run_of_the_whole_script(given_days):
 @given(cluster=clusters(most=12), minutes=st.integers(1, 400))
 def test_a_script_that_is_cut_by_minutes_has_all_its_phases(cluster, minutes):
     parts = list(parts_of(cluster, minutes))
-    assert [it for part in parts for it in part] == list(cluster.phases)
+    assert [phase for part in parts for phase in part] == list(cluster.phases)
     for part in parts:
-        ticks = [it.minutes for it in part if isinstance(it, Tick)]
+        ticks = [phase.minutes for phase in part if isinstance(phase, Tick)]
         assert len(ticks) <= 1 or sum(ticks) <= minutes
     assert chain(cluster, minutes=minutes).text == run(cluster).text
 
@@ -79,7 +79,7 @@ def test_a_battery_by_hand():
     both = Events([Join("store"), Join("house")])
     done = run(two_devices([both, Tick(60)]))
     next_day = continued(done, [Tick(60)])
-    assert [it.powers for it in done.ends] == [{"store": -500, "house": 300}] * 2
+    assert [end.powers for end in done.ends] == [{"store": -500, "house": 300}] * 2
     assert next_day.node("store").start == 4_500
     assert next_day.phases == (both, Tick(60))
     assert run(next_day).snapshot.states == {"store": 4_000, "house": 300}
@@ -89,10 +89,10 @@ def test_who_left_keeps_its_state():
     cluster = Cluster.load(EXAMPLES / "village.json")
     done = run(cluster)
     next_day = continued(done)
-    joined = {it.device for it in next_day.phases[0].events}
+    joined = {event.device for event in next_day.phases[0].events}
     assert joined == set(done.snapshot.members)
-    assert {it.name: it.start for it in next_day.devices if it.kind != "manual"} == {
-        name: it for name, it in done.snapshot.states.items() if isinstance(it, int)
+    assert {device.name: device.start for device in next_day.devices if device.kind != "manual"} == {
+        name: state for name, state in done.snapshot.states.items() if isinstance(state, int)
     }
 
 
@@ -102,7 +102,7 @@ def test_more_phases_than_a_run_takes():
         run(whole)
     assert refused.value.answer == "refused 20 document"
     # The second part and the third begin with a phase of joins.
-    assert [len(it) for it in parts_of(whole)] == [999, 999, 3]
+    assert [len(part) for part in parts_of(whole)] == [999, 999, 3]
     done = chain(whole)
     assert len(done.ends) == 2_001
     assert done.text.endswith(b"end phases 2001 changes 2002\n")
@@ -110,16 +110,16 @@ def test_more_phases_than_a_run_takes():
 
 
 def test_a_part_has_no_more_changes_than_a_run_takes():
-    flips = Events([it for _ in range(1_000) for it in (Join("house"), Leave("house"))])
+    flips = Events([event for _ in range(1_000) for event in (Join("house"), Leave("house"))])
     whole = two_devices([Events([Join("store")]), *[flips] * 20])
     parts = list(parts_of(whole))
     # A part has 20,000 changes at most. The first has 1 and 9 times 2,000. The others begin with a join of the store.
-    assert [len(it) for it in parts] == [10, 9, 2]
+    assert [len(part) for part in parts] == [10, 9, 2]
     assert chain(whole).changes == 40_001
 
 
 def test_a_phase_that_is_too_large():
-    flips = Events([it for _ in range(10_001) for it in (Join("house"), Leave("house"))])
+    flips = Events([event for _ in range(10_001) for event in (Join("house"), Leave("house"))])
     with pytest.raises(NoContinuation, match="phase 1 is too large"):
         list(parts_of(two_devices([flips])))
 
@@ -153,7 +153,7 @@ def test_resumed_before_all_phases_is_the_cluster_with_a_phase_of_nobody():
 def test_more_bytes_than_a_file_may_have():
     basis = Basis(0, 999, 1_000)
     events = [State("flex", demand=[-(10**9) + at] * 1_000) for at in range(400)]
-    phases = [Events([Join("flex")]), *(Events([it]) for it in events)]
+    phases = [Events([Join("flex")]), *(Events([event]) for event in events)]
     whole = Cluster(basis, [Manual("flex", demand=[0] * 1_000)], phases)
     with pytest.raises(TooLong):
         run(whole)
@@ -161,7 +161,7 @@ def test_more_bytes_than_a_file_may_have():
     assert len(parts) == 2
     # Each part is one that the program takes, and no event more would fit into the first.
     done = list(run_parts(whole, parts))
-    sizes = [len(it.cluster.to_bytes()) for it in done]
+    sizes = [len(done_part.cluster.to_bytes()) for done_part in done]
     assert max(sizes) <= MOST_BYTES
     assert sizes[0] > MOST_BYTES - 60_000
-    assert [it.powers["flex"] for it in whole_of(whole, done).ends] == [0, *(-(10**9) + at for at in range(400))]
+    assert [end.powers["flex"] for end in whole_of(whole, done).ends] == [0, *(-(10**9) + at for at in range(400))]

@@ -38,7 +38,7 @@ def blocks_of(page: str) -> Iterator[list[str]]:
 
 def output_of(line: str, folder: Path, program: Program) -> list[list[str]]:
     """What a command of the page writes: the lines of its standard output, and of each file that it writes into OUTPUT."""
-    words = [it.replace("OUTPUT", str(folder)) for it in shlex.split(line)]
+    words = [word.replace("OUTPUT", str(folder)) for word in shlex.split(line)]
     if words[0] == "./market":
         assert words[2] == "<"
         return [program.answer(words[1], (TOP / words[3]).read_bytes()).decode().splitlines()]
@@ -48,7 +48,7 @@ def output_of(line: str, folder: Path, program: Program) -> list[list[str]]:
         [*start, *words[1:]], cwd=TOP, env=environment, capture_output=True, text=True, check=False, timeout=600
     )
     assert done.returncode == 0, done.stderr
-    return [done.stdout.splitlines(), *(it.read_text().splitlines() for it in sorted(folder.iterdir()))]
+    return [done.stdout.splitlines(), *(path.read_text().splitlines() for path in sorted(folder.iterdir()))]
 
 
 def is_part(block: list[str], lines: list[str]) -> bool:
@@ -59,13 +59,13 @@ def is_part(block: list[str], lines: list[str]) -> bool:
 def objects_of(value: object) -> Iterator[object]:
     """The value and all values in it."""
     yield value
-    for it in value.values() if isinstance(value, dict) else value if isinstance(value, list) else ():
-        yield from objects_of(it)
+    for member in value.values() if isinstance(value, dict) else value if isinstance(value, list) else ():
+        yield from objects_of(member)
 
 
 def test_each_block_of_the_page_is_what_comes_out(tmp_path: Path, program: Program) -> None:
     """A command is run; a block behind it is a part of what it wrote; an object is a part of a file that the page links."""
-    files = [json.loads(it.read_text()) for it in sorted(FOLDER.glob("*.json"))]
+    files = [json.loads(path.read_text()) for path in sorted(FOLDER.glob("*.json"))]
     written: list[list[str]] = []
     commands = 0
     for block in blocks_of(PAGE.read_text()):
@@ -78,9 +78,9 @@ def test_each_block_of_the_page_is_what_comes_out(tmp_path: Path, program: Progr
             commands += 1
         elif block[0].startswith("{"):
             due = json.loads("\n".join(block))
-            assert any(due in objects_of(it) for it in files), block
+            assert any(due in objects_of(file) for file in files), block
         else:
-            assert any(is_part(block, it) for it in written), "\n".join(block)
+            assert any(is_part(block, text) for text in written), "\n".join(block)
     assert commands >= 10
 
 
@@ -100,15 +100,15 @@ def test_the_report_of_the_feeder_says_what_the_page_quotes(tmp_path: Path, prog
     assert quoted in PAGE.read_text().replace("\n", " ")
     written = output_of("cogmaula report examples/cookbook/feeder.json -o OUTPUT/feeder.html", tmp_path, program)
     assert any(quoted in line for line in written[1])
-    assert [it.groups[0].total for it in run(FOLDER / "feeder.json", program=program).ends] == [4000, 6000, 6000, 5000]
+    assert [end.groups[0].total for end in run(FOLDER / "feeder.json", program=program).ends] == [4000, 6000, 6000, 5000]
 
 
 def test_equal_batteries_charge_together_or_not_at_all(program: Program) -> None:
     """Worked by hand: at price 50 none charges; with spreads 0 to 19 the first ten do, at price 40."""
-    equal, staggered = (run(FOLDER / f"batteries_{it}.json", program=program).ends[0] for it in ("equal", "staggered"))
+    equal, staggered = (run(FOLDER / f"batteries_{name}.json", program=program).ends[0] for name in ("equal", "staggered"))
     names = [f"battery{at:02}" for at in range(20)]
-    assert [equal.powers[it] for it in names] == [0] * 20 and equal.total == -10000
-    assert [staggered.powers[it] for it in names] == [1000] * 10 + [0] * 10 and staggered.total == 0
+    assert [equal.powers[name] for name in names] == [0] * 20 and equal.total == -10000
+    assert [staggered.powers[name] for name in names] == [1000] * 10 + [0] * 10 and staggered.total == 0
 
 
 def load_module(name: str) -> ModuleType:
@@ -131,7 +131,7 @@ def year(tmp_path_factory: pytest.TempPathFactory) -> Path:
 def net_of(folder: Path) -> list[int]:
     """What the house takes in each hour of the year net of its roof, in watts, read by pandas alone."""
     pandas = pytest.importorskip("pandas")
-    house, roof = (pandas.read_csv(folder / f"{it}.csv")[it] for it in ("house", "roof"))
+    house, roof = (pandas.read_csv(folder / f"{name}.csv")[name] for name in ("house", "roof"))
     return list(map(int, house - roof))
 
 

@@ -82,8 +82,8 @@ def test_the_rows_between_two_times_alone_are_taken(tmp_path: Path) -> None:
     """From the second row on, the first powers are those of the second row."""
     cluster, start = from_csv(written(tmp_path), begin=datetime(2026, 6, 21, 0, 30), end=datetime(2026, 6, 21, 1))
     assert start == datetime(2026, 6, 21, 0, 30)
-    assert [getattr(it, "start") for it in cluster.devices] == [500, 1250, 500]
-    assert [it.minutes for it in cluster.phases if isinstance(it, Tick)] == [30]
+    assert [getattr(device, "start") for device in cluster.devices] == [500, 1250, 500]
+    assert [phase.minutes for phase in cluster.phases if isinstance(phase, Tick)] == [30]
 
 
 def test_no_row_between_two_times_is_told(tmp_path: Path) -> None:
@@ -238,8 +238,8 @@ def test_the_worked_day_has_the_violation_that_its_page_tells(program: Program) 
     assert 52_500 <= -violation.load < 53_500
     at = day.times.index(datetime(2026, 6, 21, 11, 30))
     charges = list(snapshots(day.cluster, day.ends))[at].states
-    assert all(charges[it.name] >= 9500 for it in day.cluster.devices if it.kind == "battery")  # type: ignore[operator]
-    lower = [time for time, it in zip(day.times, day.ends, strict=True) if it.groups[0].price < it.price]
+    assert all(charges[device.name] >= 9500 for device in day.cluster.devices if device.kind == "battery")  # type: ignore[operator]
+    lower = [time for time, end in zip(day.times, day.ends, strict=True) if end.groups[0].price < end.price]
     assert lower[0] == datetime(2026, 6, 21, 10, 30)
 
 

@@ -19,7 +19,7 @@ EXAMPLE = TOP / "examples" / "devices" / "pool_pump.py"
 
 def block_with(words: str) -> str:
     """The indented block of the page that has these words, without its indent."""
-    (found,) = [it for it in re.findall(r"(?:^(?:    .*)?\n)+", PAGE, re.M) if words in it]
+    (found,) = [block for block in re.findall(r"(?:^(?:    .*)?\n)+", PAGE, re.M) if words in block]
     return "\n".join(line[4:] for line in found.strip("\n").splitlines())
 
 
@@ -34,4 +34,4 @@ def test_the_example_prints_what_the_page_says(program: Program) -> None:
     pytest.importorskip("pandas")
     environment = {**os.environ, "PYTHONPATH": str(TOP / "python"), "COGMAULA_MARKET": program.path}
     done = subprocess.run([sys.executable, str(EXAMPLE)], env=environment, capture_output=True, text=True, check=True)
-    assert [it.rstrip() for it in done.stdout.splitlines()] == [it.rstrip() for it in block_with("price  pump").splitlines()]
+    assert [line.rstrip() for line in done.stdout.splitlines()] == [line.rstrip() for line in block_with("price  pump").splitlines()]

@@ -32,14 +32,14 @@ def test_the_sum_of_a_group_is_that_of_an_independent_auction(program: Program, 
     for now, end, due in zip(snapshots(cluster, done.ends), done.ends, ends_of(scene), strict=True):
         for name, part in due.parts.items():
             if name is not None:
-                members = [it for it in end.powers if inside[it] == name]
+                members = [power for power in end.powers if inside[power] == name]
                 assert sum_of_bids(cluster, now, members, program) == part.sums
 
 
 def heights(figure: object, at: int) -> list[float]:
     """What the first line of a figure's axes shows."""
     axes = figure.axes[at]  # type: ignore[attr-defined]
-    return [float(it) for it in axes.lines[0].get_ydata()]
+    return [float(power) for power in axes.lines[0].get_ydata()]
 
 
 def test_a_run_shows_its_prices_and_powers(program: Program) -> None:
@@ -47,15 +47,15 @@ def test_a_run_shows_its_prices_and_powers(program: Program) -> None:
     done = run(TOP / "examples" / "village.json", program=program)
     figure = draw_run(done, 3, program)
     assert heights(figure, 0) == [40, 47, 50, 60, 53]
-    together = [it for it in figure.axes[3].lines if it.get_label() == "together"]
-    assert [int(it) for it in together[0].get_ydata()] == [sum(it.powers.values()) for it in done.ends]
+    together = [line for line in figure.axes[3].lines if line.get_label() == "together"]
+    assert [int(power) for power in together[0].get_ydata()] == [sum(end.powers.values()) for end in done.ends]
 
 
 def test_a_limited_run_shows_its_limits(program: Program) -> None:
     """The feeder of the tutorial: its local price of 60 in phase 2, and its ceiling as a line."""
     done = run(TOP / "examples" / "limited_feeder.json", program=program)
     figure = draw_run(done, 2, program)
-    texts = [it.get_text() for axes in figure.axes for it in axes.texts]
+    texts = [text.get_text() for axes in figure.axes for text in axes.texts]
     assert "ceiling 5 kW" in texts and "price 60: 4.466 kW" in texts
 
 
@@ -78,7 +78,7 @@ def test_a_picture_has_its_limits(program: Program) -> None:
 def test_a_clearing_shows_each_bid(program: Program) -> None:
     """The tutorial's small tree: the bids and the total at each price, and where they balance."""
     figure = draw_clearing(run(TOP / "examples" / "balance.json", program=program), program=program)
-    lines = {it.get_label().split(":")[0]: [int(y) for y in it.get_ydata()] for it in figure.axes[0].lines}
+    lines = {line.get_label().split(":")[0]: [int(y) for y in line.get_ydata()] for line in figure.axes[0].lines}
     assert lines["roof"] == [-300] * 6
     assert lines["boiler"] == [500, 400, 300, 200, 100, 0]
     assert lines["total"] == [200, 100, 0, -100, -200, -300]
@@ -88,9 +88,9 @@ def test_a_bill_and_answers_are_drawn(program: Program) -> None:
     """A bar for each account, in kilowatt-hours; the targets at the prices of docs/CLUSTER_FILE.md."""
     done = run(TOP / "examples" / "battery_day.json", program=program)
     bars = draw_bill(done.bill).axes[1].containers[0]
-    assert [it.get_width() for it in bars][:1] == [8.0]
+    assert [bar.get_width() for bar in bars][:1] == [8.0]
     figure = draw_answers(flexibility_of(done.cluster, [-1000, -2000], program))
-    (markers,) = [it for it in figure.axes[0].lines if it.get_marker() == "D"]
+    (markers,) = [line for line in figure.axes[0].lines if line.get_marker() == "D"]
     assert list(markers.get_ydata()) == [79, 85]
 
 
@@ -99,13 +99,13 @@ def test_the_command_draws_the_same_bytes_each_time(tmp_path: Path, program: Pro
     words = ["--program", program.path, "-o"]
     for what, file in (("run", "street"), ("clearing", "balance"), ("bill", "battery_day"), ("ask", "battery_day")):
         pictures = [tmp_path / f"{what}{name}" for name in ("0.svg", "1.svg")]
-        for it in pictures:
-            assert cli.main(["draw", what, str(TOP / "examples" / f"{file}.json"), *words, str(it)]) == 0
+        for picture in pictures:
+            assert cli.main(["draw", what, str(TOP / "examples" / f"{file}.json"), *words, str(picture)]) == 0
         assert pictures[0].read_bytes() == pictures[1].read_bytes()
         assert b"http://purl.org" not in pictures[0].read_bytes()
     pictures = [tmp_path / f"{at}.png" for at in range(2)]
-    for it in pictures:
-        assert cli.main(["draw", "clearing", str(TOP / "examples" / "balance.json"), *words, str(it)]) == 0
+    for picture in pictures:
+        assert cli.main(["draw", "clearing", str(TOP / "examples" / "balance.json"), *words, str(picture)]) == 0
     assert pictures[0].read_bytes() == pictures[1].read_bytes()
     assert pictures[0].read_bytes().startswith(b"\x89PNG")
     assert cli.main(["draw", "run", str(TOP / "examples" / "street.json"), *words, str(tmp_path / "a.gif")]) == 1
@@ -115,7 +115,7 @@ def test_a_picture_needs_matplotlib(tmp_path: Path, program: Program, monkeypatc
     """Without it the error names the package."""
     from cogmaula.commands import draw
 
-    for name in [it for it in sys.modules if it.startswith("cogmaula.drawing")]:
+    for name in [module for module in sys.modules if module.startswith("cogmaula.drawing")]:
         monkeypatch.delitem(sys.modules, name)
     monkeypatch.setitem(sys.modules, "matplotlib", None)
     monkeypatch.delattr("cogmaula.drawing", raising=False)

@@ -48,10 +48,10 @@ def test_where_a_case_is_at_fault(name):
 
 def test_every_case_is_in_the_table():
     refused = {
-        f"{it.parent.name}/{it.stem}"
+        f"{path.parent.name}/{path.stem}"
         for folder in ("refusals", "shape", "order", "limits")
-        for it in (CASES / folder).glob("*.json")
-        if it.with_suffix(".stdout").read_text().startswith("refused ")
+        for path in (CASES / folder).glob("*.json")
+        if path.with_suffix(".stdout").read_text().startswith("refused ")
     }
     assert refused == PLACES.keys()
 
@@ -59,7 +59,7 @@ def test_every_case_is_in_the_table():
 def test_every_code_has_a_rule():
     # The help of the command lists all codes, and says of 21 that no refusal has it.
     table = subprocess.run(["bash", "-c", ". script/words.sh; refusals"], cwd=TOP, capture_output=True, text=True, check=True)
-    codes = {int(it.split("|")[0]) for it in table.stdout.splitlines()}
+    codes = {int(line.split("|")[0]) for line in table.stdout.splitlines()}
     assert codes - {21} == RULES.keys()
     assert codes - {1, 21, 23, 24, 25} == EXPLAINERS.keys()
 
@@ -165,7 +165,7 @@ def test_the_file_without_a_fault():
     assert explain(FILE.encode()) is None
 
 
-@pytest.mark.parametrize(("name", "old", "new", "code", "words"), FAULTS, ids=[it[0] for it in FAULTS])
+@pytest.mark.parametrize(("name", "old", "new", "code", "words"), FAULTS, ids=[fault[0] for fault in FAULTS])
 def test_faults_as_users_make_them(name, old, new, code, words):
     assert FILE.count(old) == 1
     text = FILE.replace(old, new.replace("^", ""))
@@ -276,25 +276,25 @@ def test_inputs_that_are_right():
 def values(value):
     """A JSON value with its places, as Python reads it."""
     if value.what == "object":
-        return {name: values(it.value) for name, it in value.members.items()}
+        return {name: values(member.value) for name, member in value.members.items()}
     if value.what == "list":
-        return [values(it) for it in value.items]
+        return [values(item) for item in value.items]
     return value.value
 
 
 def as_read(value):
     """A JSON value with floats for the numbers that no 64 bits hold."""
     if isinstance(value, dict):
-        return {name: as_read(it) for name, it in value.items()}
+        return {name: as_read(member) for name, member in value.items()}
     if isinstance(value, list):
-        return [as_read(it) for it in value]
+        return [as_read(item) for item in value]
     is_large = isinstance(value, int) and not isinstance(value, bool) and not -(2**63) <= value < 2**63
     return float(value) if is_large else value
 
 
 JSON = st.recursive(
     st.none() | st.booleans() | st.integers() | st.floats(allow_nan=False, allow_infinity=False) | st.text(),
-    lambda it: st.lists(it) | st.dictionaries(st.text(), it),
+    lambda inner: st.lists(inner) | st.dictionaries(st.text(), inner),
     max_leaves=10,
 )
 

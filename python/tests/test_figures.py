@@ -145,7 +145,7 @@ def test_a_battery_follows_the_devices_below_its_parent(program: Program) -> Non
     """A battery of one house has nothing to do with the roof of another. It stops when it is full."""
     houses = [Limited("a", floor=-9000, ceiling=9000), Limited("b", floor=-9000, ceiling=9000)]
     roof = Solar("roof", parent="a", start=1000)
-    stores = [replace(STORE, name=f"store_{it}", parent=it, capacity=1500, start=0) for it in "ab"]
+    stores = [replace(STORE, name=f"store_{group}", parent=group, capacity=1500, start=0) for group in "ab"]
     one = Cluster(Basis(0, 9, 10), [*houses, roof, *stores])
     done = run(one.with_phases(one.join_all(), Tick(60), Tick(60)), program=program)
     assert plain_powers(done.cluster, done.held, None)[:, 1:].tolist() == [[1000, 0], [500, 0]]
@@ -179,9 +179,9 @@ def test_figures_and_bills_agree(program: Program, cluster: Cluster) -> None:
     done = run(cluster, program=program)
     figures, bill = done.figures(), done.bill
     assert figures.cost == pytest.approx(-bill.grid.amount / 60_000)
-    asked = sum(it.taken - it.given for name, it in bill.devices.items() if cluster.node(name).kind == "objective")
+    asked = sum(account.taken - account.given for name, account in bill.devices.items() if cluster.node(name).kind == "objective")
     assert (figures.bought_kWh - figures.sold_kWh) * 60_000 == pytest.approx(bill.grid.given - bill.grid.taken - asked)
-    assert all(0 <= it.least <= it.mean <= it.most <= 1 for it in figures.batteries.values())
+    assert all(0 <= battery.least <= battery.mean <= battery.most <= 1 for battery in figures.batteries.values())
 
 
 # A run's further frames.
@@ -204,8 +204,8 @@ def test_series_over_the_end_of_summer_time(program: Program) -> None:
     start = datetime(2026, 10, 25, tzinfo=ZoneInfo("Europe/Berlin"))
     done = run(one.with_phases(one.join_all(), *[Tick(60)] * 25), start=start, program=program)
     index = done.series().index
-    assert index.is_unique and index.freq.nanos == 3_600_000_000_000 and [it.hour for it in index[:5]] == [0, 1, 2, 2, 3]
-    assert [it.hour for it in done.times[1:6]] == [1, 2, 2, 3, 4] and done.times[-1].day == 26
+    assert index.is_unique and index.freq.nanos == 3_600_000_000_000 and [time.hour for time in index[:5]] == [0, 1, 2, 2, 3]
+    assert [time.hour for time in done.times[1:6]] == [1, 2, 2, 3, 4] and done.times[-1].day == 26
 
 
 def test_a_bill_in_money(program: Program) -> None:
@@ -232,7 +232,7 @@ def test_what_a_notebook_shows(program: Program) -> None:
     assert "<table" in done._repr_html_()
     figure = done.plot("supplier")
     assert len(figure.axes) == 3
-    assert [it.get_text() for it in figure.axes[1].get_legend().get_texts()] == ["roof", "house", "store"]
+    assert [text.get_text() for text in figure.axes[1].get_legend().get_texts()] == ["roof", "house", "store"]
     with pytest.raises(NoConnection):
         done.plot("house")
     assert len(run(Cluster(Basis(0, 9, 10)), program=program).plot().axes) == 3
@@ -246,7 +246,7 @@ def test_variants_have_names() -> None:
         "capacity=1000 store.charge=1", "capacity=1000 store.charge=2", "capacity=2000 store.charge=1", "capacity=2000 store.charge=2"
     ]
     last = found["capacity=2000 store.charge=2"]
-    assert [(it.capacity, it.charge) for it in last.nodes if isinstance(it, Battery)] == [(2000, 2), (2000, 5000)]
+    assert [(node.capacity, node.charge) for node in last.nodes if isinstance(node, Battery)] == [(2000, 2), (2000, 5000)]
     for bad in ("colour", "roof.capacity", "name"):
         with pytest.raises(ValueError, match="no node has a member"):
             vary(two, **{bad: [1]})

@@ -27,7 +27,7 @@ def test_frames_make_a_cluster() -> None:
         Events([Join("store"), Join("house"), Join("roof")]), Tick(30), Events([State("house", 4), State("roof", 7)]), Tick(30), Tick(30)
     )
     assert Cluster.from_frames(BASIS, load, solar, nodes=nodes, parent="feeder") == due
-    zoned = [it.tz_localize("Europe/Berlin") for it in (load, solar)]
+    zoned = [frame.tz_localize("Europe/Berlin") for frame in (load, solar)]
     assert Cluster.from_frames(BASIS, *zoned, nodes=nodes, parent="feeder") == due
 
 

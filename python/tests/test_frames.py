@@ -21,7 +21,7 @@ pytestmark = pytest.mark.usefixtures("program")
 
 def words(text, first):
     """The words of each line that begins so."""
-    return [it.split() for it in text.decode().splitlines() if it.startswith(f"{first} ")]
+    return [line.split() for line in text.decode().splitlines() if line.startswith(f"{first} ")]
 
 
 @settings(max_examples=40)
@@ -36,11 +36,11 @@ def test_frames_are_the_lines(cluster):
 
 def look_at_prices(done):
     lines = words(done.text, "phase")
-    assert [str(it) for it in done.prices["price"]] == [it[3] for it in lines]
-    assert [str(it) for it in done.prices["step"]] == [it[5] for it in lines]
-    assert [str(it) for it in done.prices["total_W"]] == [it[7] for it in lines]
-    assert [str(it) for it in done.prices["members"]] == [it[9] for it in lines]
-    assert list(done.prices.index.get_level_values("phase")) == [int(it[1]) for it in lines]
+    assert [str(cell) for cell in done.prices["price"]] == [line[3] for line in lines]
+    assert [str(cell) for cell in done.prices["step"]] == [line[5] for line in lines]
+    assert [str(cell) for cell in done.prices["total_W"]] == [line[7] for line in lines]
+    assert [str(cell) for cell in done.prices["members"]] == [line[9] for line in lines]
+    assert list(done.prices.index.get_level_values("phase")) == [int(line[1]) for line in lines]
 
 
 def look_at_powers_and_bids(done):
@@ -50,7 +50,7 @@ def look_at_powers_and_bids(done):
             phase = int(found[1])
         if found := re.match(r"member (\S+) power (\S+) bid (\S+)", line):
             due[phase, found[1]] = int(found[2]), int(found[3])
-    assert list(done.powers.columns) == [it.name for it in done.cluster.devices]
+    assert list(done.powers.columns) == [device.name for device in done.cluster.devices]
     found = {}
     for (_, at), row in done.powers.iterrows():
         for name, power in row.items():
@@ -63,7 +63,7 @@ def look_at_groups(done):
     lines = words(done.text, "limited")
     frame = done.limited_groups.reset_index()
     assert [[row.group, str(row.price), str(row.step), str(row.total_W)] for row in frame.itertuples()] == [
-        [it[1], it[3], it[5], it[7]] for it in lines
+        [line[1], line[3], line[5], line[7]] for line in lines
     ]
     for row in frame.itertuples():
         assert row.floor_W <= row.total_W - row.excess_W <= row.ceiling_W
@@ -113,7 +113,7 @@ def test_violations_by_hand():
 def test_states_by_hand():
     done = run(EXAMPLES / "battery_day.json")
     assert done.states["battery"].iloc[0] == done.cluster.node("battery").start
-    assert set(done.states.columns) == {it.name for it in done.cluster.devices if it.kind != "manual"}
+    assert set(done.states.columns) == {device.name for device in done.cluster.devices if device.kind != "manual"}
     assert done.states.dtypes.unique().tolist() == [pd.Int64Dtype()]
 
 
@@ -143,7 +143,7 @@ def test_curve_and_targets():
 
 def test_no_phases():
     done = run(Cluster(Basis(0, 9, 10), [Load("house", start=1)]))
-    assert [len(it) for it in done.tables().values()] == [0, 0, 0, 0, 0, 0, 2]
+    assert [len(table) for table in done.tables().values()] == [0, 0, 0, 0, 0, 0, 2]
     assert done.durations == [] and done.times == []
 
 
@@ -153,7 +153,7 @@ def test_no_phases():
 def test_csv(tmp_path):
     done = run(EXAMPLES / "limited_feeder.json")
     paths = done.to_csv(tmp_path / "tables")
-    assert sorted(it.name for it in paths) == sorted(f"{it}.csv" for it in done.tables())
+    assert sorted(path.name for path in paths) == sorted(f"{table}.csv" for table in done.tables())
     read = pd.read_csv(tmp_path / "tables" / "prices.csv", parse_dates=["time"]).set_index(["time", "phase"])
     assert read.equals(done.prices)
     powers = pd.read_csv(tmp_path / "tables" / "powers.csv", parse_dates=["time"]).set_index(["time", "phase"])
@@ -163,11 +163,11 @@ def test_csv(tmp_path):
 def test_json_lines(tmp_path):
     done = run(EXAMPLES / "limited_feeder.json")
     done.to_json_lines(tmp_path / "run.jsonl")
-    rows = [json.loads(it) for it in (tmp_path / "run.jsonl").read_text().splitlines()]
-    assert [it["price"] for it in rows] == list(done.prices["price"])
+    rows = [json.loads(line) for line in (tmp_path / "run.jsonl").read_text().splitlines()]
+    assert [row["price"] for row in rows] == list(done.prices["price"])
     for row, end in zip(rows, done.ends, strict=True):
-        assert {name: it["power_W"] for name, it in row["members"].items()} == end.powers
-        assert {name: it["total_W"] for name, it in row["limited"].items()} == {it.name: it.total for it in end.groups}
+        assert {name: member["power_W"] for name, member in row["members"].items()} == end.powers
+        assert {name: group["total_W"] for name, group in row["limited"].items()} == {group.name: group.total for group in end.groups}
         assert (row["phase"], row["total_W"], row["step"]) == (end.phase, end.total, end.step)
 
 
@@ -184,7 +184,7 @@ def engine_at_hand():
     """Whether pandas can write Parquet here."""
     from importlib.util import find_spec
 
-    return any(find_spec(it) for it in ("pyarrow", "fastparquet"))
+    return any(find_spec(module) for module in ("pyarrow", "fastparquet"))
 
 
 @pytest.mark.skipif(engine_at_hand(), reason="an engine for Parquet is at hand")
@@ -199,7 +199,7 @@ def test_parquet_is_read_as_it_was_written(tmp_path):
     done.to_parquet(tmp_path)
     assert pd.read_parquet(tmp_path / "prices.parquet").equals(done.prices)
     amounts = pd.read_parquet(tmp_path / "accounts.parquet")["amount"]
-    assert [int(it) for it in amounts] == list(done.accounts["amount"])
+    assert [int(amount) for amount in amounts] == list(done.accounts["amount"])
 
 
 def test_parquet_is_handed_amounts_as_text(tmp_path, monkeypatch):
@@ -212,10 +212,10 @@ def test_parquet_is_handed_amounts_as_text(tmp_path, monkeypatch):
     monkeypatch.setattr("cogmaula.runs._parquet_engine", lambda: "pyarrow")
     done = run(EXAMPLES / "village.json")
     done.to_parquet(tmp_path)
-    assert sorted(handed) == sorted(f"{it}.parquet" for it in done.tables())
+    assert sorted(handed) == sorted(f"{table}.parquet" for table in done.tables())
     frame, engine = handed["accounts.parquet"]
     assert engine == "pyarrow"
-    assert list(frame["amount"]) == [str(it) for it in done.accounts["amount"]]
+    assert list(frame["amount"]) == [str(amount) for amount in done.accounts["amount"]]
 
 
 def test_hdf5_is_read_as_it_was_written(tmp_path):
@@ -225,7 +225,7 @@ def test_hdf5_is_read_as_it_was_written(tmp_path):
     assert pd.read_hdf(tmp_path / "run.h5", "prices").equals(done.prices)
     powers = pd.read_hdf(tmp_path / "run.h5", "powers")
     assert powers.equals(done.powers.astype("float64"))
-    assert [int(it) for it in pd.read_hdf(tmp_path / "run.h5", "accounts")["amount"]] == list(done.accounts["amount"])
+    assert [int(amount) for amount in pd.read_hdf(tmp_path / "run.h5", "accounts")["amount"]] == list(done.accounts["amount"])
 
 
 def test_hdf5_without_an_engine(tmp_path, monkeypatch):

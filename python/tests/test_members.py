@@ -16,19 +16,19 @@ NOT_WHOLE = ["5", 5.0, None, True]
 @pytest.mark.parametrize(
     ("member", "made"),
     [
-        ("Load.start", lambda it: Load("a", start=it)),
-        ("Battery.spread", lambda it: Battery("a", capacity=1, charge=1, discharge=1, spread=it, start=0)),
-        ("Basis.steps", lambda it: Basis(0, 9, it)),
+        ("Load.start", lambda value: Load("a", start=value)),
+        ("Battery.spread", lambda value: Battery("a", capacity=1, charge=1, discharge=1, spread=value, start=0)),
+        ("Basis.steps", lambda value: Basis(0, 9, value)),
         ("Tick.minutes", Tick),
-        ("Manual.demand[1]", lambda it: Manual("a", demand=[1, it])),
-        ("Manual.points[0]", lambda it: Manual("a", points=[(0, it)])),
+        ("Manual.demand[1]", lambda value: Manual("a", demand=[1, value])),
+        ("Manual.points[0]", lambda value: Manual("a", points=[(0, value)])),
     ],
 )
 def test_a_constructor_takes_whole_numbers_alone(member: str, made: Any) -> None:
     """A number of NumPy becomes one of Python; all else is told with the class and the member."""
     numpy = pytest.importorskip("numpy")
     assert made(numpy.int64(7)) == made(7)
-    Cluster(Basis(0, 9, 10), [it for it in [made(numpy.int32(7))] if hasattr(it, "kind")]).to_json()
+    Cluster(Basis(0, 9, 10), [load for load in [made(numpy.int32(7))] if hasattr(load, "kind")]).to_json()
     for wrong in NOT_WHOLE:
         with pytest.raises(TypeError) as told:
             made(wrong)
@@ -62,8 +62,8 @@ def test_a_battery_in_slices_by_hand() -> None:
         Battery("store1", parent="feeder", capacity=3, charge=2, discharge=2, spread=3, start=2),
         Battery("store2", parent="feeder", capacity=4, charge=3, discharge=2, spread=4, start=2),
     ]
-    assert [it.name for it in battery.sliced(10)][-1] == "store9"
-    assert [it.spread for it in battery.sliced(2, apart=5)] == [2, 7]
+    assert [slice_.name for slice_ in battery.sliced(10)][-1] == "store9"
+    assert [slice_.spread for slice_ in battery.sliced(2, apart=5)] == [2, 7]
     for count in (0, 11):
         with pytest.raises(ValueError, match=f"store has 10 Wh, which {count} slices cannot share"):
             battery.sliced(count)
@@ -72,8 +72,8 @@ def test_a_battery_in_slices_by_hand() -> None:
 def test_no_slice_starts_above_its_capacity() -> None:
     """129 Wh over 6 slices are 21, 22, 21, 22, 21 and 22, and 128 Wh in them leave one slice short, not one above its brim."""
     slices = Battery("b", capacity=129, charge=0, discharge=0, spread=0, start=128).sliced(6)
-    assert [it.capacity for it in slices] == [21, 22, 21, 22, 21, 22]
-    assert [it.start for it in slices] == [20, 22, 21, 22, 21, 22]
+    assert [slice_.capacity for slice_ in slices] == [21, 22, 21, 22, 21, 22]
+    assert [slice_.start for slice_ in slices] == [20, 22, 21, 22, 21, 22]
 
 
 @given(st.integers(1, 10**6), st.integers(0, 10**6), st.integers(0, 10**6), st.integers(1, 200), st.data())
@@ -84,7 +84,7 @@ def test_slices_add_up_to_the_battery(capacity: int, charge: int, discharge: int
     slices = Battery("b", capacity=capacity, charge=charge, discharge=discharge, spread=0, start=start).sliced(count)
     assert len(slices) == count
     for member, whole in (("capacity", capacity), ("charge", charge), ("discharge", discharge), ("start", start)):
-        assert sum(getattr(it, member) for it in slices) == whole
-    assert all(0 <= it.start <= it.capacity >= 1 for it in slices)
-    names = [it.name for it in slices]
+        assert sum(getattr(slice_, member) for slice_ in slices) == whole
+    assert all(0 <= slice_.start <= slice_.capacity >= 1 for slice_ in slices)
+    names = [slice_.name for slice_ in slices]
     assert names == sorted(set(names))

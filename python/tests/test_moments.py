@@ -83,7 +83,7 @@ def test_a_wrong_type_is_told_before_anything_is_run(wrong: Any, program: Progra
 def test_a_refusal_has_the_words_of_the_program_s_help() -> None:
     """Code by code the words of script/words.sh; and the message has the answer before them."""
     told = subprocess.run(["bash", "-c", "source script/words.sh; refusals"], cwd=TOP, capture_output=True, text=True, check=True)
-    rows = [it.split("|") for it in told.stdout.splitlines()]
+    rows = [line.split("|") for line in told.stdout.splitlines()]
     assert {int(code): (meaning, remedy) for code, meaning, remedy in rows if code != "21"} == WORDS
     refused = Refused(12, Place("node", (4,)))
     assert str(refused) == "refused 12 node 4: the kind is not known; use a kind that the pages list; limited needs version 2"

@@ -18,12 +18,12 @@ PAGE = (TOP / "docs" / "PYTHON.md").read_text()
 def blocks():
     """The indented blocks of the page, without their indentation."""
     found = re.findall(r"(?:^    .*\n|^\n(?=    ))+", PAGE, re.M)
-    return [re.sub(r"(?m)^    ", "", it).strip("\n") for it in found]
+    return [re.sub(r"(?m)^    ", "", block).strip("\n") for block in found]
 
 
 def block_with(words):
     """The block that has these words."""
-    (found,) = [it for it in blocks() if words in it]
+    (found,) = [block for block in blocks() if words in block]
     return found
 
 
@@ -43,8 +43,8 @@ def test_a_run_is_looked_at(monkeypatch, capsys):
     pytest.importorskip("pandas")
     monkeypatch.chdir(TOP)
     exec(block_with('day = run("examples'), {})
-    written = [it.split() for it in capsys.readouterr().out.splitlines()]
-    assert written == [it.split() for it in block_with("2000 Wh are left").splitlines()]
+    written = [line.split() for line in capsys.readouterr().out.splitlines()]
+    assert written == [line.split() for line in block_with("2000 Wh are left").splitlines()]
 
 
 def test_a_refused_file_is_explained(street, capsys):
@@ -59,7 +59,7 @@ def test_each_frame_has_its_row():
 
 
 def test_each_error_has_its_row():
-    errors = {name for name in cogmaula.__all__ if isinstance(it := getattr(cogmaula, name), type) and issubclass(it, cogmaula.MarketError)}
+    errors = {name for name in cogmaula.__all__ if isinstance(value := getattr(cogmaula, name), type) and issubclass(value, cogmaula.MarketError)}
     rows = PAGE[PAGE.index("## Errors") :]
     assert {name for name in errors if f"`{name}`" in rows} == errors
 

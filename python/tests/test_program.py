@@ -296,7 +296,7 @@ def test_a_program_that_cannot_be_started(tmp_path):
 @pytest.mark.parametrize(
     "error",
     [Refused(17, Place("node", (1,)), 2), TooLong(5), Invalid(7), Unreadable("nodes[0]", "why"), NoProgram("why")],
-    ids=lambda it: type(it).__name__,
+    ids=lambda error: type(error).__name__,
 )
 def test_errors_pass_between_processes(error):
     again = pickle.loads(pickle.dumps(error))

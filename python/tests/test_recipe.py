@@ -35,7 +35,7 @@ def powers(made: Made, name: str) -> list[int]:
         if isinstance(phase, Tick):
             found.append(now)
         else:
-            now = next((it.value for it in phase.events if isinstance(it, State) and it.device == name), now)
+            now = next((event.value for event in phase.events if isinstance(event, State) and event.device == name), now)
     return found
 
 
@@ -129,7 +129,7 @@ def test_a_series_of_prices_is_a_device(tmp_path: Path, program: Program) -> Non
         "prices.csv: 1 price outside -10 to 40 ct/kWh count as the nearest of both: widen the basis",
     )
     assert made.connection == "exchange"
-    assert [it.price for it in run(made.cluster, program=program).ends] == [10, 10, 10, -2, -2, -2, 40, 40, 40]
+    assert [end.price for end in run(made.cluster, program=program).ends] == [10, 10, 10, -2, -2, -2, 40, 40, 40]
 
 
 def test_a_markup_is_paid_by_the_buyer_alone(tmp_path: Path) -> None:
@@ -167,7 +167,7 @@ def test_a_connection_by_time_of_use(tmp_path: Path) -> None:
     day, night = ([(7, 9000), (8, 0), (buy - 1, 0), (buy, -9000)] for buy in (30, 22))
     assert made.connection == "connection"
     assert made.cluster.node("connection") == Manual("connection", points=day)
-    assert [it for it in made.cluster.phases if isinstance(it, Events)][1:] == [
+    assert [phase for phase in made.cluster.phases if isinstance(phase, Events)][1:] == [
         Events([State("connection", points=night)]),
         Events([State("connection", points=day)]),
     ]
@@ -198,8 +198,8 @@ def test_weekends_have_prices_of_their_own(tmp_path: Path) -> None:
     rows = [f"2026-06-{day}T00:00,1" for day in (19, 20, 21, 22)]
     made = made_by(recipe(tmp_path, rows, "minutes = 1440", words))
     bids = [getattr(made.cluster.node("connection"), "points")]
-    bids += [it.points for phase in made.cluster.phases if isinstance(phase, Events) for it in phase.events if isinstance(it, State)]
-    assert [it[-1][0] for it in bids] == [30, 20, 30]
+    bids += [event.points for phase in made.cluster.phases if isinstance(phase, Events) for event in phase.events if isinstance(event, State)]
+    assert [points[-1][0] for points in bids] == [30, 20, 30]
 
 
 @pytest.mark.parametrize(("buy", "sell"), [(30, 8), (8, 8), (9, 8), (10, 0), (0, 0), (50, 0), (50, 50)])

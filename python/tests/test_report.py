@@ -64,12 +64,12 @@ FEEDER = Cluster(
 
 def test_spans_are_whole_ticks() -> None:
     """Worked by hand: ticks of 30, 60, 15, 15 and 10 minutes in spans of an hour."""
-    assert [(it.begin, it.end, it.phases) for it in intervals_of(FEEDER)] == [
+    assert [(interval.begin, interval.end, interval.phases) for interval in intervals_of(FEEDER)] == [
         (0, 30, 1), (30, 90, 3), (90, 105, 5), (105, 120, 7), (120, 130, 10)
     ]
     assert list(spans_of(intervals_of(FEEDER), 60)) == [(0, 90, 0, 4), (90, 120, 4, 8), (120, 130, 8, 11)]
     assert list(spans_of([], 60)) == []
-    assert [span_for(it) for it in (0, 1440, 2880, 2881, 44640, 525_600)] == [60, 60, 60, 120, 960, 8 * 1440]
+    assert [span_for(minutes) for minutes in (0, 1440, 2880, 2881, 44640, 525_600)] == [60, 60, 60, 120, 960, 8 * 1440]
 
 
 def test_violations_are_counted_and_listed(program: Program) -> None:
@@ -98,12 +98,12 @@ def test_bills_of_spans_add_up_to_the_bill(program: Program, cluster: Cluster) -
     spans = list(bills_of(run(cluster, program=program), 45))
     whole = bill(cluster, program=program)
     for name, account in whole.devices.items():
-        parts = [it.bill.devices[name] for it in spans]
-        assert Account(*(sum(getattr(it, word) for it in parts) for word in ("amount", "taken", "given"))) == account
-    assert sum(it.bill.minutes for it in spans) == whole.minutes == cluster.minutes
-    assert sum(it.bill.ticks for it in spans) == whole.ticks
-    for it in spans:
-        assert sum(one.amount for one in it.bill.devices.values()) + it.bill.grid.amount == 0
+        parts = [span.bill.devices[name] for span in spans]
+        assert Account(*(sum(getattr(part, word) for part in parts) for word in ("amount", "taken", "given"))) == account
+    assert sum(span.bill.minutes for span in spans) == whole.minutes == cluster.minutes
+    assert sum(span.bill.ticks for span in spans) == whole.ticks
+    for span in spans:
+        assert sum(one.amount for one in span.bill.devices.values()) + span.bill.grid.amount == 0
 
 
 @settings(max_examples=30, deadline=None)
@@ -113,10 +113,10 @@ def test_bills_of_spans_are_those_of_an_independent_program(program: Program, cl
     done = run(cluster, program=program)
     text = done.text.decode()
     for (begin, end, first, last), span in zip(spans_of(intervals_of(cluster), 45), bills_of(done, 45), strict=True):
-        due, before = (oracle_bill(cluster.with_script(cluster.phases[:it]).to_json(), text) for it in (last, first))
+        due, before = (oracle_bill(cluster.with_script(cluster.phases[:script]).to_json(), text) for script in (last, first))
         for line, old in zip(due.splitlines()[:-1], before.splitlines()[:-1], strict=True):
             name = line.split()[1]
-            now, then = (Account(*map(int, it.split()[-5::2])) for it in (line, old))
+            now, then = (Account(*map(int, line_text.split()[-5::2])) for line_text in (line, old))
             found = span.bill.devices[name] if line.startswith("account") else span.bill.grid
             assert sum_of([found, then]) == now
         assert (span.begin, span.end) == (begin, end)
@@ -148,7 +148,7 @@ def test_the_notebook_of_the_page_runs(tmp_path: Path, program: Program, monkeyp
 def test_bills_that_do_not_add_up_are_seen(program: Program) -> None:
     """A part too few, and a part too much of one account or of the grid."""
     whole = bill(FEEDER, program=program)
-    parts = [it.bill for it in bills_of(run(FEEDER, program=program), 60)]
+    parts = [bill.bill for bill in bills_of(run(FEEDER, program=program), 60)]
     assert add_up(parts, whole) and not add_up(parts[1:], whole)
     one = replace(parts[0], grid=replace(parts[0].grid, taken=1))
     assert not add_up([one, *parts[1:]], whole)
@@ -162,13 +162,13 @@ def test_demands_are_the_total_of_all_bids(program: Program, cluster: Cluster) -
     assert flexibility == flexibility_of(continued(run(cluster, program=program)), [0, 700, -700], program)
     total = oracle.last_total(json.loads(cluster.to_json()))
     assert list(flexibility.demands) == total
-    for it in flexibility.answers:
-        below, at, above = flexibility.around(it)
-        assert at == total[it.step]
-        assert below == (total[it.step - 1] if it.step else None)
-        assert above == (total[it.step + 1] if it.step + 1 < len(total) else None)
-        assert at <= it.target or it.step == len(total) - 1
-        assert below is None or below > it.target
+    for answer in flexibility.answers:
+        below, at, above = flexibility.around(answer)
+        assert at == total[answer.step]
+        assert below == (total[answer.step - 1] if answer.step else None)
+        assert above == (total[answer.step + 1] if answer.step + 1 < len(total) else None)
+        assert at <= answer.target or answer.step == len(total) - 1
+        assert below is None or below > answer.target
 
 
 def test_a_total_beyond_all_targets_is_not_told(program: Program) -> None:
@@ -194,8 +194,8 @@ def test_each_cluster_has_a_page(program: Program, cluster: Cluster) -> None:
     assert set(re.findall(r'(?:href="#|url\(#)([^")]*)', text)) <= set(names)
     done = run(cluster, program=program)
     groups = groups_of(done, intervals_of(cluster))
-    assert sum(it.outside for it in groups) == len(done.violations)
-    assert sum(it.minutes_outside for it in groups) == done.violations["minutes"].sum()
+    assert sum(group.outside for group in groups) == len(done.violations)
+    assert sum(group.minutes_outside for group in groups) == done.violations["minutes"].sum()
     for group in groups:
         told = f"{group.name} was outside its limits"
         assert (told in text) == bool(group.outside)
@@ -225,13 +225,13 @@ def outside_addresses(text: str) -> list[str]:
     """What a browser would fetch: addresses in links, sources and styles that are no place of the page and no data."""
     found = re.findall(r'(?:href|src|srcset|action|data|poster)="([^"]*)"', text) + re.findall(r"url\(([^)]*)\)", text)
     found += re.findall(r"@import[^;]*", text) + re.findall(r"\bhttps?://[^\s\"'<]*", text)
-    return [it for it in found if not it.startswith(("#", "data:image/png;base64,"))]
+    return [address for address in found if not address.startswith(("#", "data:image/png;base64,"))]
 
 
 def test_an_outside_address_would_be_seen() -> None:
     """The test of addresses sees a link, a picture, a style and a name space."""
-    for it in ('<a href="x.html">', '<img src="//a/b.png">', "url(a.png)", "@import 'a';", 'xmlns="http://a"'):
-        assert outside_addresses(it)
+    for text in ('<a href="x.html">', '<img src="//a/b.png">', "url(a.png)", "@import 'a';", 'xmlns="http://a"'):
+        assert outside_addresses(text)
     assert not outside_addresses('<a href="#price"> <image xlink:href="data:image/png;base64,AA//"/> url(#p1)')
 
 
@@ -241,7 +241,7 @@ def test_the_page_of_the_feeder_tells_its_violation(program: Program) -> None:
     text = report(FEEDER, title="A <b> & c", start=datetime(2026, 6, 21, 12), currency=money, program=program)
     assert "feeder was outside its limits for 1 h 15 min, at the ends of 5 of 11 phases." in text
     row = ["12:30", "13:45", "1 h 15 min", "1 kW", "2 kW", "1 kW"]
-    assert '<th scope="row">feeder</th>' + "".join(f"<td>{it}</td>" for it in row) in text
+    assert '<th scope="row">feeder</th>' + "".join(f"<td>{cell}</td>" for cell in row) in text
     assert "<title>A &lt;b&gt; &amp; c: report of a run</title>" in text
     assert text == report(FEEDER, title="A <b> & c", start=datetime(2026, 6, 21, 12), currency=money, program=program)
     # The price is 9 over 115 of 130 minutes, and 0 while the house takes nothing.
@@ -311,14 +311,14 @@ def test_a_device_called_grid_is_not_the_grid(program: Program) -> None:
 
 def test_durations_as_a_reader_sees_them() -> None:
     """Minutes, hours, and days from four on."""
-    assert [duration(it) for it in (0, 59, 60, 135, 5759, 5760, 43_215)] == [
+    assert [duration(minutes) for minutes in (0, 59, 60, 135, 5759, 5760, 43_215)] == [
         "0 min", "59 min", "1 h", "2 h 15 min", "95 h 59 min", "4 days", "30 days 15 min"
     ]
 
 
 def test_numbers_as_a_reader_sees_them() -> None:
     """Thousands apart, true minus signs, the unit that suits."""
-    assert [watts(it) for it in (0, -5, 999, 1000, -1234, 35000, 2500000)] == [
+    assert [watts(power) for power in (0, -5, 999, 1000, -1234, 35000, 2500000)] == [
         "0 W", "\u22125 W", "999 W", "1 kW", "\u22121.234 kW", "35 kW", "2.5 MW"
     ]
     assert number(-1234567.891, 2) == "\u22121\u202f234\u202f567.89"
@@ -397,7 +397,7 @@ def test_the_page_warns_of_a_bill_that_nobody_pays(program: Program) -> None:
     assert "Hardly used, with less than 0.1 cycles a day: store." in text
     day = sunny(12)
     night = day.with_phases(Events([State("roof", 0)]), *[Tick(60)] * 12)
-    follows = Cluster(day.basis, [it if it != STORE else replace(STORE, charge=2000, discharge=2000) for it in day.nodes], night.phases)
+    follows = Cluster(day.basis, [node if node != STORE else replace(STORE, charge=2000, discharge=2000) for node in day.nodes], night.phases)
     assert "Hardly used" not in report(follows, connection="supplier", program=program)
     # The same costs stand in the table, and the rules that they stand on are said to be models.
     assert '<th scope="row">by plain rules *</th><td>\u2212344.00</td>' in text and "a model beside the proved market, not proved" in text
@@ -431,11 +431,11 @@ def test_groups_have_names() -> None:
     parents = [Limited(f"f{at}", floor=-9, ceiling=9) for at in range(2)]
     loads = [Load(f"d{at}", parent=f"f{at % 2}", start=1) for at in range(61)]
     powers = numpy.ones((3, 61))
-    assert list(rows_of(Cluster(Basis(0, 1, 2), [*parents, *loads]), powers, list(range(60)))) == [it.name for it in loads[:60]]
+    assert list(rows_of(Cluster(Basis(0, 1, 2), [*parents, *loads]), powers, list(range(60)))) == [load.name for load in loads[:60]]
     found = rows_of(Cluster(Basis(0, 1, 2), [*parents, *loads]), powers, list(range(61)))
-    assert {name: it.tolist() for name, it in found.items()} == {"f0: load (31)": [31] * 3, "f1: load (30)": [30] * 3}
+    assert {name: powers.tolist() for name, powers in found.items()} == {"f0: load (31)": [31] * 3, "f1: load (30)": [30] * 3}
     many = [Limited(f"f{at}", floor=-9, ceiling=9) for at in range(61)]
-    apart = Cluster(Basis(0, 1, 2), [*many, *(replace(it, parent=f"f{at}") for at, it in enumerate(loads))])
+    apart = Cluster(Basis(0, 1, 2), [*many, *(replace(load, parent=f"f{at}") for at, load in enumerate(loads))])
     assert list(rows_of(apart, powers, list(range(61)))) == ["load (61)"]
 
 

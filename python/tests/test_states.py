@@ -45,7 +45,7 @@ def test_a_tick_by_hand(node, state, power, minutes, due):
 @settings(max_examples=150)
 @given(st.data())
 def test_a_tick_by_the_plain_auction(data):
-    node = data.draw(devices("d", ["auctioneer"], data.draw(bases())).filter(lambda it: it.ticks))
+    node = data.draw(devices("d", ["auctioneer"], data.draw(bases())).filter(lambda node: node.ticks))
     state, power = node.start, data.draw(st.integers(-3000, 3000))
     minutes = data.draw(st.integers(1, 1440))
     assert after_tick(node, state, power, minutes) == auction.after_tick(node.members(), state, power, minutes)

@@ -52,13 +52,13 @@ def test_outcomes_are_exact_and_in_order(tmp_path: Path, program: Program) -> No
     """However many processes share the work: the load of file `n` is 100 n watts over an hour, at price 9."""
     paths = written_files(tmp_path, 41)
     alone = study(paths, processes=1, program=program)
-    assert [it.name for it in alone] == [str(it) for it in paths]
-    for at, it in enumerate(alone):
-        assert it.digest == hashlib.sha256(paths[at].read_bytes()).hexdigest()
+    assert [outcome.name for outcome in alone] == [str(path) for path in paths]
+    for at, outcome in enumerate(alone):
+        assert outcome.digest == hashlib.sha256(paths[at].read_bytes()).hexdigest()
         if at == 20:
-            assert it.result is None and it.fault.startswith("Unreadable: ")
+            assert outcome.result is None and outcome.fault.startswith("Unreadable: ")
         else:
-            assert it.result == Summary(2, 1, 60, *(9 if at else 0,) * 2, (9 if at else 0) * 60, at * 6000, 0, at * 6000 * 9, 0, at * 6000, 0, 0)
+            assert outcome.result == Summary(2, 1, 60, *(9 if at else 0,) * 2, (9 if at else 0) * 60, at * 6000, 0, at * 6000 * 9, 0, at * 6000, 0, 0)
     for processes in (2, 3, 4):
         assert study(paths, processes=processes, program=program) == alone
 
@@ -67,8 +67,8 @@ def test_clusters_bytes_and_lost_files_have_outcomes(tmp_path: Path, program: Pr
     """What is no path is named by its place; a file that is not there and one that is refused end nothing."""
     refused = Cluster(Basis(0, 9, 7))
     outcomes = study([house(5), house(6).to_bytes(), tmp_path / "none.json", refused], text_of, processes=2, program=program)
-    assert [it.name for it in outcomes] == ["1", "2", str(tmp_path / "none.json"), "4"]
-    assert [it.result for it in outcomes[:2]] == [run(house(it), program=program).text for it in (5, 6)]
+    assert [outcome.name for outcome in outcomes] == ["1", "2", str(tmp_path / "none.json"), "4"]
+    assert [outcome.result for outcome in outcomes[:2]] == [run(house(power), program=program).text for power in (5, 6)]
     assert outcomes[2].fault.startswith("FileNotFoundError: ") and outcomes[2].digest == ""
     assert outcomes[3].fault.startswith("Refused: refused 6 basis: ")
     assert study([], processes=4, program=program) == []
@@ -87,21 +87,21 @@ def test_a_summary_is_what_an_independent_auction_gives(program: Program, cluste
     found = summary(cluster.to_bytes(), program)
     scene = json.loads(cluster.to_json())
     ends, prices = ends_of(scene), prices_of(scene)
-    ticks = [it.get("tick", 0) for it in scene["phases"]][1:] + [0]
-    paid = [prices[it.parts[None].step] for it in ends]
+    ticks = [phase.get("tick", 0) for phase in scene["phases"]][1:] + [0]
+    paid = [prices[end.parts[None].step] for end in ends]
     assert (found.phases, found.minutes) == (len(ends), cluster.minutes)
     assert (found.lowest_price, found.highest_price) == (min(paid, default=0), max(paid, default=0))
-    assert found.price_minutes == sum(price * it for price, it in zip(paid, ticks))
+    assert found.price_minutes == sum(price * length for price, length in zip(paid, ticks))
     assert found.changes == (sum(ends[-1].numbers.values()) if ends else 0)
-    accounts = [list(map(int, it.split()[-5::2])) for it in bill_of(cluster.to_json(), run(cluster, program=program).text.decode()).splitlines()[:-1]]
-    assert [found.amount, found.taken_Wmin, found.given_Wmin] == [sum(it[at] for it in accounts[:-1]) for at in range(3)]
+    accounts = [list(map(int, line.split()[-5::2])) for line in bill_of(cluster.to_json(), run(cluster, program=program).text.decode()).splitlines()[:-1]]
+    assert [found.amount, found.taken_Wmin, found.given_Wmin] == [sum(account[at] for account in accounts[:-1]) for at in range(3)]
     assert [found.grid_taken_Wmin, found.grid_given_Wmin] == accounts[-1][1:]
-    limited = [it for it in scene["nodes"] if it["kind"] == "limited"]
+    limited = [node for node in scene["nodes"] if node["kind"] == "limited"]
     outside = [
         minutes
         for end, minutes in zip(ends, ticks)
-        for it in limited
-        if not it["floor"] <= end.parts[it["name"]].sums[end.parts[it["name"]].step] <= it["ceiling"]
+        for node in limited
+        if not node["floor"] <= end.parts[node["name"]].sums[end.parts[node["name"]].step] <= node["ceiling"]
     ]
     assert (found.ends_outside, found.minutes_outside) == (len(outside), sum(outside))
 
@@ -113,7 +113,7 @@ def test_the_example_of_the_page_runs(tmp_path: Path, program: Program) -> None:
     code = page[begin : page.index("\n\nEach outcome", begin)]
     for name, power in (("a", 0), ("b", 100)):
         house(power).save(tmp_path / f"{name}.json")
-    (tmp_path / "script.py").write_text(textwrap.dedent(code) + "\nprint([it.result for it in outcomes])\n")
+    (tmp_path / "script.py").write_text(textwrap.dedent(code) + "\nprint([outcome.result for outcome in outcomes])\n")
     environment = {**os.environ, "PYTHONPATH": str(TOP / "python"), "COGMAULA_MARKET": program.path}
     told = subprocess.run([sys.executable, "script.py"], cwd=tmp_path, env=environment, capture_output=True, text=True, check=False)
     assert told.stdout == "[0, 9]\n", told.stderr
@@ -131,7 +131,7 @@ def test_the_variants_of_the_page_run(
     monkeypatch.chdir(tmp_path)
     names: dict[str, Any] = {}
     exec(textwrap.dedent(page[begin : page.index("\n\n[measured", begin)]), names)
-    assert list(names["costs"].index) == [f"capacity={it} charge={power}" for it in (5000, 10000) for power in (1000, 2500)]
+    assert list(names["costs"].index) == [f"capacity={capacity} charge={power}" for capacity in (5000, 10000) for power in (1000, 2500)]
     assert not any(names["costs"]["fault"]) and "self_sufficiency" in capsys.readouterr().out
 
 
@@ -141,14 +141,14 @@ def test_a_table_has_a_row_for_each_outcome(tmp_path: Path, program: Program) ->
     write_table(outcomes, tmp_path / "table.csv")
     with open(tmp_path / "table.csv", newline="") as text:
         head, *rows = list(csv.reader(text))
-    assert head == ["name", "sha256", "fault", *(it.name for it in fields(Summary))]
-    for row, it in zip(rows, outcomes, strict=True):
-        assert row == [it.name, it.digest, it.fault, *(map(str, astuple(it.result)) if it.result else [""] * 13)]
+    assert head == ["name", "sha256", "fault", *(field.name for field in fields(Summary))]
+    for row, outcome in zip(rows, outcomes, strict=True):
+        assert row == [outcome.name, outcome.digest, outcome.fault, *(map(str, astuple(outcome.result)) if outcome.result else [""] * 13)]
 
 
 def test_the_command_writes_the_table_and_tells_faults(tmp_path: Path, program: Program, capsys: pytest.CaptureFixture[str]) -> None:
     """The status is 0 if all files ran, and 1 if one has a fault."""
-    paths = [str(it) for it in written_files(tmp_path, 5)]
+    paths = [str(file) for file in written_files(tmp_path, 5)]
     words = ["study", "-o", str(tmp_path / "table.csv"), "--program", program.path, "--processes", "2", "--quiet"]
     assert cli.main([*words, *paths]) == 1
     told = capsys.readouterr().err
@@ -170,7 +170,7 @@ def test_an_exception_of_the_work_is_a_fault_or_ends_the_study(program: Program)
     them = [house(at * 100) for at in range(4)]
     for processes in (1, 2):
         found = study(them, fails, processes=processes, program=program)
-        assert [it.result for it in found] == [0, None, 200, None]
+        assert [outcome.result for outcome in found] == [0, None, 200, None]
         assert found[1].fault == "KeyError: 'no 100'"
         with pytest.raises(KeyError, match="no 100"):
             study(them, fails, processes=processes, program=program, on_error="raise")
@@ -181,14 +181,14 @@ def test_an_interrupted_study_keeps_its_rows(tmp_path: Path, program: Program) -
     table = tmp_path / "table.csv"
 
     def until_interrupted() -> Iterator[Outcome[Summary]]:
-        for at, it in enumerate(outcomes_of([house(100), house(200), house(300)], processes=1, program=program)):
+        for at, outcome in enumerate(outcomes_of([house(100), house(200), house(300)], processes=1, program=program)):
             if at == 2:
                 raise KeyboardInterrupt
-            yield it
+            yield outcome
 
     with pytest.raises(KeyboardInterrupt):
         list(written(until_interrupted(), table))
-    assert [it.result.taken_Wmin for it in read_table(table) if it.result] == [6000, 12000]
+    assert [outcome.result.taken_Wmin for outcome in read_table(table) if outcome.result] == [6000, 12000]
     table.write_text(table.read_text() + "3,abc")
     assert len(read_table(table)) == 2
     table.write_text("a,b\n")
@@ -202,7 +202,7 @@ def test_an_interrupted_study_keeps_its_rows(tmp_path: Path, program: Program) -
 
 def test_a_study_is_resumed_by_the_digests(tmp_path: Path, program: Program) -> None:
     """A known row is taken as it is, which a number shows that no run gives; a changed file, a refused one and a new one run."""
-    paths = [str(it) for it in written_files(tmp_path, 5)]
+    paths = [str(file) for file in written_files(tmp_path, 5)]
     table = tmp_path / "table.csv"
     words = ["study", "-o", str(table), "--program", program.path, "--processes", "1", "--quiet"]
     assert cli.main([*words, *paths[:4]]) == 1
@@ -210,8 +210,8 @@ def test_a_study_is_resumed_by_the_digests(tmp_path: Path, program: Program) -> 
     table.write_text(table.read_text().replace(",18000,", ",777,"))
     assert cli.main([*words, "--resume", *paths]) == 1
     rows = read_table(table)
-    assert [it.name for it in rows] == paths
-    assert [it.result.taken_Wmin if it.result else it.fault[:10] for it in rows] == [0, 54000, "Unreadable", 777, 24000]
+    assert [outcome.name for outcome in rows] == paths
+    assert [outcome.result.taken_Wmin if outcome.result else outcome.fault[:10] for outcome in rows] == [0, 54000, "Unreadable", 777, 24000]
     assert cli.main([*words, "--on-error", "raise", *paths]) == 5
 
 
@@ -251,4 +251,4 @@ def test_dask_gives_the_outcomes_of_one_process(tmp_path: Path, program: Program
     table = tmp_path / "table.csv"
     words = ["study", "-o", str(table), "--scheduler", scheduler.scheduler_address, "--program", program.path]
     assert cli.main([*words, *map(str, paths)]) == 1
-    assert [it.split(",")[0] for it in table.read_text().splitlines()[1:]] == [str(it) for it in paths]
+    assert [line.split(",")[0] for line in table.read_text().splitlines()[1:]] == [str(path) for path in paths]

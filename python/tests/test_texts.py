@@ -15,7 +15,7 @@ from cogmaula.texts import answers_of, bill_of, moves_of, report_of, report_text
 REPORTS = [*EXAMPLES.glob("*.txt"), *(CASES / "run").glob("*.stdout")]
 
 
-@pytest.mark.parametrize("file", REPORTS, ids=lambda it: it.name)
+@pytest.mark.parametrize("file", REPORTS, ids=lambda text: text.name)
 def test_a_report_is_written_as_it_was_read(file):
     text = file.read_bytes()
     assert report_text(report_of(text)) == text
@@ -35,7 +35,7 @@ def test_a_report_by_hand():
     (end,) = report.ends
     assert (end.phase, end.price, end.step, end.total) == (1, 4, 3, -50)
     assert (end.powers, end.bids) == ({"a": 100, "limited": -150}, {"a": 1, "limited": 2})
-    assert [(it.name, it.price, it.step, it.total) for it in end.groups] == [("c1", 5, 4, 20)]
+    assert [(group.name, group.price, group.step, group.total) for group in end.groups] == [("c1", 5, 4, 20)]
     assert report.changes == 3
 
 
@@ -80,7 +80,7 @@ def test_answers_by_hand(program):
     # As docs/COMMANDS.md has them.
     assert told.curve[0] == Range(0, 0, 200, None)
     assert told.curve[-1] == Range(5, 5, None, -201)
-    assert [(it.target, it.price, it.step, it.total) for it in told.answers] == [(0, 2, 2, 0), (100, 1, 1, 0), (-250, 5, 5, -50)]
+    assert [(answer.target, answer.price, answer.step, answer.total) for answer in told.answers] == [(0, 2, 2, 0), (100, 1, 1, 0), (-250, 5, 5, -50)]
 
 
 def test_a_target_that_is_too_large(program):
@@ -91,7 +91,7 @@ def test_a_target_that_is_too_large(program):
 def test_the_only_trace(program):
     done = trace(CASES / "trace" / "only_trace.json", program=program)
     assert done.text == (CASES / "trace" / "only_trace.stdout").read_bytes()
-    assert [it.what for it in done.moves] == ["change", "learn", "clear", "pass", "close"]
+    assert [move.what for move in done.moves] == ["change", "learn", "clear", "pass", "close"]
     assert done.moves[1] == Move("learn", "auctioneer", "load1", 1)
     assert done.moves[3].price is not None and done.moves[3].bid == 1
     assert done.run.changes == 1
@@ -103,7 +103,7 @@ def test_traces_of_the_examples(program):
         done = trace(file, program=program)
         assert done.run.text == file.with_suffix(".txt").read_bytes()
         assert check(file, done.text, program=program) == len(done.moves)
-        whats = {it.what for it in done.moves}
+        whats = {move.what for move in done.moves}
         assert whats <= {"change", "learn", "publish", "clear", "pass", "close"}
 
 

@@ -98,7 +98,7 @@ class HubLink:
         """See Link."""
         with self._lock:
             self._number += 1
-            self._newest, self._is_new = b"".join(json.dumps(it).encode() + b"\n" for it in _words_of(offer, self._number)), True
+            self._newest, self._is_new = b"".join(json.dumps(words).encode() + b"\n" for words in _words_of(offer, self._number)), True
         self._wakes.send(b".")
 
     def close(self) -> None:
@@ -130,7 +130,7 @@ class HubLink:
         if self._woken in found:
             with contextlib.suppress(BlockingIOError):
                 self._woken.recv(PIECE)
-        return [it for it in found if it is not self._woken]
+        return [event for event in found if event is not self._woken]
 
     def _talk(self) -> None:
         """Logs in, and works until the connection ends. Raises OSError and BadMessage."""
@@ -228,7 +228,9 @@ class NodeLink:
     def __init__(self, place: BrokerPlace, prefix: str, node: str) -> None:
         """Takes the broker, the prefix of the market's topics, and the name of the device's node."""
         self._place = place
-        self._topics = {it: f"{prefix}/{name}" for it, name in (("basis", "basis"), ("setpoint", f"{node}/setpoint"), ("offer", f"{node}/offer"))}
+        self._topics = {
+            kind: f"{prefix}/{name}" for kind, name in (("basis", "basis"), ("setpoint", f"{node}/setpoint"), ("offer", f"{node}/offer"))
+        }
         self._newest: queue.Queue[str | None] = queue.Queue()
         self._sending: threading.Thread | None = None
 

@@ -79,7 +79,7 @@ class Client:
         self._topics = topics
         self._client.on_connect = self._connected
         self._client.on_disconnect = self._disconnected
-        self._client.on_message = lambda _client, _data, it: take(it.topic, it.payload, bool(it.retain))
+        self._client.on_message = lambda _client, _data, message: take(message.topic, message.payload, bool(message.retain))
         self._client.reconnect_delay_set(1, AGAIN)
         self._closing = threading.Event()
         self._client.loop_forever = self._kept(self._client.loop_forever)

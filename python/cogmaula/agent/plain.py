@@ -91,7 +91,7 @@ class CommandPlace(Place):
         super().__post_init__()
         require_pointer(self.pointer)
         _require_timeout(self.timeout)
-        if isinstance(self.command, str) or not self.command or not all(isinstance(it, str) for it in self.command):
+        if isinstance(self.command, str) or not self.command or not all(isinstance(word, str) for word in self.command):
             raise BadSettings('the command is no list of words: write ["my_meter", "--soc"]')
         object.__setattr__(self, "command", tuple(self.command))
 
@@ -123,7 +123,7 @@ class Command:
     def write(self, number: float) -> None:
         """Runs it with the number. Raises NotWritten."""
         try:
-            self._ran([text_with(it, number) for it in self.place.command])
+            self._ran([text_with(word, number) for word in self.place.command])
         except OSError as error:
             raise NotWritten(f"{self.place.command[0]}: {error}") from None
 

@@ -98,7 +98,7 @@ def agent_settings_of(tables: Mapping[str, Mapping[str, Any]], folder: Path = Pa
     """The settings that the tables tell; a strategy's file is looked for in the folder. Raises BadSettings."""
     for name in NEEDED:
         if name not in tables:
-            raise BadSettings(f"the table [{name}] is missing: a file has {', '.join(f'[{it}]' for it in NEEDED)}, and may have [agent] and [state]")
+            raise BadSettings(f"the table [{name}] is missing: a file has {', '.join(f'[{needed}]' for needed in NEEDED)}, and may have [agent] and [state]")
     limits = value_of(Limits, tables["limits"], "limits")
     is_stated = "kind" in tables["device"]
     device, member = (_stated_of(tables, limits), "state") if is_stated else _device_of(dict(tables["device"]), folder)
@@ -159,7 +159,7 @@ def _device_of(table: dict[str, Any], folder: Path) -> tuple[Device, str]:
     if member in table:
         raise BadSettings(f"device.{member} is what [state] reads: take it out")
     table[member] = table.get(first, 0.0) if isinstance(first, str) else first
-    table = {"name": model, **{name: tuple(it) if isinstance(it, list) else it for name, it in table.items()}}
+    table = {"name": model, **{name: tuple(value) if isinstance(value, list) else value for name, value in table.items()}}
     try:
         return value_of(kind, table, "device"), member
     except ValueError as error:

@@ -55,8 +55,8 @@ def main(arguments: argparse.Namespace) -> int:
 
 def keep_inputs(recipe: Recipe, output: Path) -> None:
     """Raises RecipeFault if the output would be written over the recipe or one of its tables."""
-    for it in (recipe.path, *(table.file for table in (*recipe.tables, *recipe.prices))):
-        if output.exists() and it.exists() and output.samefile(it):
+    for path in (recipe.path, *(table.file for table in (*recipe.tables, *recipe.prices))):
+        if output.exists() and path.exists() and output.samefile(path):
             raise RecipeFault(f"{output} is the recipe or one of its tables: name another file with -o")
 
 
@@ -67,8 +67,8 @@ def tell(made: Made, output: str) -> None:
     print(f"{output}: {told}", file=sys.stderr)
     for line in made.told:
         print(line, file=sys.stderr)
-    for it in made.looks:
-        if it.warning is not None:
-            print(f"warning: {it.name}: {it.warning}", file=sys.stderr)
+    for look in made.looks:
+        if look.warning is not None:
+            print(f"warning: {look.name}: {look.warning}", file=sys.stderr)
     if made.connection is not None:
         print(f"{output}: its connection to the supplier is {made.connection}", file=sys.stderr)

@@ -80,7 +80,7 @@ def _tables_of(arguments: argparse.Namespace) -> dict[str, dict[str, Any]]:
         tables = read_hub_toml(arguments.config)
     except OSError as error:
         raise BadSettings(f"{arguments.config}: {error.strerror}") from None
-    for member in [it[0] for it in _OPTIONS] + [it[0] for it in _ADDRESSES + _FLAGS]:
+    for member in [option[0] for option in _OPTIONS] + [option[0] for option in _ADDRESSES + _FLAGS]:
         value = getattr(arguments, member)
         if value is not None:
             tables.setdefault("hub", {})[member] = value

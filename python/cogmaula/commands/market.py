@@ -71,8 +71,8 @@ def _init(arguments: argparse.Namespace) -> str:
 
 
 def _add(arguments: argparse.Namespace) -> str:
-    more = {it: value for it in ("fallback", "offer_validity") if (value := getattr(arguments, it)) is not None}
-    told = {it: getattr(arguments, it) for it in ("name", "parent", "child", "least", "greatest", "host", "control")}
+    more = {word: value for word in ("fallback", "offer_validity") if (value := getattr(arguments, word)) is not None}
+    told = {word: getattr(arguments, word) for word in ("name", "parent", "child", "least", "greatest", "host", "control")}
     return "\n".join(add_device(Path(arguments.out), Member("device", more=more, **told)))
 
 

@@ -91,7 +91,7 @@ def add_arguments(parser: argparse.ArgumentParser) -> None:
 def _tables_of(arguments: argparse.Namespace) -> dict[str, dict[str, Any]]:
     """The tables of the settings: those of the file, with the options in them."""
     tables = {} if arguments.config is None else read_toml(arguments.config)
-    for table, member in [it[:2] for it in _OPTIONS] + [it[:2] for it in _FLAGS]:
+    for table, member in [option[:2] for option in _OPTIONS] + [flag[:2] for flag in _FLAGS]:
         value = getattr(arguments, f"{table}.{member}")
         if value is not None:
             tables.setdefault(table, {})[member] = value

@@ -51,9 +51,9 @@ def main(arguments: argparse.Namespace) -> int:
         else:
             program = cli.program_of(arguments)
         outcomes = list(studied(arguments, client, program))
-    faults = [it for it in outcomes if it.fault]
-    for it in faults[:10]:
-        print(f"cogmaula: {it.name}: {it.fault}", file=sys.stderr)
+    faults = [outcome for outcome in outcomes if outcome.fault]
+    for outcome in faults[:10]:
+        print(f"cogmaula: {outcome.name}: {outcome.fault}", file=sys.stderr)
     if faults:
         print(f"cogmaula: {len(faults)} of {len(outcomes)} files have a fault; the table tells each", file=sys.stderr)
     return cli.FAILED if faults else 0
@@ -64,15 +64,15 @@ def studied(arguments: argparse.Namespace, client: Any, program: Program | str |
 
     With --resume the rows that are known are written first. When all is done, the table is in the order of the files.
     """
-    digests = {it: digest_of(it) for it in arguments.files}
+    digests = {file: digest_of(file) for file in arguments.files}
     results = known_of(arguments.output) if arguments.resume else {}
-    known = {it: Outcome(it, digest, results[digest], "") for it, digest in digests.items() if digest in results}
-    files = [it for it in arguments.files if it not in known]
+    known = {file: Outcome(file, digest, results[digest], "") for file, digest in digests.items() if digest in results}
+    files = [file for file in arguments.files if file not in known]
     new: Iterator[Outcome[Summary]] = outcomes_of(
         files, processes=arguments.processes, client=client, program=program, on_error=arguments.on_error, quiet=arguments.quiet
     )
-    found = {it.name: it for it in written(itertools.chain(known.values(), new), arguments.output)}
-    ordered = [found[it] for it in arguments.files]
+    found = {outcome.name: outcome for outcome in written(itertools.chain(known.values(), new), arguments.output)}
+    ordered = [found[file] for file in arguments.files]
     if known:
         write_table(ordered, arguments.output)
     yield from ordered

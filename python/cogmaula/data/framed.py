@@ -36,12 +36,12 @@ def cluster_from_frames(
     Raises TableFault with column and time if rows are not equally far apart or a value is missing, negative or too large; ValueError
     if there is no frame; NoPackage without pandas.
     """
-    given = [(kind, it) for kind, it in (("load", load), ("solar", solar)) if it is not None]
+    given = [(kind, frame) for kind, frame in (("load", load), ("solar", solar)) if frame is not None]
     if not given:
         raise ValueError("there is no frame: give load, solar or both")
     minutes = minutes_of(*given[0])
-    tables = [(Table(Path(kind), kind, parent=parent), measured_of(kind, it, minutes)) for kind, it in given]
-    recipe = Recipe(Path("frames"), minutes, {"min": basis.min, "max": basis.max, "steps": basis.steps}, (), tuple(it for it, _ in tables))
+    tables = [(Table(Path(kind), kind, parent=parent), measured_of(kind, frame, minutes)) for kind, frame in given]
+    recipe = Recipe(Path("frames"), minutes, {"min": basis.min, "max": basis.max, "steps": basis.steps}, (), tuple(table for table, _ in tables))
     return made_of(recipe, tables, list(nodes)).cluster
 
 
@@ -51,7 +51,7 @@ def times_of(kind: str, frame: Any) -> list[Any]:
     if not isinstance(frame, pd.DataFrame) or not isinstance(frame.index, pd.DatetimeIndex) or not len(frame) or not len(frame.columns):
         raise TableFault(f"{kind}: a data frame with rows, columns and a DatetimeIndex is due")
     index = frame.index if frame.index.tz is None else frame.index.tz_convert("UTC")
-    return [it.to_pydatetime() for it in index]
+    return [time.to_pydatetime() for time in index]
 
 
 def minutes_of(kind: str, frame: Any) -> int:
@@ -73,8 +73,8 @@ def measured_of(kind: str, frame: Any, minutes: int) -> Measured:
     most = limits_of(kind, "start")[1]
     powers = []
     for name in frame.columns:
-        for time, it in zip(times, frame[name]):
-            if not 0 <= it <= most:
-                raise TableFault(f"{kind}: column {name} has {it} at {time}: write 0 to {most:,} W, and no value missing")
-        powers.append(tuple(round(it) for it in frame[name].tolist()))
+        for time, power in zip(times, frame[name]):
+            if not 0 <= power <= most:
+                raise TableFault(f"{kind}: column {name} has {power} at {time}: write 0 to {most:,} W, and no value missing")
+        powers.append(tuple(round(power) for power in frame[name].tolist()))
     return Measured(tuple(map(str, frame.columns)), tuple(times), tuple(powers))

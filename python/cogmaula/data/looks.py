@@ -33,8 +33,8 @@ def looks_of(tables: Iterable[tuple[Table, Measured]], minutes: int) -> list[Loo
     """What each column looks like. A row lasts so many minutes."""
     return [
         look_of(table.name_of(name), table.kind, powers, minutes)
-        for table, it in tables
-        for name, powers in zip(it.columns, it.powers)
+        for table, table_data in tables
+        for name, powers in zip(table_data.columns, table_data.powers)
     ]
 
 
@@ -65,7 +65,7 @@ def warning_of(kind: str, powers: Sequence[int], mean: float, zeros: float, minu
 
 def lines_of(looks: Sequence[Look]) -> Iterator[str]:
     """The columns as the lines of a text, with a head."""
-    wide = max(len(it.name) for it in looks)
+    wide = max(len(look.name) for look in looks)
     yield f"{'device':<{wide}}  kind        kWh    least W     mean W     most W  zero"
-    for it in looks:
-        yield f"{it.name:<{wide}}  {it.kind:<5} {it.kwh:>9,.1f} {it.least:>10,} {it.mean:>10,.0f} {it.most:>10,} {it.zeros:>5.0%}"
+    for look in looks:
+        yield f"{look.name:<{wide}}  {look.kind:<5} {look.kwh:>9,.1f} {look.least:>10,} {look.mean:>10,.0f} {look.most:>10,} {look.zeros:>5.0%}"

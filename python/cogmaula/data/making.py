@@ -59,7 +59,7 @@ def from_csv(path: str | Path, begin: date | None = None, end: date | None = Non
 def made_by(path: str | Path, begin: date | None = None, end: date | None = None) -> Made:
     """What the recipe at `path` makes. Arguments and errors are those of `from_csv`."""
     recipe = read_recipe(path)
-    return made_of(recipe, [(it, measured(recipe, it, begin, end)) for it in recipe.tables])
+    return made_of(recipe, [(table, measured(recipe, table, begin, end)) for table in recipe.tables])
 
 
 def measured(recipe: Recipe, table: Table, begin: date | None, end: date | None) -> Measured:
@@ -67,11 +67,11 @@ def measured(recipe: Recipe, table: Table, begin: date | None, end: date | None)
     found = read_table(table, recipe.minutes, recipe.timezone, recipe.missing)
     for column in table.parents or {}:
         if column not in found.columns:
-            likely = get_close_matches(column.casefold(), [it.casefold() for it in found.columns], 1)
-            meant = next((it for it in found.columns if [it.casefold()] == likely), None)
+            likely = get_close_matches(column.casefold(), [column.casefold() for column in found.columns], 1)
+            meant = next((column for column in found.columns if [column.casefold()] == likely), None)
             told = f": is {meant!r} meant?" if meant else f": it has {', '.join(found.columns[:8])}"
             raise RecipeFault(f"{recipe.path}: {table.file.name}: parents names {column!r}, which is no column{told}")
-    begin, end = (None if it is None else comparable(moment_of(it, found.times[0]), recipe, found.times[0]) for it in (begin, end))
+    begin, end = (None if text is None else comparable(moment_of(text, found.times[0]), recipe, found.times[0]) for text in (begin, end))
     cut = found.between(begin, end)
     return cut if recipe.tick == recipe.minutes else cut.resampled(table.file.name, recipe.minutes, recipe.tick)
 
@@ -92,16 +92,16 @@ def first_time(tables: Sequence[tuple[Table, Measured]]) -> datetime:
     first = tables[0][1].times
     if not first:
         raise TableFault(f"{tables[0][0].file}: no row lies between the times that were asked for")
-    for table, it in tables[1:]:
-        if it.times != first:
-            told = f"{table.file}: its rows go from {span_of(it)}, and those of {tables[0][0].file} from {span_of(tables[0][1])}"
+    for table, data in tables[1:]:
+        if data.times != first:
+            told = f"{table.file}: its rows go from {span_of(data)}, and those of {tables[0][0].file} from {span_of(tables[0][1])}"
             raise TableFault(f"{told}: cut them to the same span")
     return first[0]
 
 
-def span_of(it: Measured) -> str:
+def span_of(data: Measured) -> str:
     """The first and the last time of a table, in words."""
-    return f"{it.times[0].isoformat()} to {it.times[-1].isoformat()}" if it.times else "nowhere to nowhere"
+    return f"{data.times[0].isoformat()} to {data.times[-1].isoformat()}" if data.times else "nowhere to nowhere"
 
 
 def made_of(recipe: Recipe, tables: Sequence[tuple[Table, Measured]], before: Sequence[Node] = ()) -> Made:
@@ -111,17 +111,17 @@ def made_of(recipe: Recipe, tables: Sequence[tuple[Table, Measured]], before: Se
     tick, with the changes of the loads, the solar panels and the suppliers in a phase before it. What stays the same has no change.
     """
     first = first_time(tables)
-    series = [(table, name, powers) for table, it in tables for name, powers in zip(it.columns, it.powers)]
-    nodes = [*before, *(it for at, told in enumerate(recipe.nodes) for it in nodes_of(f"nodes[{at}]", told))]
+    series = [(table, name, powers) for table, data in tables for name, powers in zip(data.columns, data.powers)]
+    nodes = [*before, *(node for at, told in enumerate(recipe.nodes) for node in nodes_of(f"nodes[{at}]", told))]
     basis = basis_of(recipe.basis)
-    suppliers, told = suppliers_of(recipe, basis, tables[0][1].times, power_of(nodes, [it[2] for it in series]))
-    told = [line for _, it in tables for line in it.told] + told
-    devices: list[Node] = [Manual(it.name, parent=it.parent, points=it.points[0]) for it in suppliers]
+    suppliers, told = suppliers_of(recipe, basis, tables[0][1].times, power_of(nodes, [points[2] for points in series]))
+    told = [line for _, data in tables for line in data.told] + told
+    devices: list[Node] = [Manual(supplier.name, parent=supplier.parent, points=supplier.points[0]) for supplier in suppliers]
     for table, name, powers in series:
         kind = Load if table.kind == "load" else Solar
         devices.append(kind(table.name_of(name), parent=table.parent_of(name), start=powers[0]))
     nodes += devices
-    version = 2 if any(it.kind == "limited" for it in nodes) else 1
+    version = 2 if any(node.kind == "limited" for node in nodes) else 1
     cluster = Cluster(basis, nodes, version=version)
     phases = phases_of(recipe.tick, suppliers, {table.name_of(name): powers for table, name, powers in series})
     cluster = cluster.with_phases(cluster.join_all(), *phases)
@@ -140,41 +140,41 @@ def basis_of(told: Mapping[str, Any]) -> Basis:
     if set(told) != {"min", "max", "steps"}:
         raise RecipeFault("[basis] has other words than min, max and steps")
     try:
-        return Basis(**{word: whole(f"basis: {word}", it) for word, it in told.items()})
+        return Basis(**{word: whole(f"basis: {word}", value) for word, value in told.items()})
     except TypeError as fault:
         raise RecipeFault(str(fault)) from None
 
 
 def nodes_of(place: str, told: Mapping[str, Any]) -> list[Node]:
     """The nodes that a node of a recipe makes: itself, or the slices of a battery."""
-    node = node_of(place, {word: it for word, it in told.items() if word != SLICES})
+    node = node_of(place, {word: value for word, value in told.items() if word != SLICES})
     if SLICES not in told:
         return [node]
     try:
         if not isinstance(node, Battery):
             raise ValueError("only a battery has slices")
-        return list(Battery(**{it: value for it, value in node.members().items() if it != "kind"}).sliced(whole("slices", told[SLICES])))
+        return list(Battery(**{word: value for word, value in node.members().items() if word != "kind"}).sliced(whole("slices", told[SLICES])))
     except (TypeError, ValueError) as fault:
         raise Unreadable(place, str(fault)) from None
 
 
 def power_of(nodes: Sequence[Node], series: Sequence[Sequence[int]]) -> int:
     """A whole number of kilowatts, in watts, that is more than all these take or deliver at once: the power of a supplier."""
-    most = sum(max(it) for it in series)
-    for it in nodes:
-        watts = [value for word, value in it.members().items() if word in ("charge", "discharge", "power", "start") and isinstance(value, int)]
-        if isinstance(it, Manual):
-            watts += [*(it.demand or ()), *(pair[1] for pair in it.points or ())]
+    most = sum(max(powers) for powers in series)
+    for node in nodes:
+        watts = [value for word, value in node.members().items() if word in ("charge", "discharge", "power", "start") and isinstance(value, int)]
+        if isinstance(node, Manual):
+            watts += [*(node.demand or ()), *(pair[1] for pair in node.points or ())]
         most += max((abs(value) for value in watts), default=0)
     return (most // 1000 + 1) * 1000
 
 
 def suppliers_of(recipe: Recipe, basis: Basis, times: Sequence[datetime], power: int) -> tuple[list[Supplier], list[str]]:
     """The suppliers of a recipe, and the lines that tell how their prices were rounded."""
-    found = [price_supplier(recipe, it, basis, times, power) for it in recipe.prices]
+    found = [price_supplier(recipe, price, basis, times, power) for price in recipe.prices]
     if recipe.connection is not None:
         found.insert(0, connection_supplier(recipe, recipe.connection, basis, times, power))
-    return [it[0] for it in found], [line for it in found for line in it[1]]
+    return [supplied[0] for supplied in found], [line for supplied in found for line in supplied[1]]
 
 
 def connection_of(recipe: Recipe) -> str | None:
@@ -187,10 +187,10 @@ def connection_of(recipe: Recipe) -> str | None:
 def phases_of(minutes: int, suppliers: Sequence[Supplier], series: Mapping[str, Sequence[int]]) -> Iterator[Phase]:
     """The phases behind the joins: each row is a tick behind the changes that it brings."""
     yield Tick(minutes)
-    bids: dict[str, tuple[Points, ...]] = {it.name: it.points for it in suppliers}
+    bids: dict[str, tuple[Points, ...]] = {supplier.name: supplier.points for supplier in suppliers}
     for row in range(1, len(next(iter(series.values())))):
-        changed: list[Event] = [State(name, points=it[row]) for name, it in bids.items() if it[row] != it[row - 1]]
-        changed += [State(name, it[row]) for name, it in series.items() if it[row] != it[row - 1]]
+        changed: list[Event] = [State(name, points=column[row]) for name, column in bids.items() if column[row] != column[row - 1]]
+        changed += [State(name, column[row]) for name, column in series.items() if column[row] != column[row - 1]]
         if changed:
             yield Events(changed)
         yield Tick(minutes)

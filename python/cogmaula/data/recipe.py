@@ -127,13 +127,13 @@ class Connection:
 
     def __post_init__(self) -> None:
         """Raises RecipeFault if one would sell at more than the price of buying."""
-        for it in (Window(time(), time()), *self.windows):
-            if (self.buy if it.buy is None else it.buy) < (self.sell if it.sell is None else it.sell):
+        for window in (Window(time(), time()), *self.windows):
+            if (self.buy if window.buy is None else window.buy) < (self.sell if window.sell is None else window.sell):
                 raise RecipeFault("one cannot sell at more than the price of buying")
 
     def prices_at(self, day: int, at: time) -> tuple[Decimal, Decimal]:
         """The prices of buying and selling on a day of the week at a time."""
-        found = next((it for it in self.windows if it.holds(day, at)), None)
+        found = next((window for window in self.windows if window.holds(day, at)), None)
         if found is None:
             return self.buy, self.sell
         return self.buy if found.buy is None else found.buy, self.sell if found.sell is None else found.sell
@@ -213,10 +213,10 @@ def recipe_of(path: Path, told: Mapping[str, Any]) -> Recipe:
         one_of("missing", missing, MISSING)
     unit = told.get("unit", "ct/kWh")
     one_of("unit", unit, tuple(PRICE_UNITS))
-    tables = tuple(at_place(f"table {at}", lambda: table_of(path, it)) for at, it in enumerate(maps_of(told, "table"), 1))
-    prices = tuple(at_place(f"price {at}", lambda: price_of(path, it)) for at, it in enumerate(maps_of(told, "price"), 1))
+    tables = tuple(at_place(f"table {at}", lambda: table_of(path, members)) for at, members in enumerate(maps_of(told, "table"), 1))
+    prices = tuple(at_place(f"price {at}", lambda: price_of(path, members)) for at, members in enumerate(maps_of(told, "price"), 1))
     connection = at_place("connection", lambda: connection_of(told["connection"])) if "connection" in told else None
-    nodes = tuple(at_place(f"node {at}", lambda: plain(it)) for at, it in enumerate(maps_of(told, "node"), 1))
+    nodes = tuple(at_place(f"node {at}", lambda: plain(members)) for at, members in enumerate(maps_of(told, "node"), 1))
     return Recipe(path, minutes, basis, nodes, tables, resample, missing, timezone, unit, prices, connection)
 
 
@@ -246,14 +246,14 @@ def connection_of(told: Any) -> Connection:
     if not isinstance(told, dict):
         raise RecipeFault("it is no table: write [connection] with buy and sell below it")
     refuse_words(told, CONNECTION_WORDS, {"buy", "sell"})
-    windows = tuple(at_place(f"time {at}", lambda: window_of(it)) for at, it in enumerate(maps_of(told, "time"), 1))
-    return Connection(**typed({word: it for word, it in told.items() if word != "time"}), windows=windows)
+    windows = tuple(at_place(f"time {at}", lambda: window_of(members)) for at, members in enumerate(maps_of(told, "time"), 1))
+    return Connection(**typed({word: value for word, value in told.items() if word != "time"}), windows=windows)
 
 
 def window_of(told: Mapping[str, Any]) -> Window:
     """The time of use that a recipe describes."""
     refuse_words(told, WINDOW_WORDS, {"from", "until"})
-    others = typed({word: it for word, it in told.items() if word not in ("from", "until")})
+    others = typed({word: value for word, value in told.items() if word not in ("from", "until")})
     one_of("days", others.get("days", "all"), DAYS)
     return Window(clock_of("from", told["from"]), clock_of("until", told["until"]), **others)
 
@@ -279,7 +279,7 @@ def typed(told: Mapping[str, Any]) -> dict[str, Any]:
         elif word in WHOLE:
             found[word] = whole_of(word, value)
         elif word in MAPS:
-            if not isinstance(value, dict) or not all(isinstance(it, str) for it in value.values()):
+            if not isinstance(value, dict) or not all(isinstance(word, str) for word in value.values()):
                 raise RecipeFault(f"{word} is {value!r}: write a table of texts, such as {{house02 = \"feeder2\"}}")
             found[word] = value
         else:
@@ -332,7 +332,7 @@ def one_of(word: str, value: Any, allowed: tuple[str, ...]) -> None:
 def maps_of(told: Mapping[str, Any], word: str) -> list[dict[str, Any]]:
     """The tables that a recipe has below [[word]]."""
     found = told.get(word, [])
-    if not isinstance(found, list) or not all(isinstance(it, dict) for it in found):
+    if not isinstance(found, list) or not all(isinstance(table, dict) for table in found):
         raise RecipeFault(f"{word} is no list of tables: write [[{word}]] above each")
     return found
 

@@ -55,12 +55,12 @@ def read_rows(sheet: Sheet, zone: ZoneInfo | None) -> Rows:
         if len(row) != len(names) + 1:
             raise TableFault(f"{sheet.file}:{line}: the line has {len(row)} cells, and the first line has {len(names) + 1}")
     times = times_of(sheet, [(line, row[0]) for line, row in rows[1:]], zone)
-    return Rows(tuple(names), tuple(it[0] for it in rows[1:]), tuple(times), tuple(tuple(it[1][1:]) for it in rows[1:]))
+    return Rows(tuple(names), tuple(row[0] for row in rows[1:]), tuple(times), tuple(tuple(row[1][1:]) for row in rows[1:]))
 
 
 def names_of(sheet: Sheet, cells: Sequence[str]) -> list[str]:
     """The names of the columns behind that of the time."""
-    names = [it.strip() for it in cells[1:]]
+    names = [cell.strip() for cell in cells[1:]]
     if not names:
         raise TableFault(f"{sheet.file}:1: the table has no column beside the time: is the delimiter {sheet.delimiter!r}?")
     for at, name in enumerate(names, 2):
@@ -91,7 +91,7 @@ def times_of(sheet: Sheet, cells: Sequence[tuple[int, str]], zone: ZoneInfo | No
 
 def in_zone(place: str, local: datetime, zone: ZoneInfo, before: datetime | None) -> datetime:
     """The moment, in UTC, of a local time. If the clock shows it twice, it is the first that lies behind the row before."""
-    first, second = (local.replace(tzinfo=zone, fold=it).astimezone(UTC) for it in (0, 1))
+    first, second = (local.replace(tzinfo=zone, fold=fold).astimezone(UTC) for fold in (0, 1))
     if first.astimezone(zone).replace(tzinfo=None) != local:
         told = f"{local.isoformat()} is on no clock of {zone.key}: summer time begins there"
         raise TableFault(f"{place}: {told}. Write the times with offsets, or take timezone out of the recipe if no clock was changed")

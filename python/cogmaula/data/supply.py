@@ -20,7 +20,7 @@ SUPPLY_WORDS = {"currency", "buy", "sell", "fee", "vat", "time", "prices", "hous
 PRICES_WORDS = {"file", "unit", "minutes", "markup", "delimiter", "decimal"}
 DAYS = {"all": tuple(range(7)), "weekdays": tuple(range(5)), "weekend": (5, 6)}
 # What a price of 1 in a unit is in the currency by the kilowatt-hour.
-PER_KWH = {unit: it / 1000 for unit, it in PRICE_UNITS.items()}
+PER_KWH = {unit: amount / 1000 for unit, amount in PRICE_UNITS.items()}
 # The one household of a file that names none.
 ALL_DEVICES = "all devices"
 
@@ -82,8 +82,8 @@ def supply_of(path: Path, told: Mapping[str, Any], timezone: ZoneInfo | None) ->
     if "prices" in told:
         series, markup = at_place("prices", lambda: series_of(path, told["prices"], timezone))
         buy, sell = (series + markup if buy is None else buy), (series if sell is None else sell)
-    fee, vat = (0.0 if it is None else it for it in numbers_of(told, "fee", "vat"))
-    hours = tuple(at_place(f"time {at}", lambda: hours_of(window_of(it))) for at, it in enumerate(maps_of(told, "time"), 1))
+    fee, vat = (0.0 if value is None else value for value in numbers_of(told, "fee", "vat"))
+    hours = tuple(at_place(f"time {at}", lambda: hours_of(window_of(members))) for at, members in enumerate(maps_of(told, "time"), 1))
     return Supply(Tariff(text_of("currency", told["currency"]), buy, sell, hours, fee, vat), households_of(told.get("households", {})))
 
 
@@ -102,7 +102,7 @@ def numbers_of(told: Mapping[str, Any], *words: str) -> list[float | None]:
 
 def hours_of(window: Window) -> Hours:
     """The hours of a tariff that a window of a recipe is."""
-    buy, sell = (None if it is None else float(it) for it in (window.buy, window.sell))
+    buy, sell = (None if price is None else float(price) for price in (window.buy, window.sell))
     return Hours(window.begin, window.end, buy, sell, DAYS[window.days])
 
 
@@ -133,7 +133,7 @@ def households_of(told: Any) -> dict[str, tuple[str, ...]]:
     found: dict[str, tuple[str, ...]] = {}
     owners: dict[str, str] = {}
     for household, devices in told.items():
-        if not isinstance(devices, list) or not devices or not all(isinstance(it, str) for it in devices):
+        if not isinstance(devices, list) or not devices or not all(isinstance(name, str) for name in devices):
             raise RecipeFault(f"households: {household} is {devices!r}: write a list of its devices")
         for name in devices:
             if owners.setdefault(name, household) != household or devices.count(name) > 1:

@@ -33,9 +33,9 @@ class Measured:
 
     def between(self, begin: datetime | None, end: datetime | None) -> Measured:
         """The rows from `begin` on and before `end`; None sets no limit."""
-        rows = [at for at, it in enumerate(self.times) if (begin is None or begin <= it) and (end is None or it < end)]
-        powers = tuple(tuple(it[at] for at in rows) for it in self.powers)
-        return Measured(self.columns, tuple(self.times[it] for it in rows), powers, self.told)
+        rows = [at for at, time in enumerate(self.times) if (begin is None or begin <= time) and (end is None or time < end)]
+        powers = tuple(tuple(column[at] for at in rows) for column in self.powers)
+        return Measured(self.columns, tuple(self.times[row] for row in rows), powers, self.told)
 
     def resampled(self, name: str, minutes: int, wanted: int) -> Measured:
         """The means over intervals of `wanted` minutes of rows of `minutes`, in whole watts, halves to even.
@@ -44,14 +44,14 @@ class Measured:
         """
         if wanted <= minutes:
             parts = minutes // wanted
-            times = [it + timedelta(minutes=wanted * at) for it in self.times for at in range(parts)]
-            return Measured(self.columns, tuple(times), tuple(tuple(it for it in row for _ in range(parts)) for row in self.powers), self.told)
+            times = [time + timedelta(minutes=wanted * at) for time in self.times for at in range(parts)]
+            return Measured(self.columns, tuple(times), tuple(tuple(power for power in column for _ in range(parts)) for column in self.powers), self.told)
         rows = wanted // minutes
         whole = len(self.times) // rows
         told = [f"{name}: {rows} rows make a tick of {wanted} minutes, by their mean"]
         if rest := len(self.times) - whole * rows:
             told.append(f"{name}: the last {counted(rest, 'row')} fill no tick and are left out")
-        powers = tuple(tuple(round(Fraction(sum(it[at * rows : (at + 1) * rows]), rows)) for at in range(whole)) for it in self.powers)
+        powers = tuple(tuple(round(Fraction(sum(column[at * rows : (at + 1) * rows]), rows)) for at in range(whole)) for column in self.powers)
         return Measured(self.columns, self.times[: whole * rows : rows], powers, (*self.told, *told))
 
 
@@ -72,7 +72,7 @@ def read_table(table: Table, minutes: int, zone: ZoneInfo | None = None, missing
         for line, cells in zip(rows.lines, rows.cells)
     ]
     columns = tuple(
-        filled(table, name, [None if it is None else powers[it][at] for it in order], missing) for at, name in enumerate(rows.names)
+        filled(table, name, [None if row is None else powers[row][at] for row in order], missing) for at, name in enumerate(rows.names)
     )
     begin, step = rows.times[0], timedelta(minutes=minutes)
     times = tuple(begin + step * at for at in range(len(order)))
@@ -81,7 +81,7 @@ def read_table(table: Table, minutes: int, zone: ZoneInfo | None = None, missing
 
 def told_of(table: Table, order: Sequence[int | None], powers: Sequence[Sequence[int | None]], missing: str | None) -> list[str]:
     """The line that tells how much is missing, if anything is."""
-    rows, cells = sum(it is None for it in order), sum(it is None for row in powers for it in row)
+    rows, cells = sum(row is None for row in order), sum(power is None for row in powers for power in row)
     if not rows and not cells:
         return []
     how = "0 W" if missing == "zero" else "the value before"
@@ -96,10 +96,10 @@ def counted(number: int, what: str) -> str:
 def filled(table: Table, name: str, powers: Sequence[int | None], missing: str | None) -> tuple[int, ...]:
     """The powers of a column, with what is missing filled in."""
     found: list[int] = []
-    for it in powers:
-        if it is None and missing == "hold" and not found:
+    for power in powers:
+        if power is None and missing == "hold" and not found:
             raise TableFault(f"{table.file}: column {name} begins with an empty cell, which no value comes before: fill it, or begin later")
-        found.append(it if it is not None else 0 if missing == "zero" else found[-1])
+        found.append(power if power is not None else 0 if missing == "zero" else found[-1])
     return tuple(found)
 
 

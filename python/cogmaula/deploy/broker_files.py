@@ -48,7 +48,7 @@ def rights_text(tree: Tree) -> str:
     """The broker's list of rights."""
     lines = ["# Made by `cogmaula market`. Who may read and write what: each login has its own topics, and no other."]
     for login, rights in tree.rights().items():
-        lines += ["", f"user {login}", *(f"topic {it.access} {it.topic}" for it in rights)]
+        lines += ["", f"user {login}", *(f"topic {right.access} {right.topic}" for right in rights)]
     return "\n".join(lines) + "\n"
 
 

@@ -50,8 +50,8 @@ NODE = """
 def compose_text(tree: Tree) -> str:
     """The file of compose. The broker's container has the name by which nodes know the broker."""
     text = FIRST.replace("@host@", json.dumps(tree.broker.host))
-    for it in tree.members:
-        text += NODE.replace("@name@", it.name).replace("@sort@", it.sort)
-    clients = "".join(f', "./{it}:/etc/clients/{it}:ro"' for it in login_folders(tree))
+    for member in tree.members:
+        text += NODE.replace("@name@", member.name).replace("@sort@", member.sort)
+    clients = "".join(f', "./{folder}:/etc/clients/{folder}:ro"' for folder in login_folders(tree))
     text += CLIENT.replace("@clients@", clients)
-    return text + "\nvolumes:\n  broker:\n" + "".join(f"  {it.name}:\n" for it in tree.members)
+    return text + "\nvolumes:\n  broker:\n" + "".join(f"  {member.name}:\n" for member in tree.members)

@@ -44,7 +44,7 @@ def node_text(member: Member, logins: Iterable[str]) -> str:
     unit = unit_of(member)
     return _FIRST.format(what=f"Puts the files of the {member.sort} {member.name} on this machine, and starts it.", etc=ETC) + (
         f"install -m 644 ca.crt {member.name}.toml {ETC}\n"
-        f"install -m 600 {' '.join(f'{it}.password' for it in logins)} {ETC}\n"
+        f"install -m 600 {' '.join(f'{login}.password' for login in logins)} {ETC}\n"
         f"install -m 644 {unit}.service /etc/systemd/system\n"
         f"systemctl daemon-reload\nsystemctl enable {unit}\nsystemctl restart {unit}\n"
     )

@@ -34,22 +34,22 @@ def add_device(out: Path, device: Member) -> list[str]:
     before = read_tree(out / TREE)
     tree = before.with_device(device)
     _make(tree, out)
-    changed = ["broker", device.parent or "", *(it for it in _folders(tree) if it not in _folders(before))]
+    changed = ["broker", device.parent or "", *(folder for folder in _folders(tree) if folder not in _folders(before))]
     first = ["Let the broker read its files again, by SIGHUP."] if tree.market.here else []
     return [*first, *_lines(tree, out, changed)]
 
 
 def _folders(tree: Tree) -> dict[str, str]:
     """Each folder, and the machine that it is for."""
-    machines = {it.name: it.host or f"the machine of {it.name}" for it in tree.members}
-    others = {it: f"the machine of {it}" for it in node_files.folders_of(tree) if it not in machines}
+    machines = {member.name: member.host or f"the machine of {member.name}" for member in tree.members}
+    others = {folder: f"the machine of {folder}" for folder in node_files.folders_of(tree) if folder not in machines}
     return {"broker": tree.broker.host, **machines, **others}
 
 
 def _make(tree: Tree, out: Path) -> None:
     """Makes what is lacking, and all that follows from the tree anew."""
     places = Places(out, tree.market.here)
-    texts = {it.name: node_files.settings_text(tree, it, places) for it in tree.members}
+    texts = {member.name: node_files.settings_text(tree, member, places) for member in tree.members}
     out.mkdir(mode=0o700, parents=True, exist_ok=True)
     authority, broker = out / AUTHORITY, out / "broker"
     broker.mkdir(mode=0o700, exist_ok=True)
@@ -95,7 +95,7 @@ def _make_broker(tree: Tree, places: Places) -> None:
 def _lines(tree: Tree, out: Path, changed: list[str]) -> list[str]:
     """What to do with the folders that changed."""
     if tree.market.here:
-        return [f"cogmaula node {it.sort} --config {out / it.name / it.name}.toml" for it in tree.members if it.name in changed]
+        return [f"cogmaula node {member.sort} --config {out / member.name / member.name}.toml" for member in tree.members if member.name in changed]
     machines: Mapping[str, str] = _folders(tree)
     by_machine: dict[str, list[str]] = {}
     for folder in changed:

@@ -38,10 +38,10 @@ def tables_of(tree: Tree, member: Member, places: Places) -> dict[str, dict[str,
     if member.device is not None:
         found["device"] = dict(member.device)
     bounds: dict[str, Any] = {}
-    for it in tree.children(member.name):
-        pause = DEVICE_PAUSE if it.sort == "device" and "child_pause" not in member.more else None
-        told = {"child": it.child, "sort": it.sort, "least": it.least, "greatest": it.greatest, "pause": pause}
-        bounds[it.name] = {name: value for name, value in told.items() if value is not None}
+    for child in tree.children(member.name):
+        pause = DEVICE_PAUSE if child.sort == "device" and "child_pause" not in member.more else None
+        told = {"child": child.child, "sort": child.sort, "least": child.least, "greatest": child.greatest, "pause": pause}
+        bounds[child.name] = {name: value for name, value in told.items() if value is not None}
     return {**found, "children": bounds} if bounds else found
 
 
@@ -54,7 +54,7 @@ def settings_text(tree: Tree, member: Member, places: Places) -> str:
 
 def require_settings(member: Member, tables: dict[str, dict[str, Any]]) -> Settings:
     """The settings that a node takes from these tables. Raises BadSettings, with the name of the node."""
-    told = {name: {it: value for it, value in table.items() if value is not None} for name, table in tables.items()}
+    told = {name: {key: value for key, value in table.items() if value is not None} for name, table in tables.items()}
     told["children"] = tables.get("children", {})
     try:
         return settings_of(member.sort, told)
@@ -96,14 +96,14 @@ def unit_text(tree: Tree, member: Member) -> str:
 def folders_of(tree: Tree) -> dict[str, list[str]]:
     """Each folder of files beside that of the broker, and the logins whose passwords are there."""
     found: dict[str, list[str]] = {}
-    for it in tree.members:
-        found[it.name] = [it.name] + ([it.name + PAGE] if it.page is not None and it.page.get("whole") else [])
-        if it.control:
-            found[it.name + CONTROL] = [it.name + CONTROL]
-    return {**found, **{it.name: [it.name] for it in tree.logins}}
+    for member in tree.members:
+        found[member.name] = [member.name] + ([member.name + PAGE] if member.page is not None and member.page.get("whole") else [])
+        if member.control:
+            found[member.name + CONTROL] = [member.name + CONTROL]
+    return {**found, **{login.name: [login.name] for login in tree.logins}}
 
 
 def login_folders(tree: Tree) -> list[str]:
     """The folders of those who are no nodes."""
-    nodes = {it.name for it in tree.members}
-    return [it for it in folders_of(tree) if it not in nodes]
+    nodes = {member.name for member in tree.members}
+    return [folder for folder in folders_of(tree) if folder not in nodes]

@@ -16,12 +16,12 @@ def toml_text(tables: Mapping[str, Mapping[str, Any]]) -> str:
 
 
 def _write(lines: list[str], name: str, table: Mapping[str, Any]) -> None:
-    members = {it: value for it, value in table.items() if value is not None and not isinstance(value, Mapping)}
+    members = {key: value for key, value in table.items() if value is not None and not isinstance(value, Mapping)}
     if members:
-        lines += ["", f"[{name}]", *(f"{it} = {_value(value)}" for it, value in members.items())]
-    for it, value in table.items():
+        lines += ["", f"[{name}]", *(f"{key} = {_value(value)}" for key, value in members.items())]
+    for key, value in table.items():
         if isinstance(value, Mapping):
-            _write(lines, f"{name}.{it}", value)
+            _write(lines, f"{name}.{key}", value)
 
 
 def _value(value: object) -> str:

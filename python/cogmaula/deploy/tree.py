@@ -115,49 +115,49 @@ class Tree:
 
     def __post_init__(self) -> None:
         """Raises BadSettings."""
-        names = [it.name for it in self.members] + [it.name for it in self.logins]
+        names = [member.name for member in self.members] + [login.name for login in self.logins]
         for name in names:
             if names.count(name) > 1 or name in TAKEN:
                 raise BadSettings(f"{name} is {'there twice' if name not in TAKEN else 'a name of another folder'}: give another name")
         self._require_tree()
         for login in self.logins:
-            relays = [it.name for it in self.members if it.sort == "relay" and it.more.get("limits_from")]
-            if lacking := [it for it in login.relays if it not in relays]:
+            relays = [member.name for member in self.members if member.sort == "relay" and member.more.get("limits_from")]
+            if lacking := [relay for relay in login.relays if relay not in relays]:
                 raise BadSettings(f"logins.{login.name} limits {', '.join(lacking)}, no relay with limits_from = true")
             if (login.role == "grid operator") != bool(login.relays):
                 raise BadSettings(f"logins.{login.name}: relays go with the role grid operator")
 
     def _require_tree(self) -> None:
         """Raises BadSettings unless each node has a place of its own below another one, and the auctioneer above it."""
-        known, places = {it.name: it for it in self.members}, set()
-        for it in self.members:
-            if it.parent is None:
+        known, places = {member.name: member for member in self.members}, set()
+        for member in self.members:
+            if member.parent is None:
                 continue
-            above = known.get(it.parent)
+            above = known.get(member.parent)
             if above is None or above.sort == "device":
-                raise BadSettings(f"{it.name} has the parent {it.parent}, which is no relay and no auctioneer of the file")
-            if (it.parent, it.child) in places or it.child is None:
-                raise BadSettings(f"child {it.child} of {it.parent} is there twice: give {it.name} another number, or none")
-            places.add((it.parent, it.child))
-            seen = {it.name}
+                raise BadSettings(f"{member.name} has the parent {member.parent}, which is no relay and no auctioneer of the file")
+            if (member.parent, member.child) in places or member.child is None:
+                raise BadSettings(f"child {member.child} of {member.parent} is there twice: give {member.name} another number, or none")
+            places.add((member.parent, member.child))
+            seen = {member.name}
             while above is not None and above.parent is not None:
                 if above.name in seen:
-                    raise BadSettings(f"{it.name} is below itself")
+                    raise BadSettings(f"{member.name} is below itself")
                 seen.add(above.name)
                 above = known.get(above.parent)
-            if len(seen) - (it.sort == "device") > MOST_RELAYS:
-                raise BadSettings(f"{it.name} is below more than {MOST_RELAYS} relays: give it a parent nearer to the auctioneer")
+            if len(seen) - (member.sort == "device") > MOST_RELAYS:
+                raise BadSettings(f"{member.name} is below more than {MOST_RELAYS} relays: give it a parent nearer to the auctioneer")
 
     def member(self, name: str) -> Member:
         """A node by its name. Raises BadSettings."""
-        found = next((it for it in self.members if it.name == name), None)
+        found = next((member for member in self.members if member.name == name), None)
         if found is None:
             raise BadSettings(f"no node is called {name}")
         return found
 
     def children(self, name: str) -> list[Member]:
         """The nodes directly below one, by their numbers."""
-        return sorted((it for it in self.members if it.parent == name), key=lambda it: it.child or 0)
+        return sorted((member for member in self.members if member.parent == name), key=lambda member: member.child or 0)
 
     @property
     def topics(self) -> Topics:
@@ -167,15 +167,15 @@ class Tree:
     def rights(self) -> dict[str, list[Right]]:
         """What each login at the broker may do, by its name."""
         topics, found = self.topics, {}
-        places = [(it.parent, it.child) for it in self.members if it.parent is not None and it.child is not None]
-        for it in self.members:
-            children = {below.child: below.name for below in self.children(it.name) if below.child is not None}
-            place = Place(it.sort, it.name, it.parent, it.child, children, bool(it.more.get("limits_from")))
-            found[it.name] = rights_of_node(topics, place)
-            if it.control:
-                found[it.name + CONTROL] = rights_of_control(topics, it.name)
-            if it.page is not None and it.page.get("whole"):
-                found[it.name + PAGE] = rights_of_reader(topics)
+        places = [(member.parent, member.child) for member in self.members if member.parent is not None and member.child is not None]
+        for member in self.members:
+            children = {below.child: below.name for below in self.children(member.name) if below.child is not None}
+            place = Place(member.sort, member.name, member.parent, member.child, children, bool(member.more.get("limits_from")))
+            found[member.name] = rights_of_node(topics, place)
+            if member.control:
+                found[member.name + CONTROL] = rights_of_control(topics, member.name)
+            if member.page is not None and member.page.get("whole"):
+                found[member.name + PAGE] = rights_of_reader(topics)
         for login in self.logins:
             match login.role:
                 case "operator":
@@ -190,7 +190,7 @@ class Tree:
         """The tree with one more device. Without a number it gets the one behind the greatest of its parent. Raises BadSettings."""
         parent = self.member(device.parent or "")
         if device.child is None:
-            numbers = [it.child or 0 for it in self.children(parent.name)]
+            numbers = [child.child or 0 for child in self.children(parent.name)]
             number = max(numbers, default=0) + 1
             number += number == _giver_of(parent)
             device = replace(device, child=_require_child(number, device.name))
@@ -198,16 +198,16 @@ class Tree:
 
     def to_tables(self) -> dict[str, dict[str, Any]]:
         """The tables of a file that names this market, with all numbers."""
-        found: dict[str, dict[str, Any]] = {it: dict(vars(getattr(self, it))) for it in ("market", "basis", "broker")}
-        for it in self.members:
-            own = {name: getattr(it, name) for name in ("parent", "child", "least", "greatest", "host")}
-            told = {**own, "control": it.control or None, **it.more, "page": it.page, "device": it.device}
-            if it.sort == "auctioneer":
-                found["auctioneer"] = {"name": it.name, **told}
+        found: dict[str, dict[str, Any]] = {part: dict(vars(getattr(self, part))) for part in ("market", "basis", "broker")}
+        for member in self.members:
+            own = {name: getattr(member, name) for name in ("parent", "child", "least", "greatest", "host")}
+            told = {**own, "control": member.control or None, **member.more, "page": member.page, "device": member.device}
+            if member.sort == "auctioneer":
+                found["auctioneer"] = {"name": member.name, **told}
             else:
-                found.setdefault(f"{it.sort}s", {})[it.name] = told
+                found.setdefault(f"{member.sort}s", {})[member.name] = told
         if self.logins:
-            found["logins"] = {it.name: {"role": it.role, "relays": list(it.relays) or None} for it in self.logins}
+            found["logins"] = {login.name: {"role": login.role, "relays": list(login.relays) or None} for login in self.logins}
         return found
 
 
@@ -256,7 +256,7 @@ def _table(value: object, name: str) -> Mapping[str, Any]:
 
 def _member(sort: Sort, name: str, table: Mapping[str, Any]) -> Member:
     require_name(name, f"a {sort}")
-    own = {it: table[it] for it in _OWN if it in table}
+    own = {word: table[word] for word in _OWN if word in table}
     page = own.get("page")
     if isinstance(page, str):
         own["page"] = {"listen": page, "whole": True}
@@ -264,14 +264,14 @@ def _member(sort: Sort, name: str, table: Mapping[str, Any]) -> Member:
         own["page"] = dict(_table(page, f"page of {name}"))
     if "device" in own:
         own["device"] = dict(_table(own["device"], f"device of {name}"))
-    for it, kind in (("parent", str), ("child", int), ("least", int), ("greatest", int), ("host", str), ("control", bool)):
-        if it in own and (type(own[it]) is not kind):
-            raise BadSettings(f"{it} of {name} is {own[it]!r}: give {'a text' if kind is str else 'a whole number' if kind is int else 'true or false'}")
+    for word, kind in (("parent", str), ("child", int), ("least", int), ("greatest", int), ("host", str), ("control", bool)):
+        if word in own and (type(own[word]) is not kind):
+            raise BadSettings(f"{word} of {name} is {own[word]!r}: give {'a text' if kind is str else 'a whole number' if kind is int else 'true or false'}")
     if own.get("control") and sort != "device":
         raise BadSettings(f"control of {name} is for a device: take it out")
     if wrong := {"name", "state", "new_session", "leave", "children"} & table.keys():
         raise BadSettings(f"{name} has {', '.join(sorted(wrong))}, which no file of a tree has: take it out")
-    return Member(sort, name, more={it: value for it, value in table.items() if it not in _OWN}, **own)
+    return Member(sort, name, more={key: value for key, value in table.items() if key not in _OWN}, **own)
 
 
 def _login(name: str, table: Mapping[str, Any]) -> Login:
@@ -279,24 +279,25 @@ def _login(name: str, table: Mapping[str, Any]) -> Login:
     role, relays = table.get("role"), table.get("relays", [])
     if role not in ("operator", "reader", "grid operator") or table.keys() - {"role", "relays"}:
         raise BadSettings(f'logins.{name} has a role, "operator", "reader" or "grid operator", and the last one relays = ["NAME"]')
-    if not isinstance(relays, list) or not all(isinstance(it, str) for it in relays):
+    if not isinstance(relays, list) or not all(isinstance(relay, str) for relay in relays):
         raise BadSettings(f"logins.{name}.relays is {relays!r}: give a list of names")
     return Login(name, role, tuple(relays))
 
 
 def _numbered(members: list[Member]) -> list[Member]:
     """The nodes, each with a number below its parent: its own, or else the first that is free there. Raises BadSettings."""
-    givers = {it.name: _giver_of(it) for it in members}
-    taken: dict[str, set[int]] = {it.name: {givers[it.name]} for it in members}
-    for it in members:
-        if it.parent is not None and it.child is not None:
-            taken.setdefault(it.parent, set()).add(_require_child(it.child, it.name))
+    givers = {member.name: _giver_of(member) for member in members}
+    taken: dict[str, set[int]] = {member.name: {givers[member.name]} for member in members}
+    for member in members:
+        if member.parent is not None and member.child is not None:
+            taken.setdefault(member.parent, set()).add(_require_child(member.child, member.name))
     found = []
-    for it in members:
-        if it.parent is not None and it.child is None:
-            numbers = taken.setdefault(it.parent, set())
+    for member in members:
+        if member.parent is not None and member.child is None:
+            numbers = taken.setdefault(member.parent, set())
             free = next(number for number in range(1, CHILDREN + 2) if number not in numbers)
-            it = replace(it, child=_require_child(free, it.name))
             numbers.add(free)
-        found.append(it)
+            found.append(replace(member, child=_require_child(free, member.name)))
+        else:
+            found.append(member)
     return found

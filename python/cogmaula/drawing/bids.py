@@ -19,7 +19,7 @@ def sum_of_bids(cluster: Cluster, now: Snapshot, names: Iterable[str], program: 
     A cluster of them alone is asked. An item is None if the program cannot be asked, below -1,000,000,000 W. Raises what
     `Program.answer` raises.
     """
-    nodes = [alone(cluster.node(it), now.states[it]) for it in names]
+    nodes = [alone(cluster.node(name), now.states[name]) for name in names]
     only = Cluster(cluster.basis, nodes, version=cluster.version)
     return demands_after(only.with_phases(only.join_all()), program)
 

@@ -23,7 +23,7 @@ def draw_clearing(run: Run, phase: int = 1, program: Program | None = None) -> F
     program, cluster = program or found_program(), run.cluster
     if not 1 <= phase <= len(run.ends) or not run.ends[phase - 1].powers:
         raise ValueError(f"there is no phase {phase} with a member: the run has {len(run.ends)} phases")
-    if any(it.kind == "limited" for it in cluster.nodes):
+    if any(node.kind == "limited" for node in cluster.nodes):
         raise ValueError("the cluster has limited groups: cogmaula draw run shows them")
     end, script = run.ends[phase - 1], cluster.with_script(cluster.phases[:phase])
     *_, now = snapshots(script, run.ends[:phase])
@@ -35,9 +35,9 @@ def draw_clearing(run: Run, phase: int = 1, program: Program | None = None) -> F
         set_powers(axes)
         for at, (name, power) in enumerate(end.powers.items()):
             bid = sum_of_bids(cluster, now, [name], program)
-            known = [(price, it) for price, it in zip(prices, bid, strict=True) if it is not None]
+            known = [(price, power) for price, power in zip(prices, bid, strict=True) if power is not None]
             axes.plot(*zip(*known), color=COLOURS[at % 8], linewidth=1.6, label=f"{name}: {watts(power)}")
-        known = [(price, it) for price, it in zip(prices, total, strict=True) if it is not None]
+        known = [(price, power) for price, power in zip(prices, total, strict=True) if power is not None]
         axes.plot(*zip(*known), color=LINE, linewidth=2.4, label=f"total: {watts(end.total)}")
         axes.axvline(end.price, color=LINE, linestyle="--", linewidth=1)
         axes.plot([end.price], [end.total], marker="o", markersize=9, color=LINE)

@@ -42,7 +42,7 @@ def draw_run(run: Run, phase: int | None = None, program: Program | None = None)
     chosen = len(run.ends) if phase is None else phase
     if not 1 <= chosen <= len(run.ends):
         raise ValueError(f"there is no phase {chosen}: the run has {len(run.ends)}")
-    groups = [it for it in cluster.nodes if isinstance(it, Limited)]
+    groups = [node for node in cluster.nodes if isinstance(node, Limited)]
     top = max(2.8, 0.24 * (len(cluster.nodes) + 1))
     with matplotlib.rc_context(SETTINGS):
         figure = Figure(figsize=(10, top + 2.9 * (1 + len(groups))), layout="constrained")
@@ -61,17 +61,17 @@ def draw_run(run: Run, phase: int | None = None, program: Program | None = None)
 def looks_of(cluster: Cluster) -> Looks:
     """The colour and the hatch of each device."""
     return {
-        it.name: {"facecolor": COLOURS[at % 8], "hatch": HATCHES[at // 8 % 6], "edgecolor": "black", "linewidth": 0.5}
-        for at, it in enumerate(cluster.devices)
+        device.name: {"facecolor": COLOURS[at % 8], "hatch": HATCHES[at // 8 % 6], "edgecolor": "black", "linewidth": 0.5}
+        for at, device in enumerate(cluster.devices)
     }
 
 
 def draw_prices(axes: Axes, run: Run, groups: Sequence[Limited]) -> None:
     """The market's price and that of each limited group, at each phase's end."""
     phases = range(1, len(run.ends) + 1)
-    axes.plot(phases, [it.price for it in run.ends], label="market", marker="o", color=LINE, zorder=3)
+    axes.plot(phases, [end.price for end in run.ends], label="market", marker="o", color=LINE, zorder=3)
     for at, group in enumerate(groups):
-        line = [it.groups[at].price for it in run.ends]
+        line = [end.groups[at].price for end in run.ends]
         axes.plot(phases, line, label=f"below {group.name}", marker="sD^v"[at % 4], color=COLOURS[at % 8], zorder=2)
     basis = run.cluster.basis
     margin = 0.05 * (basis.max - basis.min)
@@ -85,20 +85,20 @@ def draw_prices(axes: Axes, run: Run, groups: Sequence[Limited]) -> None:
 def set_phases(axes: Axes, run: Run) -> None:
     """The phases below axes: all with the minutes of ticks if they are few, else some."""
     phases = range(1, len(run.ends) + 1)
-    ticks = [it.minutes if isinstance(it, Tick) else None for it in run.cluster.phases]
+    ticks = [phase.minutes if isinstance(phase, Tick) else None for phase in run.cluster.phases]
     if len(ticks) > 12:
         axes.set_xticks(phases[:: 1 + (len(ticks) - 1) // 12])
         axes.set_xlabel("phase")
     else:
-        axes.set_xticks(phases, [f"{at}\n{it} min" if it else str(at) for at, it in zip(phases, ticks, strict=True)])
+        axes.set_xticks(phases, [f"{at}\n{minutes} min" if minutes else str(at) for at, minutes in zip(phases, ticks, strict=True)])
         axes.set_xlabel("phase, and the minutes of a tick" if any(ticks) else "phase")
 
 
 def places_of(cluster: Cluster) -> dict[str, tuple[int, int]]:
     """Where each node of the tree is drawn: its depth, and its row below 0."""
-    below: dict[str, list[str]] = {AUCTIONEER: [], **{it.name: [] for it in cluster.nodes}}
-    for it in cluster.nodes:
-        below[it.above].append(it.name)
+    below: dict[str, list[str]] = {AUCTIONEER: [], **{node.name: [] for node in cluster.nodes}}
+    for node in cluster.nodes:
+        below[node.above].append(node.name)
     found: dict[str, tuple[int, int]] = {}
 
     def put(name: str, depth: int) -> None:
@@ -114,23 +114,23 @@ def draw_tree(axes: Axes, cluster: Cluster, end: PhaseEnd, looks: Looks) -> None
     """The nodes from left to right, leaves one below another, with names, kinds and powers."""
     places = places_of(cluster)
     axes.set_title(f"The tree and its powers in phase {end.phase}")
-    for it in cluster.nodes:
-        (x, y), (ax, ay) = places[it.name], places[it.above]
+    for node in cluster.nodes:
+        (x, y), (ax, ay) = places[node.name], places[node.above]
         axes.plot([ax, ax, x], [ay, y, y], color="0.6", linewidth=1, zorder=1)
-    above = {it.name: it.above for it in cluster.nodes}
+    above = {node.name: node.above for node in cluster.nodes}
     sums = dict.fromkeys(places, 0)
     for name, power in end.powers.items():
         while name:
             sums[name] += power
             name = above.get(name, "")
-    kinds = {it.name: it.kind.replace("_", " ") for it in cluster.nodes}
+    kinds = {node.name: node.kind.replace("_", " ") for node in cluster.nodes}
     for name, (x, y) in places.items():
         is_out = name in looks and name not in end.powers
         look: dict[str, Any] = {"edgecolor": "black", **looks.get(name, {})}
         if is_out or name not in looks:
             look["facecolor"] = "white"
         axes.scatter([x], [y], s=50, marker="s" if name in looks else "o", zorder=2, **look)
-        told = ", ".join(it for it in (name, kinds.get(name, ""), "no member" if is_out else watts(sums[name])) if it)
+        told = ", ".join(text for text in (name, kinds.get(name, ""), "no member" if is_out else watts(sums[name])) if text)
         axes.annotate(told, (x, y), xytext=(7, 0), textcoords="offset points", va="center", fontsize=9,
                       color="0.4" if is_out else "black")
     axes.set_xlim(-0.2, 2.6 + max(x for x, _ in places.values()))
@@ -147,8 +147,8 @@ def draw_bids(axes: Axes, run: Run, group: Limited | None, phase: int, program: 
     else:
         *_, now = snapshots(cluster.with_script(cluster.phases[:phase]), run.ends[:phase])
         inside = cluster.groups()
-        sums = sum_of_bids(cluster, now, [it for it in end.powers if inside[it] == group.name], program)
-        step, name = next((it.step, it.name) for it in end.groups if it.name == group.name)
+        sums = sum_of_bids(cluster, now, [name for name in end.powers if inside[name] == group.name], program)
+        step, name = next((ended.step, ended.name) for ended in end.groups if ended.name == group.name)
         said = f" below {name}"
     draw_sums(axes, cluster.basis.prices, sums, step)
     draw_limits(axes, group)
@@ -158,7 +158,7 @@ def draw_bids(axes: Axes, run: Run, group: Limited | None, phase: int, program: 
 
 def draw_sums(axes: Axes, prices: Sequence[int], sums: Sequence[int | None], step: int) -> None:
     """A sum of bids over the prices, and the step that was taken."""
-    known = [(price, it) for price, it in zip(prices, sums, strict=True) if it is not None]
+    known = [(price, power) for price, power in zip(prices, sums, strict=True) if power is not None]
     set_powers(axes)
     axes.plot(*zip(*known), color=COLOURS[0], marker="o" if len(prices) <= 30 else None, markersize=4)
     price, total = prices[step], sums[step]
@@ -185,7 +185,7 @@ def draw_limits(axes: Axes, group: Limited | None) -> None:
 def draw_powers(axes: Axes, run: Run, group: Limited | None, looks: Looks, has_groups: bool) -> None:
     """The powers of a group's devices at each phase's end: what is taken stacked upwards, what is delivered downwards."""
     inside = run.cluster.groups()
-    names = [it for it in looks if inside[it] == (None if group is None else group.name)]
+    names = [name for name in looks if inside[name] == (None if group is None else group.name)]
     sums = stack(axes, run.ends, names, looks)
     set_powers(axes)
     axes.plot(range(1, len(run.ends) + 1), sums, linestyle="none", marker="D", color=LINE, markeredgecolor="white", label="together")
@@ -205,9 +205,9 @@ def stack(axes: Axes, ends: Sequence[PhaseEnd], names: Iterable[str], looks: Loo
     phases = range(1, len(ends) + 1)
     up, down = [0] * len(ends), [0] * len(ends)
     for name in names:
-        powers = [it.powers.get(name, 0) for it in ends]
-        bottom = [a if it > 0 else b for it, a, b in zip(powers, up, down, strict=True)]
+        powers = [end.powers.get(name, 0) for end in ends]
+        bottom = [a if power > 0 else b for power, a, b in zip(powers, up, down, strict=True)]
         axes.bar(phases, powers, bottom=bottom, width=0.7, label=name, **looks[name])
-        up = [a + max(it, 0) for a, it in zip(up, powers, strict=True)]
-        down = [a + min(it, 0) for a, it in zip(down, powers, strict=True)]
+        up = [a + max(power, 0) for a, power in zip(up, powers, strict=True)]
+        down = [a + min(power, 0) for a, power in zip(down, powers, strict=True)]
     return [a + b for a, b in zip(up, down, strict=True)]

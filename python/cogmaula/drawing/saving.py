@@ -17,7 +17,7 @@ def settle(figure: Figure) -> None:
     figure.set_layout_engine("none")
     for axes in figure.axes:
         place = axes.get_position()
-        axes.set_position([round(it, 4) for it in (place.x0, place.y0, place.width, place.height)])
+        axes.set_position([round(measure, 4) for measure in (place.x0, place.y0, place.width, place.height)])
 
 
 def save(figure: Figure, path: str | os.PathLike[str]) -> None:

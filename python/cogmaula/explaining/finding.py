@@ -75,7 +75,7 @@ class File:
 
     def nodes(self) -> list[Node]:
         """The nodes of the file, as far as they are objects."""
-        return [node_of(number, it) for number, it in enumerate(self.items("nodes"), 1)]
+        return [node_of(number, value) for number, value in enumerate(self.items("nodes"), 1)]
 
     def node(self) -> Node:
         """The node at the place of the refusal."""
@@ -114,8 +114,8 @@ class File:
     def path_to(self, *members: str | int) -> str:
         """The path of a member below the place of the refusal."""
         path = self.place.path
-        for it in members:
-            path += f"[{it}]" if isinstance(it, int) else f".{it}" if path else it
+        for member in members:
+            path += f"[{member}]" if isinstance(member, int) else f".{member}" if path else member
         return path
 
 
@@ -150,6 +150,6 @@ def number(value: int) -> str:
 
 def close(word: str, names: Iterable[str]) -> str | None:
     """The name that was likely meant by a word, or None."""
-    known = {it.lower(): it for it in names}
+    known = {name.lower(): name for name in names}
     found = get_close_matches(word.lower(), list(known), n=1, cutoff=0.6)
     return known[found[0]] if found else None

@@ -74,7 +74,7 @@ def trace_line(data: bytes, line_number: int) -> Finding:
     begin = found[0] + len(found[1]) if found else 0
     lines = data[begin:].split(b"\n")
     line = lines[line_number - 1].decode(errors="replace") if line_number <= len(lines) else ""
-    at = begin + sum(len(it) + 1 for it in lines[: line_number - 1])
+    at = begin + sum(len(line) + 1 for line in lines[: line_number - 1])
     fault = f"line {number(line_number)} of the trace is wrong, unterminated or missing"
     allowed = "the line that a legal run of this file has there: the trace is not one of this file"
     return Finding(len(data[:at].decode(errors="replace")), "", fault, allowed, shortened(line) or "nothing")

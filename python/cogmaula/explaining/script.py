@@ -39,7 +39,7 @@ def parameter(file: File) -> Finding:
         member = node.value.members[name]
         if name != "start" and (found := _past(file, node, member)):
             return found
-    low, high = (node.value.members[it].value for it in ("low", "high"))
+    low, high = (node.value.members[bound].value for bound in ("low", "high"))
     fault = f"{node.words}: low is not below high"
     return Finding(low.at, file.path_to("low"), fault, f"a whole number below high, {file.shown(high)}", file.shown(low))
 
@@ -61,18 +61,18 @@ def _past(file: File, node: Node, member: Member) -> Finding | None:
 def _device(file: File) -> tuple[str, Value]:
     """The word of the event at the place, and the value that names its device."""
     members = file.value().members
-    word = next(it for it in ("join", "leave", "state") if it in members)
+    word = next(form for form in ("join", "leave", "state") if form in members)
     return word, members[word].value
 
 
 def _node_named(file: File, name: str) -> Node | None:
-    return next((it for it in file.nodes() if it.name == name), None)
+    return next((node for node in file.nodes() if node.name == name), None)
 
 
 def no_device(file: File) -> Finding:
     """Code 14: no device has the name."""
     word, value = _device(file)
-    devices = [it.name for it in file.nodes() if KINDS[it.kind].is_device]
+    devices = [node.name for node in file.nodes() if KINDS[node.kind].is_device]
     node = _node_named(file, value.value)
     if node is not None or value.value == "auctioneer":
         what = "the auctioneer" if node is None else f"a {node.kind}" if node.kind == "concentrator" else "a limited concentrator"
@@ -88,9 +88,9 @@ def _last_change(file: File, name: str) -> tuple[str, str] | None:
     last = None
     phase, event = file.place.numbers
     for at in range(1, phase + 1):
-        for number_of, it in enumerate(file.events(at)[: event - 1 if at == phase else None], 1):
-            word = next(form for form in ("join", "leave", "state") if form in it.members)
-            if word != "state" and it.members[word].value.value == name:
+        for number_of, earlier in enumerate(file.events(at)[: event - 1 if at == phase else None], 1):
+            word = next(form for form in ("join", "leave", "state") if form in earlier.members)
+            if word != "state" and earlier.members[word].value.value == name:
                 last = word, f"event {number_of} of phase {at}"
     return last
 
@@ -174,7 +174,7 @@ def state(file: File) -> Finding:
     else:
         found = _node_named(file, members["state"].value.value)
         assert found is not None, "the program found the device"
-        node, name = found, next(it for it in FORMS if it in members)
+        node, name = found, next(form for form in FORMS if form in members)
     value = members[name].value
     about = f"{file.words()}: {name}"
     if node.kind == "manual":

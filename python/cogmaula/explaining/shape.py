@@ -27,9 +27,9 @@ def form_of(file: File, value: Value) -> str:
         case "phase":
             return "events" if "events" in value.members else "tick"
         case "event":
-            if form := next((it for it in ("join", "leave") if it in value.members), None):
+            if form := next((form for form in ("join", "leave") if form in value.members), None):
                 return form
-            state = next((it for it in ONE_OF["state"] if it in value.members), "value")
+            state = next((form for form in ONE_OF["state"] if form in value.members), "value")
             return f"state_by_{state}"
         case _:
             return file.place.what
@@ -44,7 +44,7 @@ def owner_of(file: File, value: Value) -> str:
         case "phase":
             return "a phase of events" if "events" in value.members else "a tick"
         case "event":
-            word = next((it for it in ONE_OF["event"] if it in value.members), "event")
+            word = next((form for form in ONE_OF["event"] if form in value.members), "event")
             return f"an event with {word}"
         case _:
             return file.words()
@@ -116,7 +116,7 @@ def missing(file: File) -> Finding:
     if choice := _lacking_choice(file, value):
         return _missing(file, value, list(choice), [], f"one of {listed(choice, 'or')} is due")
     due = schema.members_of(form)
-    lacking = [it for it in due if it not in value.members]
+    lacking = [word for word in due if word not in value.members]
     return _missing(file, value, lacking, [], f"{owner_of(file, value)} has {members(due)}")
 
 
@@ -128,10 +128,10 @@ def _lacking_choice(file: File, value: Value) -> tuple[str, ...] | None:
     if file.place.what == "event" and "state" in value.members:
         choices = ["state"]
     if file.place.what == "node" and value.members["kind"].value.value == "manual":
-        choices = ["manual"] if all(it in value.members for it in ("name", "parent")) else []
-    for it in choices:
-        if not any(name in value.members for name in ONE_OF[it]):
-            return ONE_OF[it]
+        choices = ["manual"] if all(word in value.members for word in ("name", "parent")) else []
+    for choice in choices:
+        if not any(name in value.members for name in ONE_OF[choice]):
+            return ONE_OF[choice]
     return None
 
 
@@ -157,7 +157,7 @@ def unknown(file: File, value: Value | None = None) -> Finding:
     """Code 4: a member is not known."""
     value = value or file.value()
     due = schema.members_of(form_of(file, value))
-    member = min((it for it in value.members.values() if it.name not in due), key=lambda it: it.at)
+    member = min((member for member in value.members.values() if member.name not in due), key=lambda member: member.at)
     fault = f"{file.words()}: the member {member.name} is not known"
     allowed = f"{owner_of(file, value)} has {members(due)}, and no other"
     return Finding(member.at, file.path_to(member.name), fault, allowed, _pair(file, member), _excess(file, member.name, due))
@@ -168,8 +168,8 @@ def _excess(file: File, name: str, due: list[str]) -> str | None:
     if name == "$schema":
         return "name the schema in the settings of the editor"
     for choice in ONE_OF.values():
-        if name in choice and any(it in due for it in choice):
-            other = next(it for it in choice if it in due)
+        if name in choice and any(form in due for form in choice):
+            other = next(form for form in choice if form in due)
             return f"only one of {other} and {name}"
     if file.place.what == "node":
         owners = [kind for kind in schema.kinds() if kind != "manual" and name in schema.members_of(kind)]
@@ -187,7 +187,7 @@ def version(file: File) -> Finding:
 def basis(file: File) -> Finding:
     """Code 6: the prices do not fit."""
     members = file.value().members
-    least, most, steps = (int(members[it].value.value) for it in ("min", "max", "steps"))
+    least, most, steps = (int(members[word].value.value) for word in ("min", "max", "steps"))
     for name in ("min", "max", "steps"):
         low, high = schema.limits_of("basis", name)
         if not low <= members[name].value.value <= high:
@@ -198,8 +198,8 @@ def basis(file: File) -> Finding:
     width, gaps = most - least, steps - 1
     fault = f"the basis: max - min is {number(width)}, which steps - 1, {number(gaps)}, does not divide"
     near = max(width // gaps, 1) * gaps
-    counts = [it + 1 for it in range(1, schema.limits_of("basis", "steps")[1]) if width % it == 0]
-    count = min(counts, key=lambda it: abs(it - steps))
+    counts = [steps + 1 for steps in range(1, schema.limits_of("basis", "steps")[1]) if width % steps == 0]
+    count = min(counts, key=lambda count: abs(count - steps))
     likely = f"max {number(least + near)}, or steps {number(count)}"
     return _in_basis(file, "max", fault, "prices at equal whole distances: max - min divisible by steps - 1", likely)
 

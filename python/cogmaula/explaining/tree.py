@@ -37,7 +37,7 @@ def _why_no_name(text: str) -> str:
         return "is empty"
     if text == AUCTIONEER:
         return "is that of the auctioneer"
-    if wrong := next((it for it in text if not LETTERS.match(it)), None):
+    if wrong := next((letter for letter in text if not LETTERS.match(letter)), None):
         return f"has {wrong!r}, which is no letter from A to Z, digit, _ or -"
     if not text[0].isalpha():
         return f"begins with {text[0]!r}, which is no letter"
@@ -47,9 +47,9 @@ def _why_no_name(text: str) -> str:
 def twice(file: File) -> Finding:
     """Code 8: two nodes have the same name."""
     node = file.node()
-    first = next(it for it in file.nodes() if it.name == node.name)
-    taken = {it.name for it in file.nodes()}
-    free = next(it for it in (f"{node.name[: MOST_NAME_BYTES - 4]}_{at}" for at in range(2, 1000)) if it not in taken)
+    first = next(other for other in file.nodes() if other.name == node.name)
+    taken = {node.name for node in file.nodes()}
+    free = next(name for name in (f"{node.name[: MOST_NAME_BYTES - 4]}_{at}" for at in range(2, 1000)) if name not in taken)
     fault = f"{node.words} has the name of node {first.number}"
     return _at_member(file, node, "name", fault, "a name that no other node has", free)
 
@@ -57,9 +57,9 @@ def twice(file: File) -> Finding:
 def parent(file: File) -> Finding:
     """Code 9: the parent is not known, is no concentrator, or comes later."""
     node = file.node()
-    earlier = [it.name for it in file.nodes()[: node.number - 1] if it.kind in CONCENTRATORS]
+    earlier = [above.name for above in file.nodes()[: node.number - 1] if above.kind in CONCENTRATORS]
     allowed = f"{AUCTIONEER}, or a concentrator that comes earlier in the file"
-    other = next((it for it in file.nodes() if it.name == node.parent), None)
+    other = next((above for above in file.nodes() if above.name == node.parent), None)
     likely = None
     if other is None:
         why, likely = "is no node of the file", close(node.parent, [AUCTIONEER, *earlier])
@@ -74,7 +74,7 @@ def parent(file: File) -> Finding:
 
 def _above(file: File, node: Node) -> Iterator[Node]:
     """The nodes above a node, the nearest first."""
-    by_name = {it.name: it for it in file.nodes()[: node.number]}
+    by_name = {earlier.name: earlier for earlier in file.nodes()[: node.number]}
     while (found := by_name.get(node.parent)) is not None:
         node = found
         yield node
@@ -84,8 +84,8 @@ def depth(file: File) -> Finding:
     """Code 10: more than 6 concentrators are on a path."""
     node = file.node()
     path = [node, *_above(file, node)]
-    fault = f"{node.words} is one of {len(path)} concentrators on a path: {' below '.join(it.name for it in path)}"
-    likely = f"{listed([it.name for it in path[len(path) - MOST_DEPTH + 1 :]], 'or')} for a parent"
+    fault = f"{node.words} is one of {len(path)} concentrators on a path: {' below '.join(node.name for node in path)}"
+    likely = f"{listed([node.name for node in path[len(path) - MOST_DEPTH + 1 :]], 'or')} for a parent"
     return _at_member(file, node, "parent", fault, f"at most {MOST_DEPTH} concentrators from a node to the auctioneer", likely)
 
 
@@ -99,7 +99,7 @@ def count(file: File) -> Finding:
 def limited(file: File) -> Finding:
     """Code 22: a limited node is below a limited one."""
     node = file.node()
-    other = next(it for it in _above(file, node) if it.kind == "limited")
+    other = next(above for above in _above(file, node) if above.kind == "limited")
     fault = f"{node.words} is limited, and so is {other.words} above it"
     likely = f'"concentrator" for one of {other.name} and {node.name}'
     return _at_member(file, node, "kind", fault, "no limited node below another", likely)

@@ -34,9 +34,9 @@ def figures_of(run: Run, connection: str | None = None, currency: Currency | Non
     exchange = site.exchange(held.powers)
     plain = plain_powers(run.cluster, held, connection)
     costs = UNKNOWN if connection is None else Costs.of(run, connection, [exchange, *site.without_market(run, plain)])
-    own = [at for at, it in enumerate(run.cluster.devices) if it.kind not in ("battery", "objective") and it.name != connection]
+    own = [at for at, device in enumerate(run.cluster.devices) if device.kind not in ("battery", "objective") and device.name != connection]
     # Of a manual device nobody knows whether it is one of the site, unless another one is named as the connection.
-    knows_site = connection is not None or not any(it.kind == "manual" for it in run.cluster.devices)
+    knows_site = connection is not None or not any(device.kind == "manual" for device in run.cluster.devices)
     consumed, produced = (total(numpy.maximum(sign * held.powers[:, own], 0).sum(axis=1), held) for sign in (1, -1))
     bought, sold = (total(numpy.maximum(sign * exchange, 0), held) for sign in (1, -1))
     paid = sum(account.amount for name, account in run.bill.devices.items() if name != connection)
@@ -83,7 +83,7 @@ class Site:
         if connection is not None:
             connection_in(run.cluster, connection)
         devices = enumerate(run.cluster.devices)
-        return Site(numpy.array([at for at, it in devices if it.kind != "objective" and it.name != connection], dtype=numpy.int64))
+        return Site(numpy.array([at for at, device in devices if device.kind != "objective" and device.name != connection], dtype=numpy.int64))
 
     def exchange(self, powers: Any) -> Any:
         """What the site takes from outside over each tick, in watts; below 0 it gives."""
@@ -91,7 +91,7 @@ class Site:
 
     def without_market(self, run: Run, plain: Any) -> list[Any]:
         """The exchange that the devices have by these plain powers, and that without the batteries."""
-        batteries = [at for at, it in enumerate(run.cluster.devices) if isinstance(it, Battery)]
+        batteries = [at for at, device in enumerate(run.cluster.devices) if isinstance(device, Battery)]
         whole = self.exchange(plain)
         return [whole, whole - plain[:, batteries].sum(axis=1)]
 
@@ -113,10 +113,10 @@ class Costs:
     def of(run: Run, connection: str, exchanges: Sequence[Any]) -> Costs:
         """The costs of three exchanges: of the run, of the plain rules, and of those without batteries. Raises NoConnection."""
         held, own = run.held, run.held.column_of(connection)
-        if any(bool((~held.members[:, own] & (it != 0)).any()) for it in exchanges):
+        if any(bool((~held.members[:, own] & (exchange != 0)).any()) for exchange in exchanges):
             raise NoConnection(f"the connection {connection} is no member of the market all the time: its prices are not known")
         asked = prices_asked(run.cluster, connection, exchanges, run.program)
-        market, plain, without = (exact_sum([it, price, held.minutes]) for it, price in zip(exchanges, asked, strict=True))
+        market, plain, without = (exact_sum([exchange, price, held.minutes]) for exchange, price in zip(exchanges, asked, strict=True))
         billed, exchange = held.prices[:, held.column[own]], exchanges[0]
         above, below = (exchange < 0) & (billed > asked[0]), (exchange > 0) & (billed < asked[0])
         return Costs(market, plain, without, -total(exchange * above, held), total(exchange * below, held))
@@ -127,7 +127,7 @@ UNKNOWN = Costs(None, None, None, None, None)
 
 def exact_sum(factors: Sequence[Any]) -> int:
     """The sum of the products of arrays, in whole numbers of any size."""
-    rows = zip(*(it.tolist() for it in factors), strict=True)
+    rows = zip(*(factor.tolist() for factor in factors), strict=True)
     return sum(power * price * minutes for power, price, minutes in rows)
 
 
@@ -152,48 +152,48 @@ def peak_of(run: Run, powers: Any) -> Peak:
 
 def batteries_of(run: Run) -> dict[str, BatteryUse]:
     """How each battery was used over the ticks."""
-    batteries = [it for it in run.cluster.devices if isinstance(it, Battery)]
+    batteries = [device for device in run.cluster.devices if isinstance(device, Battery)]
     if not batteries or not run.cluster.minutes:
         return {}
-    charges, drops = {it.name: list[int]() for it in batteries}, {it.name: 0 for it in batteries}
-    before = {it.name: it.start for it in batteries}
+    charges, drops = {battery.name: list[int]() for battery in batteries}, {battery.name: 0 for battery in batteries}
+    before = {battery.name: battery.start for battery in batteries}
     for phase, now in zip(run.cluster.phases, snapshots(run.cluster, run.ends), strict=True):
-        for it in batteries:
-            charge = now.states[it.name]
+        for battery in batteries:
+            charge = now.states[battery.name]
             assert isinstance(charge, int)
             if isinstance(phase, Tick):
-                charges[it.name].append(charge)
-                drops[it.name] += max(0, before[it.name] - charge)
-            before[it.name] = charge
+                charges[battery.name].append(charge)
+                drops[battery.name] += max(0, before[battery.name] - charge)
+            before[battery.name] = charge
     minutes = run.held.minutes
     found = {}
-    for it in batteries:
-        shares = numpy.array(charges[it.name]) / it.capacity
-        cycles = drops[it.name] / it.capacity
+    for battery in batteries:
+        shares = numpy.array(charges[battery.name]) / battery.capacity
+        cycles = drops[battery.name] / battery.capacity
         # Between both ends whatever the rounding.
         mean = min(max(float((shares * minutes).sum() / minutes.sum()), float(shares.min())), float(shares.max()))
         a_day = cycles * 1440 / run.cluster.minutes
-        found[it.name] = BatteryUse(float(shares.min()), mean, float(shares.max()), float(shares[-1]), cycles, a_day)
+        found[battery.name] = BatteryUse(float(shares.min()), mean, float(shares.max()), float(shares[-1]), cycles, a_day)
     return found
 
 
 def shifted_of(run: Run, plain: Any, connection: str | None) -> dict[str, float]:
     """The energy that each device with a plain rule had at another time than by that rule, in kilowatt-hours."""
     found, held = {}, run.held
-    for at, it in enumerate(run.cluster.devices):
-        if it.kind in (*WITHOUT_RULE, "objective") or it.name == connection:
+    for at, device in enumerate(run.cluster.devices):
+        if device.kind in (*WITHOUT_RULE, "objective") or device.name == connection:
             continue
         # A battery that follows its plain rule shifts too, so it is compared with one that rests.
-        against = 0 if isinstance(it, Battery) else plain[:, at]
-        found[it.name] = total(numpy.abs(held.powers[:, at] - against), held) / 2 / WATT_MINUTES
+        against = 0 if isinstance(device, Battery) else plain[:, at]
+        found[device.name] = total(numpy.abs(held.powers[:, at] - against), held) / 2 / WATT_MINUTES
     return found
 
 
 def minutes_outside_of(run: Run) -> dict[str, int]:
     """For how long each limited group was outside its limits."""
     found = {}
-    for at, node in enumerate(it for it in run.cluster.nodes if isinstance(it, Limited)):
-        loads = [it.groups[at].total for it in run.ends]
-        is_out = [not node.floor <= it <= node.ceiling for it in loads]
+    for at, node in enumerate(node for node in run.cluster.nodes if isinstance(node, Limited)):
+        loads = [end.groups[at].total for end in run.ends]
+        is_out = [not node.floor <= load <= node.ceiling for load in loads]
         found[node.name] = sum(minutes for out, minutes in zip(is_out, run.durations, strict=True) if out)
     return found

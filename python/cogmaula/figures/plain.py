@@ -59,13 +59,13 @@ def plain_powers(cluster: Cluster, held: Held, connection: str | None) -> Any:
     """The power of each device over each tick by its plain rule, shaped as `Held.powers`; 0 for the connection."""
     powers = held.powers.copy()
     devices = cluster.devices
-    for at, it in enumerate(devices):
-        if it.name == connection or it.kind in ("objective", "battery", *SWITCHED):
+    for at, device in enumerate(devices):
+        if device.name == connection or device.kind in ("objective", "battery", *SWITCHED):
             powers[:, at] = 0
-    switches = {it.name: (at, Switch(it, start_of(it))) for at, it in enumerate(devices) if it.kind in SWITCHED}
-    batteries = {it.name: (at, it) for at, it in enumerate(devices) if isinstance(it, Battery)}
-    beside = {it.name: beside_of(cluster, it) for _, it in batteries.values()}
-    charges = {it.name: it.start for _, it in batteries.values()}
+    switches = {device.name: (at, Switch(device, start_of(device))) for at, device in enumerate(devices) if device.kind in SWITCHED}
+    batteries = {battery.name: (at, battery) for at, battery in enumerate(devices) if isinstance(battery, Battery)}
+    beside = {battery.name: beside_of(cluster, battery) for _, battery in batteries.values()}
+    charges = {battery.name: battery.start for _, battery in batteries.values()}
     row = 0
     for phase in cluster.phases:
         if isinstance(phase, Tick):
@@ -96,11 +96,11 @@ def start_of(node: Node) -> int:
 
 def beside_of(cluster: Cluster, node: Node) -> Any:
     """The columns of the devices below the parent of a node."""
-    above = {it.name: it.above for it in cluster.nodes}
+    above = {node.name: node.above for node in cluster.nodes}
 
     def is_below(name: str) -> bool:
         while name != AUCTIONEER and name != node.above:
             name = above[name]
         return name == node.above
 
-    return numpy.array([at for at, it in enumerate(cluster.devices) if is_below(it.name)], dtype=numpy.int64)
+    return numpy.array([at for at, device in enumerate(cluster.devices) if is_below(device.name)], dtype=numpy.int64)

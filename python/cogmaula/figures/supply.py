@@ -27,11 +27,11 @@ AT_ONCE = 50_000
 
 def connection_in(cluster: Cluster, name: str) -> Manual:
     """The connection of this name. Raises NoConnection."""
-    manual = [it for it in cluster.devices if isinstance(it, Manual)]
-    for it in manual:
-        if it.name == name:
-            return it
-    known = ", ".join(it.name for it in manual) or "none"
+    manual = [device for device in cluster.devices if isinstance(device, Manual)]
+    for device in manual:
+        if device.name == name:
+            return device
+    known = ", ".join(device.name for device in manual) or "none"
     raise NoConnection(f"the connection {name}: the cluster has no manual device of this name (its manual devices: {known})")
 
 
@@ -59,9 +59,9 @@ def prices_asked(cluster: Cluster, name: str, exchanges: Sequence[Any], program:
     places: dict[Bid, list[int]] = {}
     for at, bid in enumerate(bids_over(cluster, node)):
         places.setdefault(bid, []).append(at)
-    prices = [numpy.zeros(len(it), dtype=numpy.int64) for it in exchanges]
+    prices = [numpy.zeros(len(exchange), dtype=numpy.int64) for exchange in exchanges]
     for bid, rows in places.items():
-        values = numpy.unique(numpy.concatenate([it[rows] for it in exchanges]))
+        values = numpy.unique(numpy.concatenate([exchange[rows] for exchange in exchanges]))
         asked = prices_of(cluster, node, bid, values.tolist(), program)
         for series, found in zip(exchanges, prices, strict=True):
             found[rows] = asked[numpy.searchsorted(values, series[rows])]
@@ -73,8 +73,8 @@ def prices_of(cluster: Cluster, node: Manual, bid: Bid, exchanges: Iterable[int]
     alone = Cluster(cluster.basis, [replace(node, parent=AUCTIONEER, demand=bid.demand, points=bid.points)], version=cluster.version)
     file = alone.with_phases(alone.join_all()).to_bytes()
     # The connection has at most as much power as the largest target, so a greater exchange is answered as that one.
-    targets = [-max(-MOST_TARGET, min(it, MOST_TARGET)) for it in exchanges]
+    targets = [-max(-MOST_TARGET, min(exchange, MOST_TARGET)) for exchange in exchanges]
     found = [
-        it.price for at in range(0, len(targets), AT_ONCE) for it in ask(file, targets[at : at + AT_ONCE], program=program).answers
+        answer.price for at in range(0, len(targets), AT_ONCE) for answer in ask(file, targets[at : at + AT_ONCE], program=program).answers
     ]
     return numpy.array(found, dtype=numpy.int64)

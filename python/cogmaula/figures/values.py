@@ -115,8 +115,8 @@ class Figures:
 
     def _repr_html_(self) -> str:
         """The figures of the site as a table of a notebook."""
-        told = ((name, f"{it:,.2f}" if isinstance(it, float) else "unknown" if it is None else str(it), unit) for name, it, unit in self.rows())
-        lines = "".join(f"<tr><th>{escape(name)}</th><td>{escape(it)}</td><td>{escape(unit)}</td></tr>" for name, it, unit in told)
+        told = ((name, f"{value:,.2f}" if isinstance(value, float) else "unknown" if value is None else str(value), unit) for name, value, unit in self.rows())
+        lines = "".join(f"<tr><th>{escape(name)}</th><td>{escape(value)}</td><td>{escape(unit)}</td></tr>" for name, value, unit in told)
         return f"<table><tbody>{lines}</tbody></table>"
 
 

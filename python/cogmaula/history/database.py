@@ -56,7 +56,7 @@ def schema_text() -> str:
 
 def _statements() -> list[str]:
     lines = [line for line in schema_text().splitlines() if not line.startswith("--")]
-    return [it for it in "\n".join(lines).split(";") if it.strip()]
+    return [statement for statement in "\n".join(lines).split(";") if statement.strip()]
 
 
 def _insert(row: Row, sign: str) -> str:
@@ -86,8 +86,8 @@ class SqliteDatabase:
             connection.execute("PRAGMA journal_mode = WAL")
             connection.execute("PRAGMA synchronous = NORMAL")
             connection.execute("BEGIN IMMEDIATE")
-            for it in _statements():
-                connection.execute(it)
+            for statement in _statements():
+                connection.execute(statement)
             if not connection.execute("SELECT version FROM history").fetchall():
                 connection.execute("INSERT INTO history VALUES (?)", (VERSION,))
             connection.execute("COMMIT")
@@ -153,8 +153,8 @@ class PostgresDatabase:
             with self._connection.transaction():
                 # One process alone makes tables.
                 self._connection.execute("SELECT pg_advisory_xact_lock(62)")
-                for it in _statements():
-                    self._connection.execute(it)
+                for statement in _statements():
+                    self._connection.execute(statement)
                 if not self._connection.execute("SELECT version FROM history").fetchall():
                     self._connection.execute("INSERT INTO history VALUES (%s)", (VERSION,))
         except self._psycopg.Error as error:
@@ -176,7 +176,7 @@ class PostgresDatabase:
             found = self._required().execute(query.replace("%", "%%").replace("?", "%s"), tuple(values)).fetchall()
         except self._psycopg.Error as error:
             raise self._lost(error) from None
-        return [tuple(it) for it in found]
+        return [tuple(row) for row in found]
 
     def _required(self) -> Any:
         if self._connection is None:

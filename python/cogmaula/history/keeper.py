@@ -78,7 +78,7 @@ class Keeper:
                 self._is_lost = False
             user = settings.user or "history"
             client = new_client(settings, f"cogmaula.{settings.prefix.replace('/', '.')}.{user}", ended, words)
-            client.on_connect = lambda it, _data, _flags, code, _more: self._on_connect(it, code, words)
+            client.on_connect = lambda client, _data, _flags, code, _more: self._on_connect(client, code, words)
             client.on_message = lambda _it, _data, message: self._on_message(message, words)
             client.on_disconnect = lambda _it, _data, code, _more: words.append(words_of_end(code, self._is_there))
             connect(client, settings, SESSION_SECONDS)
@@ -102,7 +102,7 @@ class Keeper:
             words.append(words_of_refusal(code, self._settings))
             return
         self._is_there = True
-        client.subscribe([(f"{self._settings.prefix}/{it}", self._options) for it in KEPT])
+        client.subscribe([(f"{self._settings.prefix}/{kind}", self._options) for kind in KEPT])
 
     def _on_message(self, message: Any, words: list[str]) -> None:
         """Keeps a message. If that fails the connection ends before the message is confirmed, and it comes again."""

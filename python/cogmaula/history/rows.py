@@ -81,10 +81,10 @@ def _of_child(session: str, parent: str, word: str, child: int, message: Message
 
 
 def _state(_session: str, node: str, message: Message) -> Row:
-    it = StateMessage.of(message.payload)
-    place = {"sort": it.sort, "parent": it.parent, "child": it.child, "floor": it.floor, "ceiling": it.ceiling}
-    more = {"alarm": it.alarm, "silent": _seconds_or_none(it.silent), "why": it.why, "session": it.session}
-    return Row("states", {"node": node, "run": it.run, "at": _seconds(it.time), "state": it.state, **place, **more})
+    state = StateMessage.of(message.payload)
+    place = {"sort": state.sort, "parent": state.parent, "child": state.child, "floor": state.floor, "ceiling": state.ceiling}
+    more = {"alarm": state.alarm, "silent": _seconds_or_none(state.silent), "why": state.why, "session": state.session}
+    return Row("states", {"node": node, "run": state.run, "at": _seconds(state.time), "state": state.state, **place, **more})
 
 
 def _setpoint(session: str, device: str, message: Message) -> Row:
@@ -92,9 +92,9 @@ def _setpoint(session: str, device: str, message: Message) -> Row:
     key = {"session": session, "device": device}
     if silent is not None:
         return Row("fallbacks", {**key, "since": _seconds(silent.since), "power": silent.power, "why": silent.why})
-    it = SetpointMessage.of(message.payload)
-    numbers = {"clearing": it.clearing, "number": it.bid, "step": it.step, "price": it.price, "power": it.power}
-    return Row("setpoints", {**key, **numbers, "at": _seconds_or_none(it.time)})
+    setpoint = SetpointMessage.of(message.payload)
+    numbers = {"clearing": setpoint.clearing, "number": setpoint.bid, "step": setpoint.step, "price": setpoint.price, "power": setpoint.power}
+    return Row("setpoints", {**key, **numbers, "at": _seconds_or_none(setpoint.time)})
 
 
 def _measured(_session: str, device: str, message: Message) -> Row:
@@ -111,10 +111,10 @@ _OF_NODE: dict[str, Callable[[str, str, Message], Row]] = {"state": _state, "set
 def _limits(session: str, relay: str, message: Message) -> Row:
     what = "the answer about limits"
     told = object_of(message.payload, what)
-    floor, ceiling, clearing, until = (told.get(it) for it in ("floor", "ceiling", "clearing", "until"))
-    state, reference, why, time = (told.get(it) for it in ("state", "reference", "why", "time"))
+    floor, ceiling, clearing, until = (told.get(word) for word in ("floor", "ceiling", "clearing", "until"))
+    state, reference, why, time = (told.get(word) for word in ("state", "reference", "why", "time"))
     texts, wholes = (state, why, time), (floor, ceiling)
-    if not all(isinstance(it, str) for it in texts) or not all(type(it) is int for it in wholes) or type(clearing) not in (int, type(None)):
+    if not all(isinstance(text, str) for text in texts) or not all(type(whole) is int for whole in wholes) or type(clearing) not in (int, type(None)):
         raise BadMessage(f"{what} lacks a member")
     limits = {"floor": floor, "ceiling": ceiling, "until": _seconds_or_none(until), "reference": reference, "clearing": clearing, "why": why}
     return Row("limits", {"session": session, "relay": relay, "at": _seconds(str(time)), "state": state, **limits})

@@ -71,16 +71,16 @@ class Agents:
 
     def stop(self) -> None:
         """Ends all nodes. It waits for them, and may be called from another thread."""
-        running = [it.running for it in self._agents.values() if it.running is not None]
-        for it in running:
-            it.stop()
-        for it in running:
-            it.join(LAST_SECONDS)
+        running = [agent.running for agent in self._agents.values() if agent.running is not None]
+        for thread in running:
+            thread.stop()
+        for thread in running:
+            thread.join(LAST_SECONDS)
 
     @property
     def nodes(self) -> list[Node]:
         """The nodes that work. It may be read from any thread."""
-        return [it.running.node for it in list(self._agents.values()) if it.running is not None]
+        return [agent.running.node for agent in list(self._agents.values()) if agent.running is not None]
 
     def end_connections(self, why: str) -> None:
         """Ends the connection of each agent, and tells it why."""
@@ -102,7 +102,7 @@ class Agents:
         self._said = ""
         before, self._entries = self._entries, entries
         self._say(f"{self._settings.agents} has changed: {len(entries)} agents may log in")
-        for name in [it for it in before if entries.get(it) != before[it]]:
+        for name in [name for name in before if entries.get(name) != before[name]]:
             self._bar(name, "has another token: log in with the new one" if name in entries else "is barred")
 
     def _bar(self, name: str, why: str) -> None:

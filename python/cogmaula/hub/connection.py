@@ -81,8 +81,8 @@ class Connection:
         finally:
             if self._agent is not None:
                 self._agent.disconnect(self)
-            for it in (reading, sending):
-                it.cancel()
+            for task in (reading, sending):
+                task.cancel()
             for found in await asyncio.gather(reading, sending, return_exceptions=True):
                 if isinstance(found, Exception) and not isinstance(found, OSError):
                     self._log.say_seldom(type(found), f"{self._name}: the connection failed, {found!r}")

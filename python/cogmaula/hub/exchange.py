@@ -54,7 +54,7 @@ class Exchange:
     def join(self, link: ExchangeLink, topics: Sequence[str]) -> None:
         """Lets a link read these topics, and hands it what is retained of them."""
         with self._lock:
-            fresh = {it: True for it in topics if link not in self._readers.get(it, [])}
+            fresh = {topic: True for topic in topics if link not in self._readers.get(topic, [])}
             for topic in fresh:
                 self._readers.setdefault(topic, []).append(link)
             for topic, message in self._retained.items():

@@ -76,7 +76,7 @@ class Hub:
         """What the nodes of the hub tell of themselves, the auctioneer's first. It may be called from any thread."""
         nodes = [] if self._auctioneer is None else [self._auctioneer.node]
         nodes += [] if self._agents is None else self._agents.nodes
-        return [it.facts() for it in nodes]
+        return [node.facts() for node in nodes]
 
     @property
     def addresses(self) -> list[Address]:
@@ -158,7 +158,7 @@ class Hub:
         """Tells the agents, and ends all: first the connections, then the nodes of agents, and then the auctioneer."""
         for connection in self._connections:
             connection.end("the hub ends: connect again later", "the hub ends")
-        tasks = [it for it in self._connections.values() if it is not None]
+        tasks = [connection for connection in self._connections.values() if connection is not None]
         if tasks:
             await asyncio.wait(tasks, timeout=LAST_SECONDS)
         await self._server.stop()

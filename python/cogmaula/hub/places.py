@@ -36,8 +36,8 @@ def keep_place(folder: Path, place: Place) -> None:
         file.flush()
         os.fsync(file.fileno())
     os.replace(fresh, folder / FILE)
-    for it in (folder, folder.parent):
-        opened = os.open(it, os.O_RDONLY | os.O_DIRECTORY)
+    for path in (folder, folder.parent):
+        opened = os.open(path, os.O_RDONLY | os.O_DIRECTORY)
         try:
             os.fsync(opened)
         finally:
@@ -46,7 +46,7 @@ def keep_place(folder: Path, place: Place) -> None:
 
 def places_in(folder: Path, session: str) -> dict[str, Place]:
     """The places of this session, by agent, of a folder that has a folder of each agent. Raises BadStore and OSError."""
-    found = {it.parent.name: _read(it) for it in sorted(folder.glob(f"*/{FILE}"))}
+    found = {path.parent.name: _read(path) for path in sorted(folder.glob(f"*/{FILE}"))}
     return {agent: place for agent, place in found.items() if place.session == session}
 
 

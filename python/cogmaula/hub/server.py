@@ -44,7 +44,7 @@ class Certificate:
         self._load(self.context)
 
     def _marked(self) -> list[int]:
-        return [os.stat(it).st_mtime_ns if os.path.exists(it) else 0 for it in self._files]
+        return [os.stat(file).st_mtime_ns if os.path.exists(file) else 0 for file in self._files]
 
     def _load(self, context: ssl.SSLContext) -> None:
         try:
@@ -94,8 +94,8 @@ class Server:
 
     async def stop(self) -> None:
         """Listens no more, and ends what is left of connections."""
-        for it in self._tasks:
-            it.cancel()
+        for task in self._tasks:
+            task.cancel()
         await asyncio.gather(*self._tasks, return_exceptions=True)
         for opened in self._sockets:
             opened.close()

@@ -182,6 +182,6 @@ def read_hub_toml(path: str | os.PathLike[str]) -> dict[str, dict[str, Any]]:
 def _texts(value: object, name: str) -> tuple[str, ...]:
     """A text, or a list of them."""
     found = [value] if isinstance(value, str) else value
-    if not isinstance(found, list | tuple) or not all(isinstance(it, str) for it in found):
+    if not isinstance(found, list | tuple) or not all(isinstance(word, str) for word in found):
         raise BadSettings(f"{name} is {value!r}: give a list of addresses")
     return tuple(found)

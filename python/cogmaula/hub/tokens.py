@@ -123,11 +123,11 @@ class TokenFile:
 
         Raises BadSettings if a child number is another agent's, or an agent has another number, and OSError.
         """
-        tokens = {it: secrets.token_urlsafe(TOKEN_BYTES) for it in children}
+        tokens = {child: secrets.token_urlsafe(TOKEN_BYTES) for child in children}
         with self._alone():
             text = self.path.read_text() if self.path.exists() else ""
             entries = entries_of(text, str(self.path))
-            numbers = {it.child: it.agent for it in entries.values()}
+            numbers = {entry.child: entry.agent for entry in entries.values()}
             for agent, child in children.items():
                 before = entries.get(agent)
                 if before is not None and before.child != child:
@@ -136,7 +136,7 @@ class TokenFile:
                     raise BadSettings(f"child {child} is {numbers[child]}'s in {self.path}: give another number")
             if keep is not None:
                 keep(tokens)
-            self._replace(_with_lines(text, {it: Entry(it, child, hash_of(tokens[it])) for it, child in children.items()}))
+            self._replace(_with_lines(text, {child_name: Entry(child_name, child, hash_of(tokens[child_name])) for child_name, child in children.items()}))
         return tokens
 
     @contextmanager
@@ -178,8 +178,8 @@ def _with_lines(text: str, entries: Entries) -> str:
     for line in text.splitlines():
         entry = left.pop(line.split()[0], None) if line.split() else None
         lines.append(line if entry is None else entry.to_line().rstrip("\n"))
-    lines += [it.to_line().rstrip("\n") for it in left.values()]
-    return "".join(f"{it}\n" for it in lines)
+    lines += [entry.to_line().rstrip("\n") for entry in left.values()]
+    return "".join(f"{line}\n" for line in lines)
 
 
 def children_in(text: str, name: str) -> dict[str, int]:
@@ -222,7 +222,7 @@ class FailedLogins:
         moment = time.monotonic() if now is None else now
         self._times.setdefault(address, deque(maxlen=FAILED)).append(moment)
         if len(self._times) > ADDRESSES:
-            self._times = {it: times for it, times in self._times.items() if times[-1] > moment - WITHIN}
+            self._times = {address: times for address, times in self._times.items() if times[-1] > moment - WITHIN}
 
     def are_too_many(self, address: str, now: float | None = None) -> bool:
         """Whether no further login of this address is looked at now."""

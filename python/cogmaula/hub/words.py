@@ -93,7 +93,7 @@ def _offer_of(bid: dict[str, Any], basis: Basis, kind: DeviceKind | None) -> dic
     """The bid as members of an offer. Raises BadMessage and BadFrame."""
     match list(bid):
         case ["demandArray"]:
-            demands = tuple(_whole(it, "a demand", "watts") for it in _list(bid, "demandArray"))
+            demands = tuple(_whole(demand, "a demand", "watts") for demand in _list(bid, "demandArray"))
             require_demands(demands, basis.steps)
             return members_of(Offer(demands))
         case ["pricePoints"]:
@@ -106,9 +106,9 @@ def _offer_of(bid: dict[str, Any], basis: Basis, kind: DeviceKind | None) -> dic
 
 
 def _points(told: list[Any]) -> list[tuple[int, int]]:
-    if any(not isinstance(it, dict) or set(it) != {"price", "demand"} for it in told):
+    if any(not isinstance(point, dict) or set(point) != {"price", "demand"} for point in told):
         raise BadMessage('a point is {"price": PRICE, "demand": WATTS}')
-    return [(_whole(it["price"], "a price", "price units"), _whole(it["demand"], "a demand", "watts")) for it in told]
+    return [(_whole(point["price"], "a price", "price units"), _whole(point["demand"], "a demand", "watts")) for point in told]
 
 
 def _list(bid: dict[str, Any], name: str) -> list[Any]:
@@ -168,7 +168,7 @@ def update_of(setpoint: bytes) -> bytes:
     update = {"price": told["price"]}
     if "reference" in told:
         update["bidNumber"] = told["reference"]
-    update |= {it: told[it] for it in ("step", "power")}
+    update |= {key: told[key] for key in ("step", "power")}
     update |= {"offer": told["bid"], "clearing": told["clearing"], "time": told["time"], "until": told["until"]}
     return _line({"priceUpdate": update})
 

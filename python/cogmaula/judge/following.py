@@ -45,13 +45,13 @@ class Following:
     def __init__(self, market: Market) -> None:
         """Takes the tree. Calls of `visit` follow, with all lines of the session in their order."""
         self.market = market
-        self.starts: dict[str, Start] = {name: it.first for name, it in market.nodes.items() if it.first is not None}
-        root = next(name for name, it in self.starts.items() if it.parent is None)
+        self.starts: dict[str, Start] = {name: node.first for name, node in market.nodes.items() if node.first is not None}
+        root = next(name for name, start in self.starts.items() if start.parent is None)
         self.basis: Basis = self.starts[root].basis
-        self.givers = {name: self._unused(name) for name, it in self.starts.items() if it.giver}
-        devices = [*(name for name, it in self.starts.items() if it.sort == "device"), *self.givers.values()]
+        self.givers = {name: self._unused(name) for name, start in self.starts.items() if start.giver}
+        devices = [*(name for name, start in self.starts.items() if start.sort == "device"), *self.givers.values()]
         self.script = Script(devices, lapses_of(market))
-        parents = {name: it.parent for name, it in self.starts.items() if it.parent is not None}
+        parents = {name: start.parent for name, start in self.starts.items() if start.parent is not None}
         self.journal = Journal(parents | {giver: name for name, giver in self.givers.items()}, root)
         self.bound: tuple[str, int] | None = None
         # Of each node the demands of its bids, by number.
@@ -78,8 +78,8 @@ class Following:
 
     def _unused(self, name: str) -> str:
         """A name for the place in which a relay's limits are given, which no node has."""
-        names = (f"{name[:20]}-limits{it or ''}" for it in itertools.count())
-        return next(it for it in names if it not in self.starts)
+        names = (f"{name[:20]}-limits{count or ''}" for count in itertools.count())
+        return next(name for name in names if name not in self.starts)
 
     def _sort(self, name: str) -> Sort:
         return self.starts[name].sort
@@ -92,12 +92,12 @@ class Following:
         if data[0] not in (Bid.KIND, Setpoint.KIND, Dropped.KIND):
             return
         match frame_of(data, WRITES[self._sort(name)], self.basis.steps):
-            case Bid() as it:
-                self._bids[name][it.number] = it.demands
-            case Setpoint() as it:
-                self._takes(name, it.number, it.index, it.step)
-            case Dropped() as it if self._sort(name) == "device":
-                self._takes(name, it.number, it.index, self._steps[name][it.index])
+            case Bid() as frame:
+                self._bids[name][frame.number] = frame.demands
+            case Setpoint() as frame:
+                self._takes(name, frame.number, frame.index, frame.step)
+            case Dropped() as frame if self._sort(name) == "device":
+                self._takes(name, frame.number, frame.index, self._steps[name][frame.index])
 
     def _hears(self, name: str, data: bytes) -> None:
         """A node is told a price. A relay is passed all that is due up to it, whether it takes this one or not."""
@@ -118,15 +118,15 @@ class Following:
     def _keeps(self, name: str, data: bytes) -> None:
         """A Resume is stored. With a number above the newest it is a change, a bid or a clearing."""
         match frame_of(data, RESUMES[self._sort(name)], self.basis.steps):
-            case DeviceResume() as it if it.last > self.script.devices[name].last:
-                self._changes(name, self.script.reaches(name, it.last - 1) + self.script.offers(name, it.last, it.demands))
-            case ResumeGone() as it if it.last > self.script.devices[name].last:
-                self._changes(name, self.script.reaches(name, it.last - 1) + self.script.leaves(name, it.last))
-            case RelayResume() as it if it.last > self.journal.counts[name]:
-                self._look_at_limits(name, it)
-                self._publishes(name, it.numbers)
-            case AuctioneerResume() as it if it.last > self.journal.counts[name]:
-                self._publishes(name, it.numbers)
+            case DeviceResume() as resume if resume.last > self.script.devices[name].last:
+                self._changes(name, self.script.reaches(name, resume.last - 1) + self.script.offers(name, resume.last, resume.demands))
+            case ResumeGone() as resume if resume.last > self.script.devices[name].last:
+                self._changes(name, self.script.reaches(name, resume.last - 1) + self.script.leaves(name, resume.last))
+            case RelayResume() as resume if resume.last > self.journal.counts[name]:
+                self._look_at_limits(name, resume)
+                self._publishes(name, resume.numbers)
+            case AuctioneerResume() as resume if resume.last > self.journal.counts[name]:
+                self._publishes(name, resume.numbers)
 
     def _changes(self, name: str, count: int) -> None:
         for _ in range(count):
@@ -148,9 +148,9 @@ class Following:
         """The node of a parent's child, or the place of its limits."""
         return self.givers[name] if child == self.starts[name].giver else self.market.children.get((name, child))
 
-    def _look_at_limits(self, name: str, it: RelayResume) -> None:
+    def _look_at_limits(self, name: str, resume: RelayResume) -> None:
         """Adds up what goes into a relay's bid, and notes if some step of it is outside the limits."""
-        bids = [self._bids.get(self._child(name, child) or "", {}).get(number) for child, number in enumerate(it.numbers, 1) if number]
+        bids = [self._bids.get(self._child(name, child) or "", {}).get(number) for child, number in enumerate(resume.numbers, 1) if number]
         total = [sum(at) for at in zip(*(bid for bid in bids if bid is not None), strict=True)]
-        if total and not it.floor <= total[-1] <= total[0] <= it.ceiling and self.bound is None:
-            self.bound = name, it.last
+        if total and not resume.floor <= total[-1] <= total[0] <= resume.ceiling and self.bound is None:
+            self.bound = name, resume.last

@@ -50,10 +50,10 @@ class Journal:
 
     def pass_due(self, name: str, index: int) -> None:
         """Each clearing up to this index that addresses a relay is passed to it, if it was not."""
-        for it in range(self.passed[name] + 1, index + 1):
-            if self.number_in(name, it):
-                self.passed[name] = it
-                self.lines.append(f"pass {name} {it}")
+        for passed in range(self.passed[name] + 1, index + 1):
+            if self.number_in(name, passed):
+                self.passed[name] = passed
+                self.lines.append(f"pass {name} {passed}")
 
     def pass_to_device(self, name: str, index: int, held: tuple[int, int] | None) -> None:
         """A device is passed a clearing. `held` is the price that it holds then and the change that this names, or None."""
@@ -81,7 +81,7 @@ class Journal:
         return self.counts[name] if name == self.root else self.passed[name]
 
     def _known(self, name: str) -> dict[str, int]:
-        return {it: self.learnt[it] for it in self.children.get(name, []) if self.learnt[it]}
+        return {child: self.learnt[child] for child in self.children.get(name, []) if self.learnt[child]}
 
     def _told(self, name: str) -> str:
         return AUCTIONEER if name == self.root else name

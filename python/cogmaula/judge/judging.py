@@ -34,18 +34,18 @@ def judge(
             merges.append(merge)
     except Faulty as error:
         return Verdict("invalid", fault=error.fault)
-    missing = tuple(it for market in markets for it in market.missing)
+    missing = tuple(missing for market in markets for missing in market.missing)
     return Verdict(
         verdict="incomplete" if missing else "valid",
         sessions=len(markets),
         nodes=len(recordings),
-        lives=sum(it.lives for it in counts),
-        frames_in=sum(it.fed.total() for it in counts),
-        frames_out=sum(it.handled.total() for it in counts),
-        taken=sum(it.taken for it in merges),
-        unmatched=sum(it.unmatched for it in merges),
-        clearings=sum(it.clearings for it in counts),
-        setpoints=sum(it.handled["Setpoint"] for it in counts),
+        lives=sum(count.lives for count in counts),
+        frames_in=sum(count.fed.total() for count in counts),
+        frames_out=sum(count.handled.total() for count in counts),
+        taken=sum(merge.taken for merge in merges),
+        unmatched=sum(merge.unmatched for merge in merges),
+        clearings=sum(count.clearings for count in counts),
+        setpoints=sum(count.handled["Setpoint"] for count in counts),
         missing=missing,
     )
 

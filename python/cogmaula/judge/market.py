@@ -48,7 +48,7 @@ def markets_of(recordings: list[Recorded]) -> list[Market]:
         else:
             sessions.setdefault(one.session, []).append((one, one.first))
     ordered = sorted(sessions.values(), key=lambda them: them[0][1].session.order)
-    markets = [_market_of(them, {it.node for it in unstarted}) for them in ordered]
+    markets = [_market_of(them, {life.node for life in unstarted}) for them in ordered]
     for market in markets:
         for one in unstarted:
             if one.session == market.session:
@@ -63,7 +63,7 @@ def _require_rising(recordings: list[Recorded]) -> None:
         if one.first is not None:
             by_node.setdefault(one.node, []).append(one)
     for them in by_node.values():
-        them.sort(key=lambda it: it.files[0][0])
+        them.sort(key=lambda life: life.files[0][0])
         for before, after in zip(them, them[1:], strict=False):
             assert before.first is not None
             assert after.first is not None
@@ -75,7 +75,7 @@ def _require_rising(recordings: list[Recorded]) -> None:
 
 def _market_of(them: list[tuple[Recorded, Start]], unstarted: set[str]) -> Market:
     """The market of one session. What nodes without a start lack is told elsewhere."""
-    them = sorted(them, key=lambda it: (it[1].sort != "auctioneer", it[0].node))
+    them = sorted(them, key=lambda pair: (pair[1].sort != "auctioneer", pair[0].node))
     market = Market(them[0][0].session)
     first = them[0][1]
     parents = {one.node: start for one, start in them}
@@ -92,7 +92,7 @@ def _market_of(them: list[tuple[Recorded, Start]], unstarted: set[str]) -> Marke
             market.misses(f"{one.node}: {one.lacking}")
     if first.sort != "auctioneer":
         market.misses("no auctioneer has a recording")
-    market.nodes = {one.node: one for one, _ in sorted(them, key=lambda it: (_depth(it[0], parents), it[0].node))}
+    market.nodes = {one.node: one for one, _ in sorted(them, key=lambda pair: (_depth(pair[0], parents), pair[0].node))}
     return market
 
 

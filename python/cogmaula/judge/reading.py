@@ -175,8 +175,8 @@ def _start_of(told: dict[str, Any]) -> Start | None:
         resume is not None
         and told["sort"] in SORTS
         and isinstance(arguments, list)
-        and all(isinstance(it, str) for it in [told["node"], told["session"], told["begun"], *arguments])
-        and all(type(told[it]) is int for it in ("min", "max", "steps"))
+        and all(isinstance(text, str) for text in [told["node"], told["session"], told["begun"], *arguments])
+        and all(type(told[word]) is int for word in ("min", "max", "steps"))
         and (isinstance(told["parent"], str) and type(told["child"]) is int or told["parent"] is told["child"] is None)
     )
     if not is_right or resume is None:
@@ -217,7 +217,7 @@ def recordings_in(folder: str | os.PathLike[str]) -> list[Recorded]:
         one.gaps = {number for number, _ in one.files if number - 1 not in there}
         one.begin = next(one.events(), None)
         one.lacking = _lacking(one)
-    return [found[it] for it in sorted(found)]
+    return [found[order] for order in sorted(found)]
 
 
 def _lacking(one: Recorded) -> str:

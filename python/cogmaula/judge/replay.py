@@ -140,7 +140,7 @@ class _Replay:
         assert self._start is not None
         assert self._running is not None
         sort = self._start.sort
-        kinds = {it: kind for it, kind in READS[sort].items() if it != Hello.KIND and it not in RESUMES[sort]}
+        kinds = {number: kind for number, kind in READS[sort].items() if number != Hello.KIND and number not in RESUMES[sort]}
         frame = self._frame(event, event.frame, kinds, "is no frame that a node feeds to its service")
         if isinstance(frame, Limits):
             self._require(event, self._giving.takes(frame))

@@ -52,8 +52,8 @@ class Keeping:
         if is_late:
             return ""
         told = "no Resume" if resume is None else words_of(resume)
-        if (None if resume is None else _exact(resume)) not in [None if it is None else _exact(it) for it in allowed]:
-            due = " or ".join("none" if it is None else words_of(it) for it in allowed)
+        if (None if resume is None else _exact(resume)) not in [None if words is None else _exact(words) for words in allowed]:
+            due = " or ".join("none" if words is None else words_of(words) for words in allowed)
             return f"it starts with {told}, and stored was {due}: its newest has to come back"
         if resume is not None and _price(resume) not in self._prices:
             return f"it starts with {told}, and no Resume before had this price"

@@ -68,11 +68,11 @@ class Script:
         under that, and will make its offer anew. Gives how many changes these are.
         """
         device, before = self.devices[name], len(self.events)
-        for it in range(device.last + 1, number + 1):
-            if it in device.lapses:
-                self.leaves(name, it)
-            elif it % 2 == 0 and device.is_member:
-                self.leaves(name, it)
+        for number_between in range(device.last + 1, number + 1):
+            if number_between in device.lapses:
+                self.leaves(name, number_between)
+            elif number_between % 2 == 0 and device.is_member:
+                self.leaves(name, number_between)
         return len(self.events) - before
 
     def offers(self, name: str, number: int, demands: Demand) -> int:

@@ -19,7 +19,7 @@ def settle(journal: Journal, script: Script, prices: Mapping[str, int]) -> None:
 
     prices: for each device the price that the program's report has for it at the end of the phase, in price units
     """
-    relays = [it for it in journal.parents if it not in script.devices]
+    relays = [parent for parent in journal.parents if parent not in script.devices]
     before = -1
     while before < len(journal.lines):
         before = len(journal.lines)

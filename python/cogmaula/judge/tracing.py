@@ -86,11 +86,11 @@ def trace_of(following: Following, cluster: Cluster, report: bytes) -> tuple[byt
     report: the text of `market run` for the cluster
     """
     end = report_of(report).ends[-1]
-    prices = {None: end.price} | {it.name: it.price for it in end.groups}
+    prices = {None: end.price} | {group.name: group.price for group in end.groups}
     moves = following.journal.lines
     recorded = len(moves)
-    settle(following.journal, following.script, {name: prices[it] for name, it in cluster.groups().items()})
-    text = report + "".join(f"{it}\n" for it in [*moves, f"moves {len(moves)}"]).encode()
+    settle(following.journal, following.script, {name: prices[group] for name, group in cluster.groups().items()})
+    text = report + "".join(f"{line}\n" for line in [*moves, f"moves {len(moves)}"]).encode()
     return text, len(moves), report.count(b"\n") + recorded + 1
 
 

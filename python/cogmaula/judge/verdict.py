@@ -49,6 +49,6 @@ class Verdict:
             f"{self.verdict} sessions {self.sessions} nodes {self.nodes} lives {self.lives} in {self.frames_in} "
             f"out {self.frames_out} taken {self.taken} unmatched {self.unmatched} clearings {self.clearings} "
             f"setpoints {self.setpoints}",
-            *(f"missing {it}" for it in self.missing),
+            *(f"missing {name}" for name in self.missing),
         ]
         return "\n".join(lines) + "\n"

@@ -81,8 +81,8 @@ def words_of_bytes(data: bytes, sort: Sort, steps: int) -> str:
 
 def difference_of(found: bytes, due: bytes, sort: Sort, steps: int) -> str:
     """What was found and what is due, in words. Two frames of one name are told by the first byte in which they differ."""
-    words = [words_of_bytes(it, sort, steps) for it in (found, due)]
+    words = [words_of_bytes(frame, sort, steps) for frame in (found, due)]
     if words[0] != words[1]:
         return f"{words[0]} is recorded, and {words[1]} is due"
-    at = next(it for it in range(min(len(found), len(due))) if found[it] != due[it])
+    at = next(index for index in range(min(len(found), len(due))) if found[index] != due[index])
     return f"{words[0]} is recorded, and another {words[1]} is due, which differs from byte {at} on"

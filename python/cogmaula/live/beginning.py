@@ -50,11 +50,11 @@ class Beginning:
     def of_auctioneer(self) -> Stored:
         """What an auctioneer begins with: its newest session, or a new one. Raises NodeRefused, BadStore and OSError."""
         stored, told = self.store.newest(), self.basis()
-        sessions = [it.session for it in (stored, told) if it is not None]
-        newest = max(sessions, key=lambda it: it.order, default=None)
+        sessions = [start.session for start in (stored, told) if start is not None]
+        newest = max(sessions, key=lambda session: session.order, default=None)
         if self.settings.new_session or newest is None:
             return self._new(newest)
-        if VERSION not in [it.version for it in (stored, told) if it is not None and it.session == newest]:
+        if VERSION not in [start.version for start in (stored, told) if start is not None and start.session == newest]:
             raise OtherTerms(
                 f"session {newest.id} is of another version of this market: stop all nodes, install this version, and begin a new session "
                 "by --new-session"
@@ -109,10 +109,10 @@ class Beginning:
     def _with_newest_setpoint(self, found: Stored) -> Stored:
         """The same with the broker's setpoint, if it is that of the disk after a later clearing."""
         told = self._setpoint(found.session) if found.setpoint else ""
-        if not told or not is_same_setpoint(*(without_until(it) for it in (found.setpoint, told))):
+        if not told or not is_same_setpoint(*(without_until(setpoint) for setpoint in (found.setpoint, told))):
             return found
-        indices = [json.loads(it).get("clearing") for it in (found.setpoint, told)]
-        is_later = all(type(it) is int for it in indices) and indices[1] > indices[0]
+        indices = [json.loads(setpoint).get("clearing") for setpoint in (found.setpoint, told)]
+        is_later = all(type(index) is int for index in indices) and indices[1] > indices[0]
         return replace(found, setpoint=without_until(told)) if is_later else found
 
     def _require_terms(self, found: Stored) -> None:
@@ -222,7 +222,7 @@ class Beginning:
         setpoint = self._setpoint(session) if isinstance(resume, DeviceResume) else ""
         time = message.properties.get(TIME, now_text())
         # Who is a relay is told with the Resume. What the disk has of children that were let go, and of limits, is not older than it.
-        relays = tuple(int(it) for it in message.properties.get(RELAYS, "").split() if it.isdecimal())
+        relays = tuple(int(word) for word in message.properties.get(RELAYS, "").split() if word.isdecimal())
         known = Stored(session, self.settings.basis, b"", time) if stored is None else stored
         all_relays = tuple(sorted({*relays, *known.relays}))
         return replace(known, basis=self.settings.basis, frame=message.payload, time=time, setpoint=setpoint, relays=all_relays)

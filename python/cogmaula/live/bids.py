@@ -48,11 +48,11 @@ class BidLog:
                     break
                 self._written[heard.frame.child] = heard
             self._write_anew(self._path)
-        return [self._written[it] for it in sorted(self._written)]
+        return [self._written[child] for child in sorted(self._written)]
 
     def make_safe(self, bids: Mapping[int, Heard]) -> None:
         """Adds those of these bids that are not in the file, and returns once they are safe on disk."""
-        fresh = {child: it for child, it in bids.items() if self._written.get(child) != it}
+        fresh = {child: bid for child, bid in bids.items() if self._written.get(child) != bid}
         if not fresh or self._path is None:
             return
         self._written |= fresh

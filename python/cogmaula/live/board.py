@@ -37,14 +37,14 @@ class Board:
         """Takes messages that came. An empty payload clears its topic."""
         is_full = False
         with self._lock:
-            for it in messages:
-                before = self._kept.get(it.topic)
-                more = _size(it) - (_size(before[0]) if before is not None else 0)
-                if not it.payload:
-                    if self._kept.pop(it.topic, None) is not None:
-                        self._bytes += more - _size(it)
+            for message in messages:
+                before = self._kept.get(message.topic)
+                more = _size(message) - (_size(before[0]) if before is not None else 0)
+                if not message.payload:
+                    if self._kept.pop(message.topic, None) is not None:
+                        self._bytes += more - _size(message)
                 elif self._bytes + more <= self._bytes_at_most and (before is not None or len(self._kept) < self._most):
-                    self._kept[it.topic] = it, self._losses
+                    self._kept[message.topic] = message, self._losses
                     self._bytes += more
                 else:
                     is_full = True
@@ -68,8 +68,8 @@ class Board:
             if self._lost_since is None:
                 return
             self._lost_since = None
-            self._kept = {topic: it for topic, it in self._kept.items() if it[1] == self._losses}
-            self._bytes = sum(_size(it) for it, _ in self._kept.values())
+            self._kept = {topic: entry for topic, entry in self._kept.items() if entry[1] == self._losses}
+            self._bytes = sum(_size(message) for message, _ in self._kept.values())
         self.on_change()
 
     @property
@@ -80,9 +80,9 @@ class Board:
     def copy(self) -> tuple[dict[str, Message], str | None]:
         """The messages, and since when there is no connection, None if one is there."""
         with self._lock:
-            return {topic: it for topic, (it, _) in self._kept.items()}, self._lost_since
+            return {topic: message for topic, (message, _) in self._kept.items()}, self._lost_since
 
 
 def _size(message: Message) -> int:
     """The bytes of a message."""
-    return len(message.topic) + len(message.payload) + sum(len(name) + len(it) for name, it in message.properties.items())
+    return len(message.topic) + len(message.payload) + sum(len(name) + len(value) for name, value in message.properties.items())

@@ -244,11 +244,11 @@ class Broker:
         """See Link."""
         with self._lock:
             found, self._inbox = list(self._inbox.values()), {}
-        for it in found:
-            kept = self._newest.get(it.topic)
-            if it.topic in self._echoes and (not it.retained or (kept is not None and kept.payload == it.payload)):
-                del self._echoes[it.topic]
-                if not it.retained and self._is_written(it.topic):
+        for message in found:
+            kept = self._newest.get(message.topic)
+            if message.topic in self._echoes and (not message.retained or (kept is not None and kept.payload == message.payload)):
+                del self._echoes[message.topic]
+                if not message.retained and self._is_written(message.topic):
                     self._read_no_more()
         return found
 
@@ -263,7 +263,7 @@ class Broker:
         client = self._settled
         if client is not None:
             with self._lock:
-                topics = [it for it in self._topics if it not in self._written and it not in self._rested]
+                topics = [topic for topic in self._topics if topic not in self._written and topic not in self._rested]
             self._subscribe(client, topics)
 
     def tick(self) -> None:
@@ -334,9 +334,9 @@ class Broker:
             return
         with self._lock:
             found, self._confirms = self._confirms, set()
-        for it in found:
-            topic = self._sent.pop(it, "")
-            if self._unconfirmed.get(topic) == it:
+        for packet in found:
+            topic = self._sent.pop(packet, "")
+            if self._unconfirmed.get(topic) == packet:
                 del self._unconfirmed[topic]
 
     def _send(self, client: Any, publication: Publication) -> None:
@@ -356,7 +356,7 @@ class Broker:
 
     def _is_written(self, topic: str) -> bool:
         """Whether this node alone writes the topic."""
-        return any(topic.startswith(it[:-1]) for it in self._written)
+        return any(topic.startswith(topic_filter[:-1]) for topic_filter in self._written)
 
     def _read_no_more(self) -> None:
         """Lets the broker give back no more of what this node alone writes."""
@@ -411,10 +411,10 @@ class Broker:
         client = new_client(self.settings, self._client_id, ended, words)
         will = self._will()
         client.will_set(will.topic, will.payload, 1, True)
-        client.on_connect = lambda it, _data, _flags, code, _more: self._on_connect(it, code, words)
-        client.on_subscribe = lambda it, _data, mid, codes, _more: self._on_subscribe(it, mid, codes)
-        client.on_message = lambda it, _data, message: self._on_message(it, message)
-        client.on_publish = lambda it, _data, mid: self._on_publish(it, mid)
+        client.on_connect = lambda client, _data, _flags, code, _more: self._on_connect(client, code, words)
+        client.on_subscribe = lambda client, _data, mid, codes, _more: self._on_subscribe(client, mid, codes)
+        client.on_message = lambda client, _data, message: self._on_message(client, message)
+        client.on_publish = lambda client, _data, mid: self._on_publish(client, mid)
         client.on_disconnect = lambda _it, _data, code, _more: self._on_disconnect(code, ended, words)
         return client
 
@@ -429,7 +429,7 @@ class Broker:
 
     def _subscribe(self, client: Any, topics: list[str]) -> None:
         options = self._mqtt.SubscribeOptions(qos=1)
-        _, mid = client.subscribe([(it, options) for it in topics])
+        _, mid = client.subscribe([(topic, options) for topic in topics])
         with self._lock:
             self._asked[client, mid] = topics
 

@@ -75,8 +75,8 @@ class Children:
         self._before.clear()
         self._price_topics.clear()
         self._told.clear()
-        self._newest = {it.frame.child: it for it in kept}
-        self._last = {child: it.frame for child, it in self._newest.items()}
+        self._newest = {bid.frame.child: bid for bid in kept}
+        self._last = {child: bid.frame for child, bid in self._newest.items()}
         self.asked = dict(self._newest)
         for child in self._newest:
             self._price_topics[child] = self._topics.price(self._node, child)
@@ -84,13 +84,13 @@ class Children:
     @property
     def newest(self) -> list[Bid | Gone]:
         """The newest Bid or Gone of each child that counts, in the order of the children."""
-        return [self._newest[it].frame for it in sorted(self._newest)]
+        return [self._newest[child].frame for child in sorted(self._newest)]
 
     @property
     def words_of_asked(self) -> str:
         """Of each child in the sum its number, that of its bid, and the digest of that. With these a relay that goes on elsewhere knows
         the bids of its sum, though their children alone have them."""
-        told = {**self._known, **{child: (it.frame.number, it.digest) for child, it in self.asked.items()}}
+        told = {**self._known, **{child: (ask.frame.number, ask.digest) for child, ask in self.asked.items()}}
         return " ".join(f"{child}:{number}:{digest}" for child, (number, digest) in sorted(told.items()))
 
     def asks(self) -> None:

@@ -60,7 +60,7 @@ class Points(Frame):
     @staticmethod
     def of(points: Sequence[tuple[int, int]]) -> Points:
         """The frame of pairs of a price in price units and a power in watts."""
-        return Points(tuple(it for pair in points for it in pair))
+        return Points(tuple(number for pair in points for number in pair))
 
     @property
     def first(self) -> int:

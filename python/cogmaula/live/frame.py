@@ -58,7 +58,7 @@ def require_demands(demands: tuple[int, ...], steps: int) -> None:
     """Raises BadFrame if these are no demands of a bid: one a step, none above the one before, each within the limits."""
     if len(demands) != steps:
         raise BadFrame(f"{len(demands)} demands are there, and {steps} are due, one a step")
-    if any(abs(it) > MOST for it in demands):
+    if any(abs(demand) > MOST for demand in demands):
         raise BadFrame(f"a demand is outside ±{MOST} watts")
     if any(after > before for before, after in zip(demands, demands[1:], strict=False)):
         raise BadFrame("a demand is above the one of the step before")

@@ -403,7 +403,7 @@ Kinds = dict[int, type[Frame]]
 
 
 def _by_kind(*kinds: type[Frame]) -> Kinds:
-    return {it.KIND: it for it in kinds}
+    return {kind.KIND: kind for kind in kinds}
 
 
 # The frames that a node of each sort reads, those that it writes, and those that it keeps for its restart, by their kinds.

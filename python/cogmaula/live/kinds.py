@@ -60,7 +60,7 @@ class DeviceKind:
             value = told.get(name)
             if type(value) is not int or not least <= value <= greatest:
                 raise BadFrame(f"{name} of a {kind} is {value!r}: give a whole number from {least} to {greatest}")
-        parameters = tuple(it for it in map(told.get, names) if isinstance(it, int))
+        parameters = tuple(value for value in map(told.get, names) if isinstance(value, int))
         if "low" in names and parameters[0] >= parameters[1]:
             raise BadFrame(f"low of a {kind} is {parameters[0]}, and high {parameters[1]}: give a low below the high")
         return DeviceKind(kind, parameters)
@@ -93,7 +93,7 @@ class DeviceKind:
     def powers(self) -> tuple[int, int]:
         """The least and the greatest of the powers that are parameters, in watts, below 0 to give; 0 and 0 of a kind without."""
         named = self.members()
-        power, charge, discharge = (named.get(it, 0) for it in ("power", "charge", "discharge"))
+        power, charge, discharge = (named.get(word, 0) for word in ("power", "charge", "discharge"))
         return (-power, 0) if self.kind == "cogeneration" else (-discharge, power + charge)
 
     def require_state(self, state: int) -> None:

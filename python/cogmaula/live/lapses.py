@@ -73,13 +73,13 @@ class Lapses:
 
     def missed(self, children: Iterable[int], now: float) -> None:
         """Notes which devices a restarted parent has not heard."""
-        self._missed = {it: self._missed.get(it, now) for it in children}
+        self._missed = {child: self._missed.get(child, now) for child in children}
 
     def connected(self, is_there: bool, now: float) -> None:
         """Notes whether the broker is there. What was counted before counts anew once it is back."""
         if is_there and not self._is_connected:
-            for it in self._children.values():
-                it.heard = now
+            for child in self._children.values():
+                child.heard = now
             self._down = dict.fromkeys(self._down, now)
             self._missed = dict.fromkeys(self._missed, now)
         self._is_connected = is_there
@@ -89,12 +89,12 @@ class Lapses:
         if not self._is_connected:
             return {}
         grace, found = self._times.grace, {}
-        for child, it in self._children.items():
-            down = self._down.get((it.node, child))
+        for child, child_state in self._children.items():
+            down = self._down.get((child_state.node, child))
             if down is not None and now >= down + grace:
-                found[child] = f"its node {it.node} has been down for {grace:g} s"
-            elif now >= it.heard + it.valid:
-                found[child] = f"its bid was not renewed for {it.valid:g} s"
+                found[child] = f"its node {child_state.node} has been down for {grace:g} s"
+            elif now >= child_state.heard + child_state.valid:
+                found[child] = f"its bid was not renewed for {child_state.valid:g} s"
         for child, since in self._missed.items():
             if now >= since + grace:
                 found[child] = f"it was in the newest sum, and was not heard for {grace:g} s since the restart"

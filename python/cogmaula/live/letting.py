@@ -45,7 +45,7 @@ class Letting:
         self.lapses = Lapses()
         self._numbers: tuple[int, ...] = ()
         self._are_missed = False
-        self._of_child = {it.child: it for it in settings.children}
+        self._of_child = {child.child: child for child in settings.children}
         # Of each child the newest message that came before its pause was over, and when that is.
         self._waiting: dict[int, Message] = {}
         # The names that each child gave its node.
@@ -81,12 +81,12 @@ class Letting:
     @property
     def bounds(self) -> list[bytes]:
         """The frames that bound children, for a service that starts."""
-        return [Bound(it.child, it.least, it.greatest).to_bytes() for it in self._settings.children]
+        return [Bound(child.child, child.least, child.greatest).to_bytes() for child in self._settings.children]
 
     @property
     def expiries(self) -> list[bytes]:
         """The frames that let children go again, for a service that starts."""
-        return [Expire(it).to_bytes() for it in sorted(self._lapsed)]
+        return [Expire(child).to_bytes() for child in sorted(self._lapsed)]
 
     # Bids.
 
@@ -150,7 +150,7 @@ class Letting:
     def too_much(self, frame: TooMuch) -> None:
         """Tells that the service did not take a bid, which is outside the child's bound."""
         self._children.too_much(frame.child, frame.number)
-        bound = next((it for it in self._settings.children if it.child == frame.child), None)
+        bound = next((child for child in self._settings.children if child.child == frame.child), None)
         told = {"number": frame.number, "time": now_text()}
         if bound is not None:
             told |= {"least": bound.least, "greatest": bound.greatest}
@@ -189,11 +189,11 @@ class Letting:
         if self._keeping.stored is None:
             return
         self.lapses.connected(is_connected, now)
-        for child in [it for it in self._waiting if now >= self._not_before[it]]:
+        for child in [child for child in self._waiting if now >= self._not_before[child]]:
             self.take_bid(child, self._waiting.pop(child), now)
         if self._are_missed:
             lacking = self._children.lacking(self._numbers)
-            missed = [it for it in lacking if self._is_device(it) and it not in self._lapsed]
+            missed = [child for child in lacking if self._is_device(child) and child not in self._lapsed]
             self.lapses.missed(missed, now)
             self._are_missed = bool(lacking)
         for child, why in self.lapses.due(now).items():
@@ -219,7 +219,7 @@ class Letting:
 
     def _comes_back(self, child: int) -> None:
         self._say(f"child {child} is back")
-        self._keeping.change(lapsed={it: number for it, number in self._lapsed.items() if it != child})
+        self._keeping.change(lapsed={lapsed_child: number for lapsed_child, number in self._lapsed.items() if lapsed_child != child})
         self._keeping.clear(self._settings.topics.at(self._settings.name, "lapsed", child))
 
     def old(self, frame: Old) -> None:

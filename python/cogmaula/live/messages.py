@@ -82,14 +82,14 @@ class BasisMessage:
         """The basis that a message tells. Raises BadMessage."""
         what = "the basis"
         told = object_of(data, what)
-        basis = Basis(*(_whole(told, it, what) for it in ("min", "max", "steps")))
+        basis = Basis(*(_whole(told, word, what) for word in ("min", "max", "steps")))
         session = Session(_text(told, "session", what), _text(told, "begun", what))
         version = version_of(told)
         if version != VERSION:
             # Earlier versions may have other members.
             return BasisMessage(basis, session, version=version)
         try:
-            times = Times(*(_seconds(told, it, what) for it in ("validity", "heartbeat", "grace")))
+            times = Times(*(_seconds(told, word, what) for word in ("validity", "heartbeat", "grace")))
         except BadSettings as error:
             raise BadMessage(f"{what} has other times: {error}") from None
         return BasisMessage(basis, session, times)
@@ -151,14 +151,14 @@ class StateMessage:
         told = object_of(data, what)
         if told.get("state") not in ("up", "down"):
             raise BadMessage("the state is neither up nor down")
-        run, started, session, time, why = (_text(told, it, what) for it in ("run", "started", "session", "time", "why"))
+        run, started, session, time, why = (_text(told, word, what) for word in ("run", "started", "session", "time", "why"))
         time_of(started)
         sort, parent = told.get("sort"), told.get("parent")
         if sort is not None and sort not in SORTS:
             raise BadMessage("the state has a sort that is no auctioneer, relay or device")
         if parent is not None:
             parent = _text(told, "parent", what)
-        child, floor, ceiling = (_whole_or_none(told, it, what) for it in ("child", "floor", "ceiling"))
+        child, floor, ceiling = (_whole_or_none(told, word, what) for word in ("child", "floor", "ceiling"))
         if child is not None and not 1 <= child <= CHILDREN:
             raise BadMessage(f"the state has the child {child}, and not 1 to {CHILDREN}")
         alarm = _text(told, "alarm", what) if "alarm" in told else ""
@@ -204,7 +204,7 @@ class OfferMessage:
         wanted: Wanted | None
         try:
             if "kind" in told:
-                kind = DeviceKind.of({name: it for name, it in told.items() if name != "state"})
+                kind = DeviceKind.of({name: value for name, value in told.items() if name != "state"})
                 wanted = stated(told["state"], kind) if "state" in told else None
             else:
                 wanted = _wanted(told, basis, kind)
@@ -232,13 +232,13 @@ _FORMS = '{"power": [WATTS, ..]}, {"points": [[PRICE, WATTS], ..]}, {"state": NU
 def _wanted(told: dict[str, Any], basis: Basis, kind: DeviceKind | None) -> Wanted:
     """What the one member of an offer says. Raises BadMessage and BadFrame."""
     if len(told) == 1 and isinstance(power := told.get("power"), list):
-        if any(type(it) is not int for it in power):
+        if any(type(number) is not int for number in power):
             raise BadMessage("a power is no whole number of watts")
         offer = Offer(tuple(power))
         offer.require_right(basis.steps)
         return offer
     if len(told) == 1 and isinstance(pairs := told.get("points"), list):
-        if any(not isinstance(it, list) or [type(number) for number in it] != [int, int] for it in pairs):
+        if any(not isinstance(pair, list) or [type(number) for number in pair] != [int, int] for pair in pairs):
             raise BadMessage("a point is no [PRICE, WATTS] of two whole numbers")
         points = Points.of([(price, power) for price, power in pairs])
         points.require_over(basis)
@@ -289,7 +289,7 @@ class SetpointMessage:
         """The setpoint that a message tells. Raises BadMessage."""
         what = "the setpoint"
         told = object_of(data, what)
-        power, step, price, bid, clearing = (_whole(told, it, what) for it in ("power", "step", "price", "bid", "clearing"))
+        power, step, price, bid, clearing = (_whole(told, word, what) for word in ("power", "step", "price", "bid", "clearing"))
         until = None if told.get("until") is None else _text(told, "until", what)
         return SetpointMessage(power, step, price, bid, clearing, _text(told, "time", what), until)
 
@@ -383,12 +383,12 @@ def setpoint_bytes(setpoint: Setpoint, basis: Basis, time: str, reference: int |
 
 def without_until(setpoint: str) -> str:
     """A setpoint as the control reads it, as it is stored."""
-    return json.dumps({name: it for name, it in json.loads(setpoint).items() if name != "until"})
+    return json.dumps({name: value for name, value in json.loads(setpoint).items() if name != "until"})
 
 
 def is_same_setpoint(setpoint: str, other: str) -> bool:
     """Whether two setpoints are of one offer at one step, with one reference: what the control takes is the same."""
-    told = [{name: it for name, it in json.loads(one).items() if name not in ("clearing", "time")} for one in (setpoint or "{}", other)]
+    told = [{name: value for name, value in json.loads(one).items() if name not in ("clearing", "time")} for one in (setpoint or "{}", other)]
     return told[0] == told[1]
 
 

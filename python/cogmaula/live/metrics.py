@@ -66,8 +66,8 @@ def metrics_bytes(view: MarketView | None, is_connected: bool, facts: Sequence[N
     """
     package = prometheus_package()
     samples: list[Sample] = [("market_page_connected", (), float(is_connected))]
-    for it in facts:
-        samples += _of_facts(it)
+    for facts_of_node in facts:
+        samples += _of_facts(facts_of_node)
     if view is not None:
         samples.append(("market_messages_not_taken", (), float(len(view.not_taken))))
         for node in view.nodes:
@@ -110,8 +110,8 @@ def _seconds_of(text: str | None) -> float | None:
         return None
 
 
-def _of_facts(it: NodeFacts) -> Iterator[Sample]:
-    node, counts = (it.node,), it.counts
+def _of_facts(facts: NodeFacts) -> Iterator[Sample]:
+    node, counts = (facts.node,), facts.counts
     yield "market_clearings", node, counts.clearings
     for outcome, number in counts.bids.items():
         yield "market_bids", (*node, outcome), number
@@ -119,31 +119,31 @@ def _of_facts(it: NodeFacts) -> Iterator[Sample]:
         yield "market_prices", (*node, outcome), number
     numbers = {
         "market_service_restarts": counts.restarts,
-        "market_stores": it.stores,
-        "market_store_seconds": it.store_seconds,
-        "market_service_up": not it.why_down,
-        "market_connected": it.is_connected,
+        "market_stores": facts.stores,
+        "market_store_seconds": facts.store_seconds,
+        "market_service_up": not facts.why_down,
+        "market_connected": facts.is_connected,
         "market_children_waiting": counts.waiting,
-        "market_children_lapsed": it.lapsed,
-        "market_heartbeat_timestamp_seconds": _seconds_of(it.heartbeat),
-        "market_loop_age_seconds": it.loop_age,
+        "market_children_lapsed": facts.lapsed,
+        "market_heartbeat_timestamp_seconds": _seconds_of(facts.heartbeat),
+        "market_loop_age_seconds": facts.loop_age,
     }
     yield from ((name, node, float(value)) for name, value in numbers.items() if value is not None)
 
 
-def _of_view(it: NodeView) -> Iterator[Sample]:
-    node = (it.name if it.name is not None else f"{it.parent}/{it.child}",)
-    if it.state is not None:
-        yield "market_node_up", (*node, it.sort or "", it.parent or ""), float(it.state == "up")
-    price = it.price
+def _of_view(view: NodeView) -> Iterator[Sample]:
+    node = (view.name if view.name is not None else f"{view.parent}/{view.child}",)
+    if view.state is not None:
+        yield "market_node_up", (*node, view.sort or "", view.parent or ""), float(view.state == "up")
+    price = view.price
     numbers = {
-        "market_node_silent": None if it.state is None else it.silent is not None,
-        "market_node_lapsed": it.lapsed is not None,
-        "market_node_alarm": None if it.state is None else bool(it.alarm),
-        "market_node_bid_answered": None if it.bid is None or it.bid.is_gone else it.bid.is_answered,
-        "market_power_watts": None if it.power is None else it.power.power,
-        "market_floor_watts": it.floor,
-        "market_ceiling_watts": it.ceiling,
+        "market_node_silent": None if view.state is None else view.silent is not None,
+        "market_node_lapsed": view.lapsed is not None,
+        "market_node_alarm": None if view.state is None else bool(view.alarm),
+        "market_node_bid_answered": None if view.bid is None or view.bid.is_gone else view.bid.is_answered,
+        "market_power_watts": None if view.power is None else view.power.power,
+        "market_floor_watts": view.floor,
+        "market_ceiling_watts": view.ceiling,
         "market_price": None if price is None else price.price,
         "market_price_timestamp_seconds": None if price is None else _seconds_of(price.time),
         "market_clearing": None if price is None else price.clearing,

@@ -192,18 +192,18 @@ class Node:
         settings, topics = self.settings, self.settings.topics
         found = [topics.basis, settings.own_topic("state"), settings.own_topic("resume")]
         if settings.sort == "device":
-            found += [settings.own_topic(it) for it in ("offer", "answer", "setpoint", "lapsed")]
+            found += [settings.own_topic(kind) for kind in ("offer", "answer", "setpoint", "lapsed")]
         else:
-            found += [topics.bid(settings.name, it) for it in range(1, CHILDREN + 1) if it != settings.place_of_limits]
-            found += [topics.at(settings.name, it, "+") for it in ("drop", "lapsed", "refused")]
+            found += [topics.bid(settings.name, child) for child in range(1, CHILDREN + 1) if child != settings.place_of_limits]
+            found += [topics.at(settings.name, kind, "+") for kind in ("drop", "lapsed", "refused")]
             found.append(settings.own_topic("heartbeat"))
         if settings.limits_from:
             found += [settings.own_topic("limits"), settings.own_topic("limits/state")]
         if settings.shows_itself:
             found += self._prices()
         if settings.parent is not None:
-            found += [settings.own_topic(it) for it in ("bid", "price", "refused")]
-            found += [topics.of(settings.parent, it) for it in ("state", "heartbeat")]
+            found += [settings.own_topic(kind) for kind in ("bid", "price", "refused")]
+            found += [topics.of(settings.parent, kind) for kind in ("state", "heartbeat")]
         return found
 
     def _prices(self) -> list[str]:
@@ -244,13 +244,13 @@ class Node:
     # Messages of the broker.
 
     def _take_messages(self) -> None:
-        found = [it for it in self._link.taken() if not self._is_known(it)]
+        found = [message for message in self._link.taken() if not self._is_known(message)]
         self.showing.take(found)
-        self._seen.update({it.topic: it for it in found})
+        self._seen.update({message.topic: message for message in found})
         if self.session is not None:
             for message in found:
                 self._take_message(message)
-        elif self._link.is_settled and any(it.topic == self.settings.topics.basis for it in found):
+        elif self._link.is_settled and any(message.topic == self.settings.topics.basis for message in found):
             self._begin()
 
     def _is_known(self, message: Message) -> bool:
@@ -285,7 +285,7 @@ class Node:
             self._take_word(message, topic == settings.own_topic("lapsed"))
         elif settings.sort != "device" and topic.endswith("/state") and topic != settings.own_topic("state"):
             self.serving.letting.take_state(message, time.monotonic())
-        elif topic in [settings.own_topic(it) for it in ("state", "resume")] or topic == self._bid_topic:
+        elif topic in [settings.own_topic(kind) for kind in ("state", "resume")] or topic == self._bid_topic:
             self._require_alone()
 
     @property
@@ -416,11 +416,11 @@ class Node:
         elif is_later and self.settings.sort == "device":
             self.serving.controlling.tell_session(stored.session)
         # Whether the market lives, and counts this device, is known before the control is told anything.
-        first = [f"/{it}" for it in ("heartbeat", "lapsed/" + str(self.settings.child))]
-        messages = sorted(self._seen.values(), key=lambda it: not it.topic.endswith(tuple(first)))
-        self._take_all([it for it in messages if it.topic.endswith(tuple(first))])
+        first = [f"/{ending}" for ending in ("heartbeat", "lapsed/" + str(self.settings.child))]
+        messages = sorted(self._seen.values(), key=lambda message: not message.topic.endswith(tuple(first)))
+        self._take_all([message for message in messages if message.topic.endswith(tuple(first))])
         self.serving.start(time.monotonic())
-        self._take_all([it for it in messages if not it.topic.endswith(tuple(first))])
+        self._take_all([message for message in messages if not message.topic.endswith(tuple(first))])
 
     def _session_before(self) -> str:
         """The id of the session before, in this process or on disk, "" without one."""

@@ -205,7 +205,7 @@ class Offers:
 
     def forget_before(self, number: int) -> None:
         """Lets go of the references of offers before this one: a setpoint answers this one, and none before it any more."""
-        self.references = {it: reference for it, reference in self.references.items() if it >= number}
+        self.references = {its_number: reference for its_number, reference in self.references.items() if its_number >= number}
 
     def resumed(self, resume: DeviceResume | ResumeGone) -> None:
         """Goes by a Resume that was stored. One with a greater number answers what was asked."""
@@ -243,5 +243,5 @@ class Offers:
 
 def _noted(references: Mapping[int, int], number: int, reference: int | None) -> dict[int, int]:
     """References in which that of this number is another one, or none."""
-    others = {it: its for it, its in references.items() if it != number}
+    others = {its_number: its for its_number, its in references.items() if its_number != number}
     return others if reference is None else {**others, number: reference}

@@ -44,7 +44,7 @@ class Words:
         settings = self._settings
         try:
             client = self._client = new_client(settings, "", self._ended, self._words)
-            client.on_connect = lambda it, _data, _flags, code, _more: self._on_connect(it, code)
+            client.on_connect = lambda client, _data, _flags, code, _more: self._on_connect(client, code)
             client.on_message = lambda _it, _data, message: self._on_message(message)
             connect(client, settings)
         except (OSError, ValueError) as error:
@@ -63,7 +63,7 @@ class Words:
             self._words.append(words_of_refusal(code, self._settings))
             self._ended.set()
             return
-        client.subscribe([(it, paho().SubscribeOptions(qos=1)) for it in self._topics])
+        client.subscribe([(topic, paho().SubscribeOptions(qos=1)) for topic in self._topics])
         self._came = time.monotonic()
         self._is_there = True
 

@@ -69,7 +69,7 @@ def policy_of(page: bytes) -> str:
 
     def hashes(tag: str) -> str:
         found = re.findall(rf"<{tag}>(.*?)</{tag}>".encode(), page, re.DOTALL)
-        return " ".join(f"'sha256-{base64.b64encode(hashlib.sha256(it).digest()).decode()}'" for it in found)
+        return " ".join(f"'sha256-{base64.b64encode(hashlib.sha256(code).digest()).decode()}'" for code in found)
 
     return (
         f"default-src 'none'; script-src {hashes('script')}; style-src {hashes('style')}; connect-src 'self'; "
@@ -320,7 +320,7 @@ class Page:
 
     def _health(self) -> Answer:
         """Whether the nodes of the process are well, and else why not."""
-        why = [line for it in self._facts() for line in it.faults(PATIENCE_OF_LOOP)]
+        why = [line for facts in self._facts() for line in facts.faults(PATIENCE_OF_LOOP)]
         status = HTTPStatus.SERVICE_UNAVAILABLE if why else HTTPStatus.OK
         return status, [*COMMON, ("Content-Type", JSON)], json.dumps({"healthy": not why, "why": why}).encode()
 

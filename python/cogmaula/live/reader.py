@@ -72,7 +72,7 @@ class Reader:
     @property
     def topics(self) -> list[str]:
         """The topics that are read, one after the other: a broker keeps few messages for a client that has not taken them."""
-        return [f"{self.settings.prefix}/{it}" for it in SHOWN]
+        return [f"{self.settings.prefix}/{kind}" for kind in SHOWN]
 
     def _run(self) -> None:
         keep_connected(self._connection, self._closing, self._say, self.settings.address, self._pauses)
@@ -86,7 +86,7 @@ class Reader:
             client = new_client(self.settings, self._client_id, ended, words)
             client.on_connect = lambda _it, _data, _flags, code, _more: self._on_connect(code, words)
             client.on_subscribe = lambda _it, _data, _mid, codes, _more: self._on_subscribe(codes)
-            client.on_message = lambda it, _data, message: self._on_message(it, message)
+            client.on_message = lambda client, _data, message: self._on_message(client, message)
             client.on_disconnect = lambda _it, _data, code, _more: self._on_disconnect(code, ended, words)
             connect(client, self.settings)
         except (OSError, ValueError) as error:
@@ -102,7 +102,7 @@ class Reader:
         waiting, is_settled = self.topics, False
         self._rested.clear()
         while not ended.wait(TICK):
-            for topic in [it for it, since in list(self._rested.items()) if time.monotonic() > since + REST]:
+            for topic in [topic for topic, since in list(self._rested.items()) if time.monotonic() > since + REST]:
                 del self._rested[topic]
                 client.subscribe([(topic, self._options)])
             if self._closing.is_set():

@@ -132,10 +132,10 @@ class Recording:
         self._file = os.open(path, os.O_WRONLY | os.O_CREAT | os.O_EXCL | os.O_APPEND | os.O_CLOEXEC, 0o600)
         self._size = 0
         kept = self._settings.record_files
-        numbers = sorted({it for it, _ in files})
+        numbers = sorted({file for file, _ in files})
         dropped = [] if kept is None else numbers[: max(0, len(numbers) + 1 - kept)]
-        for it, old in files:
-            if it in dropped:
+        for file, old in files:
+            if file in dropped:
                 old.unlink(missing_ok=True)
             elif old.suffix != ENDING:
                 compress_later(old)

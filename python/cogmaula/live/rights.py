@@ -96,7 +96,7 @@ def rights_of_control(topics: Topics, device: str) -> list[Right]:
 
 def rights_of_reader(topics: Topics) -> list[Right]:
     """What the login of a page or a history may do, which is told of the whole market."""
-    return [Right("read", f"{topics.prefix}/{it}") for it in KEPT]
+    return [Right("read", f"{topics.prefix}/{kind}") for kind in KEPT]
 
 
 def rights_of_operator(topics: Topics, children: Iterable[tuple[str, int]]) -> list[Right]:

@@ -148,7 +148,7 @@ class Serving:
     def alarm(self) -> str:
         """What is wrong with a relay's limits or the basis of its prices, and whom a parent waits for; "" if nothing is."""
         basis = f"{self.other_basis} prices were of another basis" if self.other_basis else ""
-        return "; ".join(it for it in (self._words_of_lacking, self.limiting.alarm, basis) if it)
+        return "; ".join(words for words in (self._words_of_lacking, self.limiting.alarm, basis) if words)
 
     @property
     def _words_of_lacking(self) -> str:
@@ -196,7 +196,7 @@ class Serving:
     @property
     def has_left(self) -> bool:
         """Whether a device has no offer, and the broker has its Resume and its Gone."""
-        topics = [self._settings.own_topic(it) for it in ("bid", "resume")]
+        topics = [self._settings.own_topic(kind) for kind in ("bid", "resume")]
         is_told = self._bid == self.last and not self._link.is_unconfirmed(topics)
         return self.service is not None and self.offers.is_out and is_told
 
@@ -272,7 +272,7 @@ class Serving:
         self._feed_price()
         if self._settings.sort == "device":
             wanted = self.offers.due(now)
-            for data in [b""] if wanted is None else [it.to_bytes() for it in frames_of(wanted)]:
+            for data in [b""] if wanted is None else [frame.to_bytes() for frame in frames_of(wanted)]:
                 self._feed(data)
         elif not self._pending and self._asking.is_due(now):
             self._asking.asked(now)
@@ -331,7 +331,7 @@ class Serving:
         self._asking.forget()
         for data in (*self.letting.bounds, *self.limiting.frames):
             self._feed(data)
-        newest = [it.to_bytes() for it in self.children.newest]
+        newest = [bid.to_bytes() for bid in self.children.newest]
         for data in (*newest, *self.letting.expiries):
             self._asking.has_news()
             self._feed(data)

@@ -215,7 +215,7 @@ class Settings:
     def _require_children(self) -> None:
         if self.children and self.sort == "device":
             raise BadSettings("a device has no children: take them out")
-        numbers = [it.child for it in self.children]
+        numbers = [child.child for child in self.children]
         for child in numbers:
             if numbers.count(child) > 1:
                 raise BadSettings(f"child {child} is there twice in children: take one out")
@@ -317,7 +317,7 @@ def read_toml(path: str | os.PathLike[str], tables: Sequence[str] = _TABLES) -> 
         raise BadSettings(f"{path}: {error}") from None
     for name, table in told.items():
         if name not in tables or not isinstance(table, dict):
-            words = [f"[{it}]" for it in tables]
+            words = [f"[{table}]" for table in tables]
             raise BadSettings(f"{path}: {name} is not known there: a file has the tables {', '.join(words[:-1])} and {words[-1]}")
     return told
 
@@ -347,12 +347,12 @@ def children_of(tables: Mapping[str, Any]) -> tuple[ChildSettings, ...]:
         if not isinstance(table, Mapping):
             raise BadSettings(f"children.{name} is no table: write [children.{name}] with child, least and greatest")
         found.append(cast(ChildSettings, value_of(ChildSettings, table, f"children.{name}")))
-    return tuple(sorted(found, key=lambda it: it.child))
+    return tuple(sorted(found, key=lambda child: child.child))
 
 
 def value_of(kind: type[Any], table: Mapping[str, Any], name: str) -> Any:
     """The value of a dataclass that a table of this name tells. Raises BadSettings."""
-    known = {it.name: str(it.type) for it in fields(kind)}
+    known = {field.name: str(field.type) for field in fields(kind)}
     for member, value in table.items():
         if member not in known:
             raise BadSettings(f"{name}.{member} is not known: {', '.join(sorted(known))} are")
@@ -360,7 +360,7 @@ def value_of(kind: type[Any], table: Mapping[str, Any], name: str) -> Any:
     try:
         return kind(**table)
     except TypeError as error:
-        lacking = ", ".join(f"{name}.{it}" for it in known if f"'{it}'" in str(error))
+        lacking = ", ".join(f"{name}.{word}" for word in known if f"'{word}'" in str(error))
         raise BadSettings(f"{lacking or error} is missing") from None
 
 

@@ -25,7 +25,7 @@ from .safely import replace_safely, with_path
 from .sessions import Session, time_of
 
 # The first line of a file, by the version of the form that its Resume has.
-FIRST_LINES = {it: f"cogmaula resume {it}".encode() for it in range(1, VERSION + 1)}
+FIRST_LINES = {version: f"cogmaula resume {version}".encode() for version in range(1, VERSION + 1)}
 SUFFIX = ".resume"
 # The digits of a count of starts, at most.
 LONGEST_COUNT = 16
@@ -126,8 +126,8 @@ class Store:
 
     def newest(self) -> Stored | None:
         """The Resume of the newest session, or None if there is no file. Raises BadStore and OSError."""
-        found = [self._read(it) for it in sorted(self.folder.glob(f"*{SUFFIX}"))]
-        return max(found, key=lambda it: it.session.order) if found else None
+        found = [self._read(path) for path in sorted(self.folder.glob(f"*{SUFFIX}"))]
+        return max(found, key=lambda stored: stored.session.order) if found else None
 
     def _bytes_of(self, stored: Stored) -> bytes:
         told = {
@@ -156,7 +156,7 @@ class Store:
         first, checksum, behind = (path.read_bytes().split(b"\n", 2) + [b"", b""])[:3]
         line, _, frame = behind.partition(b"\n")
         damaged = BadStore(f"{path} is damaged: bring it back as it was, or move it away, and the broker's copy counts")
-        version = {line: it for it, line in FIRST_LINES.items()}.get(first)
+        version = {line: version for version, line in FIRST_LINES.items()}.get(first)
         # The checksum of earlier versions is of what is behind it alone.
         summed = first + b"\n" + behind if version == VERSION else behind
         if version is None or checksum != hashlib.sha256(summed).hexdigest().encode():
@@ -165,10 +165,10 @@ class Store:
             told = json.loads(line)
             session = Session(str(told["session"]), str(told["begun"]))
             basis = Basis(int(told["min"]), int(told["max"]), int(told["steps"]))
-            length, node, sort, time, setpoint = (told[it] for it in ("length", "node", "sort", "time", "setpoint"))
+            length, node, sort, time, setpoint = (told[word] for word in ("length", "node", "sort", "time", "setpoint"))
             # Files of earlier versions lack some.
-            references, lapsed = ({int(number): int(it) for number, it in told.get(name, {}).items()} for name in ("references", "lapsed"))
-            relays = tuple(int(it) for it in told.get("relays", ()))
+            references, lapsed = ({int(number): int(clearing) for number, clearing in told.get(name, {}).items()} for name in ("references", "lapsed"))
+            relays = tuple(int(number) for number in told.get("relays", ()))
             given = None if told.get("given") is None else Given(**told["given"])
             offer, until = str(told.get("offer", "")), str(told.get("until", ""))
             if until:

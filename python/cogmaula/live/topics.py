@@ -43,7 +43,7 @@ def require_name(text: str, what: str) -> str:
 
 def require_prefix(text: str) -> str:
     """The prefix of a market's topics, such as `market` or `towns/delft`. Raises BadSettings if it is none."""
-    if not all(_NAME.fullmatch(it) for it in text.split("/")):
+    if not all(_NAME.fullmatch(word) for word in text.split("/")):
         raise BadSettings(f"the prefix is {text!r}: give names of letters, digits, _ and -, with / between them")
     return text
 

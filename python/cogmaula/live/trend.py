@@ -43,7 +43,7 @@ class Trend:
             while line and line[-1][0] >= now:
                 line.pop()
             line.append(point)
-        for name in [it for it, line in self._lines.items() if line[-1][0] < now - KEPT]:
+        for name in [name for name, line in self._lines.items() if line[-1][0] < now - KEPT]:
             del self._lines[name]
 
     def to_json(self) -> dict[str, Any]:

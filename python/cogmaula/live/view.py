@@ -137,13 +137,13 @@ def view_of(prefix: str, messages: Mapping[str, Message], own: str | None = None
     """
     heard = Heard(prefix, messages)
     nodes = _with_powers(_in_order(_Nodes(heard).all()), own)
-    clearings = [it.price for it in nodes if it.sort == "auctioneer" and it.price is not None]
+    clearings = [node.price for node in nodes if node.sort == "auctioneer" and node.price is not None]
     return MarketView(
         prefix=prefix,
         basis=None if heard.basis is None else heard.basis.basis,
         session=heard.session,
         begun=None if heard.basis is None else heard.basis.session.begun,
-        price=max(clearings, key=lambda it: it.clearing) if clearings else None,
+        price=max(clearings, key=lambda setpoint: setpoint.clearing) if clearings else None,
         clearing=max((price.index for price, _ in heard.prices.values()), default=None),
         nodes=tuple(nodes),
         not_taken=tuple(heard.not_taken),
@@ -166,9 +166,9 @@ class _Nodes:
         heard = self._heard
         places = sorted({*heard.bids, *heard.prices} - self._owners.keys())
         parents = {parent for parent, _ in (*heard.bids, *heard.prices)}
-        parents |= {it.parent for it in heard.states.values() if it is not None and it.parent is not None}
+        parents |= {state.parent for state in heard.states.values() if state is not None and state.parent is not None}
         names = sorted({*heard.states, *heard.setpoints, *parents})
-        return [self._named(it) for it in names] + [self._at_place(NodeView(None, None, *it), it) for it in places]
+        return [self._named(name) for name in names] + [self._at_place(NodeView(None, None, *place), place) for place in places]
 
     def _found_owners(self) -> dict[Place, list[str]]:
         """The nodes that say that a place is theirs: those of this session, or else those whose last will knew none."""
@@ -209,7 +209,7 @@ class _Nodes:
         owners = [] if place is None else self._owners.get(place, [])
         if place is not None and owners == [name]:
             return self._at_place(node, place)
-        return replace(node, notes=self._notes_of(state, [it for it in owners if it != name]))
+        return replace(node, notes=self._notes_of(state, [owner for owner in owners if owner != name]))
 
     def _notes_of(self, state: StateMessage, others: list[str]) -> tuple[str, ...]:
         """What is wrong with a node that has no place, or shares it with others."""
@@ -247,9 +247,9 @@ def _bid_view(bid: Bid | Gone, time: str | None, price: Price | None) -> BidView
 def _in_order(nodes: list[NodeView]) -> list[NodeView]:
     """Each node, and behind it those below by their child numbers. Nodes in a ring come last, from the first name on."""
     below: dict[str | None, list[int]] = {}
-    names = {it.name for it in nodes if it.name is not None}
-    for at, it in enumerate(nodes):
-        below.setdefault(it.parent if it.parent in names else None, []).append(at)
+    names = {node.name for node in nodes if node.name is not None}
+    for at, shown in enumerate(nodes):
+        below.setdefault(shown.parent if shown.parent in names else None, []).append(at)
     for them in below.values():
         them.sort(key=lambda at: (nodes[at].sort != "auctioneer", nodes[at].child or 0, nodes[at].name or ""))
     found: list[NodeView] = []
@@ -266,7 +266,7 @@ def _in_order(nodes: list[NodeView]) -> list[NodeView]:
             notes = (*node.notes, "it is below itself") if is_in_ring and depth == 0 else node.notes
             found.append(replace(node, depth=depth, notes=notes))
             children = [] if node.name is None else below.get(node.name, [])
-            waiting += [(it, depth + 1) for it in reversed(children)]
+            waiting += [(child, depth + 1) for child in reversed(children)]
     return found
 
 
@@ -304,13 +304,13 @@ def _sum_of(nodes: list[NodeView]) -> PowerView | None:
 
     It is 0 if all that bid have left, and None if none has bid.
     """
-    parts = [it.power for it in nodes if it.power is not None]
-    lacking = sum(it.lacking for it in parts)
-    lacking += sum(it.power is None and it.bid is not None and not it.bid.is_gone and it.lapsed is None for it in nodes)
-    clearings = [index for it in parts for index in (it.first, it.last) if index is not None]
-    if not parts and not lacking and not any(it.lapsed is not None or it.bid is not None for it in nodes):
+    parts = [node.power for node in nodes if node.power is not None]
+    lacking = sum(part.lacking for part in parts)
+    lacking += sum(node.power is None and node.bid is not None and not node.bid.is_gone and node.lapsed is None for node in nodes)
+    clearings = [index for part in parts for index in (part.first, part.last) if index is not None]
+    if not parts and not lacking and not any(node.lapsed is not None or node.bid is not None for node in nodes):
         return None
-    power = sum(it.power for it in parts if it.power is not None)
+    power = sum(part.power for part in parts if part.power is not None)
     return PowerView(None if lacking else power, "sum", min(clearings, default=None), max(clearings, default=None), lacking)
 
 

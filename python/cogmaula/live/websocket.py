@@ -99,7 +99,7 @@ class WebSocket:
         values: dict[str, list[str]] = {}
         for name, value in self._request.headers.raw_items():
             values.setdefault(name.lower(), []).append(value)
-        return self._request.path, {name: it[0] for name, it in values.items() if len(it) == 1}
+        return self._request.path, {name: found[0] for name, found in values.items() if len(found) == 1}
 
     async def accept(self) -> None:
         """Goes on as a WebSocket. Raises NoHandshake if the request is none for one, which the client is told, and ConnectionError."""
@@ -133,7 +133,7 @@ class WebSocket:
                 return None
             self._protocol.receive_data(piece)
             found = self._protocol.events_received()
-            if sum(not (it.fin and it.opcode <= BINARY) for it in found) > MOST_FRAMES:
+            if sum(not (frame.fin and frame.opcode <= BINARY) for frame in found) > MOST_FRAMES:
                 self._protocol.fail(AGAINST_RULES, "too many frames at once")
                 found = []
             self._events.extend(found)

@@ -64,7 +64,7 @@ def frame_of(spans: Iterable[Span], start: datetime) -> Any:
     Raises NoPackage without pandas.
     """
     pd = frames.pandas()
-    parts = [frames.accounts(it.bill).assign(begin=later(start, it.begin), end=later(start, it.end)) for it in spans]
+    parts = [frames.accounts(span.bill).assign(begin=later(start, span.begin), end=later(start, span.end)) for span in spans]
     if not parts:
         parts = [frames.accounts(Bill({}, Account(0, 0, 0), 0, 0)).iloc[:0].assign(begin=start, end=start)]
     return pd.concat(parts).set_index(["begin", "end"], append=True).reorder_levels(["begin", "end", "party", "name"])
@@ -74,16 +74,16 @@ def add_up(parts: Iterable[Bill], whole: Bill) -> bool:
     """Whether the accounts of these bills come to those of the whole."""
     bills = list(parts)
     for name, account in whole.devices.items():
-        if sum_of(it.devices[name] for it in bills) != account:
+        if sum_of(bill.devices[name] for bill in bills) != account:
             return False
-    return sum_of(it.grid for it in bills) == whole.grid
+    return sum_of(bill.grid for bill in bills) == whole.grid
 
 
 def sum_of(accounts: Iterable[Account]) -> Account:
     """The sum of some accounts."""
     amount = taken = given = 0
-    for it in accounts:
-        amount, taken, given = amount + it.amount, taken + it.taken, given + it.given
+    for account in accounts:
+        amount, taken, given = amount + account.amount, taken + account.taken, given + account.given
     return Account(amount, taken, given)
 
 

@@ -58,10 +58,10 @@ class Hours:
             days = range(int(last // 24) + 1)
             # From the first midnight on, by the calendar.
             midnight = -(self.start.hour + self.start.minute / 60) % 24
-            firsts = [midnight + 24 * it for it in days if later(self.start, round((midnight + 24 * it) * 60)).day == 1]
-            return [it for it in firsts[:: 1 + (len(firsts) - 1) // 9] if it <= last]
-        width = next((it for it in (0.25, 0.5, 1, 2, 3, 6, 12, 24, 48, 96, 168) if last / it <= 8.01), last / 8)
-        return [float(it) for it in numpy.arange(0, last + width / 100, width)]
+            firsts = [midnight + 24 * day for day in days if later(self.start, round((midnight + 24 * day) * 60)).day == 1]
+            return [first for first in firsts[:: 1 + (len(firsts) - 1) // 9] if first <= last]
+        width = next((width for width in (0.25, 0.5, 1, 2, 3, 6, 12, 24, 48, 96, 168) if last / width <= 8.01), last / 8)
+        return [float(tick) for tick in numpy.arange(0, last + width / 100, width)]
 
 
 def number(value: float, digits: int = 0) -> str:
@@ -124,7 +124,7 @@ def draw_line(axes: Axes, hours: Hours, values: Any, **look: Any) -> None:
 
 def draw_prices(hours: Hours, market: Any, groups: Mapping[str, Any], unit: str) -> Figure:
     """The price of the market, and of the first limited groups whose price differs from it at some time."""
-    own = {name: it for name, it in groups.items() if list(it) != list(market)}
+    own = {name: prices for name, prices in groups.items() if list(prices) != list(market)}
     figure, axes = timed_axes(hours, **(legend_above(1 + min(len(own), MOST_LINES)) if own else {}))
     for at, (name, prices) in enumerate(list(own.items())[:MOST_LINES]):
         axes.stairs(hours.course.mean(prices), hours.edges, baseline=None, color=COLOURS[at % 8], linewidth=1.2, label=f"below {name}")
@@ -215,7 +215,7 @@ def draw_heat(hours: Hours, powers: Mapping[str, Any]) -> Figure:
         # Between 0 and the most a power of ten, far enough from both that the words have room.
         middle = 10.0 ** math.floor(math.log10(most / 20))
         ticks = [-most, -middle, 0, middle, most]
-        bar.set_ticks(ticks, labels=[watts(it) for it in ticks], fontsize=8)
+        bar.set_ticks(ticks, labels=[watts(tick) for tick in ticks], fontsize=8)
         bar.ax.minorticks_off()
     return figure
 

@@ -66,7 +66,7 @@ def demands_of(told: Answers, steps: int) -> list[int | None]:
     a step that answers none has the total of the step before. The last step answers every lower target, so its total is told by
     what it leaves over.
     """
-    least = {it.step: it.least for it in told.curve}
+    least = {point.step: point.least for point in told.curve}
     demands: list[int | None] = []
     for step in range(steps):
         demands.append(least[step] if step in least else demands[-1])
@@ -78,6 +78,6 @@ def demands_of(told: Answers, steps: int) -> list[int | None]:
 
 def quarters_of(demands: Iterable[int | None]) -> list[int]:
     """0, and the quarters from what the cluster takes at its highest price to what it takes at its lowest, as far as may be asked."""
-    known = [max(-MOST_TARGET, min(it, MOST_TARGET)) for it in demands if it is not None]
+    known = [max(-MOST_TARGET, min(demand, MOST_TARGET)) for demand in demands if demand is not None]
     low, high = min(known), max(known)
     return sorted({0, *(low + (high - low) * part // 4 for part in range(5))})

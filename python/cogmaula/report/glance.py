@@ -20,23 +20,23 @@ MOST_TOLD = 3
 def glance(found: Findings) -> str:
     """Three answers beside each other, and the warnings below them."""
     answers = page.cards([("Were limits kept?", verdict(found)), ("What did it cost?", cost(found)), ("Who flexed?", flexed(found))])
-    return "\n".join([answers, *(page.words(f"\u26a0 {it}", "warning") for it in warnings(found))])
+    return "\n".join([answers, *(page.words(f"\u26a0 {warning}", "warning") for warning in warnings(found))])
 
 
 def verdict(found: Findings) -> str:
     """Whether the limits were kept."""
     if not found.groups:
         return page.words("No group has limits.", "soft")
-    broken = [it for it in found.groups if it.outside]
+    broken = [group for group in found.groups if group.outside]
     if not broken:
         return page.words(f"\u2713 All limits were kept, in {count(len(found.groups), 'group')}.", "good")
     lines = [
         page.words(
-            f"\u26a0 {it.name} was outside its limits for {duration(it.minutes_outside)}, "
-            f"at the ends of {it.outside} of {count(len(found.run.ends), 'phase')}.",
+            f"\u26a0 {group.name} was outside its limits for {duration(group.minutes_outside)}, "
+            f"at the ends of {group.outside} of {count(len(found.run.ends), 'phase')}.",
             "bad",
         )
-        for it in broken[:5]
+        for group in broken[:5]
     ]
     if len(broken) > 5:
         lines.append(page.words(f"\u26a0 So were {count(len(broken) - 5, 'more group')}.", "bad"))
@@ -50,7 +50,7 @@ def cost(found: Findings) -> str:
     if figures.cost_at_connection is None:
         lines.append(page.words("Name the connection to the supplier (--connection) to compare this with the cost without the market.", "soft"))
     else:
-        rows = [[name, amount(currency, it)] for name, it in compared(figures)]
+        rows = [[name, amount(currency, value)] for name, value in compared(figures)]
         lines.append(page.plain_table(["At the connection's prices", currency.unit], rows))
     return "\n".join(lines)
 
@@ -64,19 +64,20 @@ def compared(figures: Figures) -> list[tuple[str, float | None]]:
     ]
 
 
-def amount(currency: Currency, it: float | None) -> str:
+def amount(currency: Currency, value: float | None) -> str:
     """An amount with two digits behind the point."""
-    return "unknown" if it is None else number(it, 2)
+    return "unknown" if value is None else number(value, 2)
 
 
 def flexed(found: Findings) -> str:
     """The devices that shifted most energy."""
     figures = found.figures
-    moved = sorted(((it, name) for name, it in figures.shifted_kWh.items() if it > 0), key=lambda it: (-it[0], it[1]))
+    moved = sorted(((energy, name) for name, energy in figures.shifted_kWh.items() if energy > 0), key=lambda move: (-move[0], move[1]))
     if not moved:
         return page.words("No device with a plain rule took or delivered energy at another time than by that rule.", "soft")
-    lines = [page.words(f"{hours(sum(it for it, _ in moved))} kWh", "large"), page.words(f"shifted by {count(len(moved), 'device')} *, most by", "soft")]
-    rows = [[name, hours(it)] for it, name in moved[:MOST_TOLD]]
+    total = sum(energy for energy, _ in moved)
+    lines = [page.words(f"{hours(total)} kWh", "large"), page.words(f"shifted by {count(len(moved), 'device')} *, most by", "soft")]
+    rows = [[name, hours(energy)] for energy, name in moved[:MOST_TOLD]]
     return "\n".join([*lines, page.plain_table(["device", "kWh"], rows)])
 
 
@@ -90,7 +91,7 @@ def warnings(found: Findings) -> Iterator[str]:
         )
     if figures.bought_below_kWh:
         yield f"{hours(figures.bought_below_kWh)} of {hours(figures.bought_kWh)} kWh that were bought are billed below the connection's price of purchase."
-    idle = [name for name, it in figures.batteries.items() if it.cycles_a_day < FEW_CYCLES]
+    idle = [name for name, battery in figures.batteries.items() if battery.cycles_a_day < FEW_CYCLES]
     if idle and found.run.cluster.minutes >= 1440:
         told = ", ".join(idle[:MOST_TOLD]) + (f" and {count(len(idle) - MOST_TOLD, 'more')}" if len(idle) > MOST_TOLD else "")
         yield (
@@ -103,8 +104,8 @@ def facts(found: Findings) -> Iterator[tuple[str, str]]:
     """The figures that a reader looks for next, each with its unit."""
     figures, bill = found.figures, found.bill
     if found.connection is None:
-        yield "Taken by devices", f"{kilowatt_hours(sum(it.taken for it in bill.devices.values()))} kWh"
-        yield "Delivered by devices", f"{kilowatt_hours(sum(it.given for it in bill.devices.values()))} kWh"
+        yield "Taken by devices", f"{kilowatt_hours(sum(account.taken for account in bill.devices.values()))} kWh"
+        yield "Delivered by devices", f"{kilowatt_hours(sum(account.given for account in bill.devices.values()))} kWh"
         yield "Left over, given to the grid", f"{kilowatt_hours(bill.grid.taken)} kWh"
         yield "Lacking, taken from the grid", f"{kilowatt_hours(bill.grid.given)} kWh"
     else:

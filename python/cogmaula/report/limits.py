@@ -47,23 +47,23 @@ class Group:
     @property
     def minutes_outside(self) -> int:
         """For how many minutes it was outside its limits."""
-        return sum(it.end - it.begin for it in self.violations)
+        return sum(violation.end - violation.begin for violation in self.violations)
 
 
 def groups_of(run: Run, intervals: Sequence[Interval]) -> list[Group]:
     """The limited groups of a run, in the order of the file."""
-    limited = [it for it in run.cluster.nodes if isinstance(it, Limited)]
-    return [group_of(run, intervals, it, at) for at, it in enumerate(limited)]
+    limited = [node for node in run.cluster.nodes if isinstance(node, Limited)]
+    return [group_of(run, intervals, node, at) for at, node in enumerate(limited)]
 
 
 def group_of(run: Run, intervals: Sequence[Interval], node: Limited, at: int) -> Group:
     """The limited group of a node, which comes at place `at` among those of each phase's end."""
-    ends = [it.groups[at] for it in run.ends]
-    held = [ends[it.phases - 1] if it.phases else GroupEnd(node.name, 0, 0, 0) for it in intervals]
-    loads = tuple(it.total for it in held)
-    outside = sum(not node.floor <= it.total <= node.ceiling for it in ends)
+    ends = [end.groups[at] for end in run.ends]
+    held = [ends[interval.phases - 1] if interval.phases else GroupEnd(node.name, 0, 0, 0) for interval in intervals]
+    loads = tuple(end.total for end in held)
+    outside = sum(not node.floor <= end.total <= node.ceiling for end in ends)
     violations = tuple(violations_of(intervals, loads, node.floor, node.ceiling))
-    return Group(node.name, node.floor, node.ceiling, loads, tuple(it.price for it in held), outside, violations)
+    return Group(node.name, node.floor, node.ceiling, loads, tuple(end.price for end in held), outside, violations)
 
 
 def violations_of(intervals: Sequence[Interval], loads: Sequence[int], floor: int, ceiling: int) -> Iterator[Violation]:

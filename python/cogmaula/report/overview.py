@@ -30,13 +30,13 @@ def draw_overview(run: Run, connection: str | None = None) -> Figure:
         if len(held.minutes):
             draw_line(price, hours, held.prices[:, 0], color=LINE, linewidth=1.6)
             rows = rows_of(run.cluster, held.powers, held.without(connection))
-            largest = sorted(rows, key=lambda it: -int(abs(rows[it]).sum()))[:MOST_STACKED]
+            largest = sorted(rows, key=lambda name: -int(abs(rows[name]).sum()))[:MOST_STACKED]
             for at, name in enumerate(largest):
                 devices.stairs(hours.course.mean(rows[name]), hours.edges, baseline=None, color=COLOURS[at % 8], linewidth=1.4, label=name)
             put_legend(devices)
             draw_line(outside, hours, held.exchange(connection), color=COLOURS[0], linewidth=1.6)
         price.set_ylabel("price (price units)")
-        price.yaxis.set_major_formatter(lambda it, _: number(it))
+        price.yaxis.set_major_formatter(lambda power, _: number(power))
         devices.set_ylabel("power of devices" if len(held.names) <= MOST_STACKED else f"the {MOST_STACKED} largest powers")
         outside.set_ylabel("left over" if connection is None else "bought, and sold below 0")
         for axes in (devices, outside):

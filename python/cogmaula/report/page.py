@@ -120,7 +120,7 @@ def words(text: str, style: str = "") -> str:
 
 def facts(pairs: Iterable[tuple[str, str]]) -> str:
     """Short facts, each below its name."""
-    return '<dl class="facts">' + "".join(f"<div><dt>{escape(name)}</dt><dd>{escape(it)}</dd></div>" for name, it in pairs) + "</dl>"
+    return '<dl class="facts">' + "".join(f"<div><dt>{escape(name)}</dt><dd>{escape(value)}</dd></div>" for name, value in pairs) + "</dl>"
 
 
 def figure(svg: str, caption: str, told: str) -> str:
@@ -130,24 +130,24 @@ def figure(svg: str, caption: str, told: str) -> str:
 
 def cards(them: Iterable[tuple[str, str]]) -> str:
     """Short answers beside each other, each below its question."""
-    return '<div class="cards">' + "".join(f"<section><h2>{escape(title)}</h2>{it}</section>" for title, it in them) + "</div>"
+    return '<div class="cards">' + "".join(f"<section><h2>{escape(title)}</h2>{body}</section>" for title, body in them) + "</div>"
 
 
 def plain_table(head: Sequence[str], rows: Iterable[Sequence[str]]) -> str:
     """A small table without a caption."""
-    top = "".join(f'<th scope="col">{escape(it)}</th>' for it in head)
-    return f"<table><thead><tr>{top}</tr></thead><tbody>" + "".join(f"<tr>{row_of(it)}</tr>" for it in rows) + "</tbody></table>"
+    top = "".join(f'<th scope="col">{escape(title)}</th>' for title in head)
+    return f"<table><thead><tr>{top}</tr></thead><tbody>" + "".join(f"<tr>{row_of(row)}</tr>" for row in rows) + "</tbody></table>"
 
 
 def beside(*them: str) -> str:
     """Pieces side by side if there is room, else one below another."""
-    return '<div class="beside">' + "\n".join(f"<div>{it}</div>" for it in them) + "</div>"
+    return '<div class="beside">' + "\n".join(f"<div>{body}</div>" for body in them) + "</div>"
 
 
 def table(caption: str, head: Sequence[str], rows: Iterable[Sequence[str]], sums: Iterable[Sequence[str]] = ()) -> str:
     """A table whose first column names its rows; `sums` are rows at its end that stand out."""
-    top = "".join(f'<th scope="col">{escape(it)}</th>' for it in head)
-    lines = [f"<tr>{row_of(it)}</tr>" for it in rows] + [f'<tr class="sum">{row_of(it)}</tr>' for it in sums]
+    top = "".join(f'<th scope="col">{escape(title)}</th>' for title in head)
+    lines = [f"<tr>{row_of(row)}</tr>" for row in rows] + [f'<tr class="sum">{row_of(summed)}</tr>' for summed in sums]
     # A keyboard can scroll what has the focus.
     return (
         f'<div class="wide" tabindex="0" role="region" aria-label="{escape(caption)}"><table><caption>{escape(caption)}</caption>'
@@ -157,7 +157,7 @@ def table(caption: str, head: Sequence[str], rows: Iterable[Sequence[str]], sums
 
 def row_of(cells: Sequence[str]) -> str:
     """The cells of a row, the first of which names it."""
-    return f'<th scope="row">{escape(cells[0])}</th>' + "".join(f"<td>{escape(it)}</td>" for it in cells[1:])
+    return f'<th scope="row">{escape(cells[0])}</th>' + "".join(f"<td>{escape(cell)}</td>" for cell in cells[1:])
 
 
 def folded(title: str, *them: str) -> str:

@@ -34,7 +34,7 @@ def page_of(found: Findings) -> str:
     left_out = {"use"} if not has_use(found) else set[str]()
     left_out |= set() if found.groups else {"limits"}
     left_out |= set() if found.tariff else {"tariff"}
-    sections = [it for it in SECTIONS if it[0] not in left_out]
+    sections = [section for section in SECTIONS if section[0] not in left_out]
     body = [
         page.heading(found.title, 1),
         page.words(span_of(found), "soft"),
@@ -86,7 +86,7 @@ def price_facts(found: Findings) -> Iterator[tuple[str, str]]:
     """The range and the mean of the market's price."""
     held, minutes = found.run.held.prices[:, 0], found.run.held.minutes
     if len(held):
-        mean = Fraction(sum(price * it for price, it in zip(held.tolist(), minutes.tolist(), strict=True)), int(minutes.sum()))
+        mean = Fraction(sum(price * length for price, length in zip(held.tolist(), minutes.tolist(), strict=True)), int(minutes.sum()))
         low, high, unit = Fraction(int(min(held))), Fraction(int(max(held))), " price units"
         yield "Lowest price", number(float(low)) + (in_money(found.currency, low) or unit)
         yield "Highest price", number(float(high)) + (in_money(found.currency, high) or unit)
@@ -110,10 +110,10 @@ def prices(found: Findings) -> Iterator[str]:
     if not found.intervals:
         yield page.words("No time passes in this run, so there is nothing to draw.")
         return
-    held, groups = held_prices(found), {it.name: it.prices for it in found.groups}
+    held, groups = held_prices(found), {group.name: group.prices for group in found.groups}
     figure = draw_prices(hours_of(found), held, groups, unit_of(found.currency))
     told = f"The market's price goes from {min(held)} to {max(held)}"
-    own = sum(list(it) != held for it in groups.values())
+    own = sum(list(prices) != held for prices in groups.values())
     caption = "The price that holds over each tick." + (f" At some time {count(own, 'limited group')} had another price." if own else "")
     if own > MOST_LINES:
         caption += f" The figure shows {MOST_LINES} of them."
@@ -123,13 +123,13 @@ def prices(found: Findings) -> Iterator[str]:
 def held_prices(found: Findings) -> list[int]:
     """The market's price over each interval; before the first phase the lowest, at which an empty market clears."""
     ends = found.run.ends
-    return [ends[it.phases - 1].price if it.phases else found.run.cluster.basis.min for it in found.intervals]
+    return [ends[interval.phases - 1].price if interval.phases else found.run.cluster.basis.min for interval in found.intervals]
 
 
 def limits(found: Findings) -> Iterator[str]:
     """The load of each limited group against its limits, and a list of the violations."""
-    shown = sorted(found.groups, key=lambda it: -it.minutes_outside)[:MOST_FIGURES] if found.intervals else []
-    figures = [load_of(found, at, it) for at, it in enumerate(shown)]
+    shown = sorted(found.groups, key=lambda group: -group.minutes_outside)[:MOST_FIGURES] if found.intervals else []
+    figures = [load_of(found, at, group) for at, group in enumerate(shown)]
     tables = "\n".join(limit_tables(found))
     # One group leaves room for the tables beside it.
     yield page.beside(*figures, tables) if len(figures) == 1 else page.beside(*figures) + tables
@@ -140,10 +140,10 @@ def limits(found: Findings) -> Iterator[str]:
 def limit_tables(found: Findings) -> Iterator[str]:
     """The table of the groups, and the list of the violations."""
     head = ["group", "floor", "ceiling", "least load", "greatest load", "outside for", "ends of phases outside"]
-    yield long_table("Limited groups", head, [group_row(it) for it in found.groups])
-    broken = [(group.name, it) for group in found.groups for it in group.violations]
-    longest = sorted(broken, key=lambda it: it[1].begin - it[1].end)[:MOST_ROWS]
-    rows = [violation_row(found, name, it) for name, it in (broken if len(broken) <= MOST_ROWS else longest)]
+    yield long_table("Limited groups", head, [group_row(group) for group in found.groups])
+    broken = [(group.name, violation) for group in found.groups for violation in group.violations]
+    longest = sorted(broken, key=lambda pair: pair[1].begin - pair[1].end)[:MOST_ROWS]
+    rows = [violation_row(found, name, violation) for name, violation in (broken if len(broken) <= MOST_ROWS else longest)]
     if rows:
         title = f"Violations: {count(len(broken), 'span')} of time outside a limit"
         title += f", the {MOST_ROWS} longest" if len(broken) > MOST_ROWS else ""
@@ -172,10 +172,10 @@ def group_row(group: Group) -> list[str]:
     return [group.name, *ends, duration(group.minutes_outside), str(group.outside)]
 
 
-def violation_row(found: Findings, name: str, it: Violation) -> list[str]:
+def violation_row(found: Findings, name: str, violation: Violation) -> list[str]:
     """The row of a violation."""
-    times = [moment(found, it.begin), moment(found, it.end), duration(it.end - it.begin)]
-    return [name, *times, watts(it.limit), watts(it.load), watts(abs(it.load - it.limit))]
+    times = [moment(found, violation.begin), moment(found, violation.end), duration(violation.end - violation.begin)]
+    return [name, *times, watts(violation.limit), watts(violation.load), watts(abs(violation.load - violation.limit))]
 
 
 def long_table(title: str, head: Sequence[str], rows: Sequence[Sequence[str]], limit: int = MOST_OPEN) -> str:
@@ -232,18 +232,23 @@ def use(found: Findings) -> Iterator[str]:
     tables = []
     if figures.cost_plain is not None:
         rows = [["the market's bill", money(figures.cost)]]
-        rows += [[f"at the connection's prices, {name}", money(it or 0)] for name, it in compared(figures)]
+        rows += [[f"at the connection's prices, {name}", money(value or 0)] for name, value in compared(figures)]
         tables.append(page.table("What it costs, and would cost", ["cost", f"amount ({unit})"], rows))
     if figures.batteries:
         head = ["battery", "charge, least (%)", "mean (%)", "greatest (%)", "at the end (%)", "cycles", "cycles a day"]
         use = [
-            [name, *(number(100 * share, 0) for share in (it.least, it.mean, it.most, it.last)), number(it.cycles, 2), number(it.cycles_a_day, 2)]
-            for name, it in figures.batteries.items()
+            [
+                name,
+                *(number(100 * share, 0) for share in (battery.least, battery.mean, battery.most, battery.last)),
+                number(battery.cycles, 2),
+                number(battery.cycles_a_day, 2),
+            ]
+            for name, battery in figures.batteries.items()
         ]
         tables.append(long_table("The use of batteries", head, use))
-    moved = [(name, it) for name, it in figures.shifted_kWh.items() if it]
+    moved = [(name, energy) for name, energy in figures.shifted_kWh.items() if energy]
     if moved:
-        rows = [[name, hours(it)] for name, it in sorted(moved, key=lambda it: -it[1])]
+        rows = [[name, hours(energy)] for name, energy in sorted(moved, key=lambda move: -move[1])]
         tables.append(long_table("Energy at another time than by the device's plain rule *", ["device", "shifted (kWh)"], rows))
     yield page.beside(*tables)
     yield page.words(
@@ -268,7 +273,7 @@ def bills(found: Findings) -> Iterator[str]:
     )
     head = ["account", "taken (kWh)", "given (kWh)", f"amount ({currency.unit})"]
     sums = [account_row(found, party, bill.grid)]
-    by_device = page.table("By device", head, [account_row(found, name, it) for name, it in bill.devices.items()], sums)
+    by_device = page.table("By device", head, [account_row(found, name, account) for name, account in bill.devices.items()], sums)
     head = ["span", "taken (kWh)", "given (kWh)", f"devices pay ({currency.unit})", f"{other} pays ({currency.unit})"]
     by_span = long_table(
         "By span of time, all devices", head, [span_row(found, at) for at in range(min(len(found.spans), MOST_ROWS))], limit=MOST_COLUMNS
@@ -282,10 +287,10 @@ def bills(found: Findings) -> Iterator[str]:
 
 def by_device_and_span(found: Findings) -> str:
     """Energies and amounts of each device in each span."""
-    spans = [moment(found, it.begin) for it in found.spans]
+    spans = [moment(found, span.begin) for span in found.spans]
     names, currency = list(found.bill.devices), found.currency
-    energies = [[name, *(kilowatt_hours(net(it.bill.devices.get(name))) for it in found.spans)] for name in names]
-    amounts = [[name, *(money(paid(found, it.bill.devices.get(name))) for it in found.spans)] for name in names]
+    energies = [[name, *(kilowatt_hours(net(span.bill.devices.get(name))) for span in found.spans)] for name in names]
+    amounts = [[name, *(money(paid(found, span.bill.devices.get(name))) for span in found.spans)] for name in names]
     return page.folded(
         "By device and span of time",
         page.table("Energy taken, less what was given (kWh), by the begin of each span", ["account", *spans], energies),
@@ -302,8 +307,8 @@ def tariff(found: Findings) -> Iterator[str]:
         f"What a supplier bills by its tariff for the powers of the run. It is no account of the market. Amounts are in {unit}: VAT is paid on what "
         "is bought and on the fee, and the total is that less what is sold."
     )
-    head = ["household", "month", "bought (kWh)", "sold (kWh)", *(f"{it} ({unit})" for it in ("bought", "sold", "fee", "VAT", "total"))]
-    rows = [[household, month, *(hours(it) for it in row[:2]), *(money(it) for it in row[2:])] for (household, month), row in frame_rows(frame)]
+    head = ["household", "month", "bought (kWh)", "sold (kWh)", *(f"{word} ({unit})" for word in ("bought", "sold", "fee", "VAT", "total"))]
+    rows = [[household, month, *(hours(energy) for energy in row[:2]), *(money(amount) for amount in row[2:])] for (household, month), row in frame_rows(frame)]
     yield long_table("Each household and month", head, rows)
     if len(rows) > 1:
         sums = frame.sum().tolist()
@@ -332,20 +337,20 @@ def account_row(found: Findings, name: str, account: Account) -> list[str]:
 
 def span_row(found: Findings, at: int) -> list[str]:
     """The row of a span of time."""
-    it, currency = found.spans[at], found.currency
-    devices = it.bill.devices.values()
+    span, currency = found.spans[at], found.currency
+    devices = span.bill.devices.values()
     taken, given = sum(one.taken for one in devices), sum(one.given for one in devices)
     amount = currency.money(sum(one.amount for one in devices))
-    name = f"{moment(found, it.begin)} to {moment(found, it.end)}"
-    return [name, kilowatt_hours(taken), kilowatt_hours(given), money(amount), money(currency.money(it.bill.grid.amount))]
+    name = f"{moment(found, span.begin)} to {moment(found, span.end)}"
+    return [name, kilowatt_hours(taken), kilowatt_hours(given), money(amount), money(currency.money(span.bill.grid.amount))]
 
 
 def flexibility(found: Findings) -> Iterator[str]:
     """What the cluster would take or deliver at each price, at the end of the run."""
     flex = found.flexibility
-    answers = [(it.target, it.price) for it in flex.answers]
+    answers = [(answer.target, answer.price) for answer in flex.answers]
     figure = draw_curve(flex.prices, flex.demands, answers, unit_of(found.currency))
-    known = [it for it in flex.demands if it is not None]
+    known = [demand for demand in flex.demands if demand is not None]
     caption = "What the cluster takes beyond what it delivers, at each price of the basis. Nothing lies between two steps."
     told = f"{caption} It goes from {watts(known[0])} at the lowest price to {watts(known[-1])}."
     yield page.figure(svg_of(figure, "curve"), caption, told)
@@ -359,9 +364,9 @@ def flexibility(found: Findings) -> Iterator[str]:
 
 def answer_rows(found: Findings) -> Iterable[list[str]]:
     """The row of each target."""
-    for it in found.flexibility.answers:
-        around = ["none" if power is None else watts(power) for power in found.flexibility.around(it)]
-        yield [watts(it.target), number(it.price), *around, watts(it.total)]
+    for answer in found.flexibility.answers:
+        around = ["none" if power is None else watts(power) for power in found.flexibility.around(answer)]
+        yield [watts(answer.target), number(answer.price), *around, watts(answer.total)]
 
 
 # Each section by its name and its title; whether it is as wide as the page; and what makes it.

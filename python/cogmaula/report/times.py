@@ -39,7 +39,7 @@ def spans_of(intervals: Sequence[Interval], minutes: int) -> Iterator[tuple[int,
     A span is made of whole ticks. If a tick goes past the end of a span, the span goes with it.
     """
     begin = first = 0
-    for at, it in enumerate(intervals):
-        if it.end >= (begin // minutes + 1) * minutes or at == len(intervals) - 1:
-            yield begin, it.end, first, it.phases + 1
-            begin, first = it.end, it.phases + 1
+    for at, interval in enumerate(intervals):
+        if interval.end >= (begin // minutes + 1) * minutes or at == len(intervals) - 1:
+            yield begin, interval.end, first, interval.phases + 1
+            begin, first = interval.end, interval.phases + 1

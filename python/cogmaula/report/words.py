@@ -22,7 +22,7 @@ def duration(minutes: int) -> str:
     """A number of minutes in hours and minutes, and in days if it is long."""
     hours, rest = divmod(minutes, 60)
     days, hours = divmod(hours, 24) if hours >= 96 else (0, hours)
-    told = [f"{it} {unit}" for it, unit in ((days, "days"), (hours, "h"), (rest, "min")) if it]
+    told = [f"{amount} {unit}" for amount, unit in ((days, "days"), (hours, "h"), (rest, "min")) if amount]
     return " ".join(told) or "0 min"
 
 

@@ -49,7 +49,7 @@ def offer_of(bid: Bid, basis: Basis, name: str) -> AnyOffer:
             bid.kind.require_state(bid.state)
             return bid
         if isinstance(bid, Sequence) and len(bid) and isinstance(bid[0], Sequence):
-            points = Points.of([_pair(it) for it in bid])
+            points = Points.of([_pair(pair) for pair in bid])
             points.require_over(basis)
             return points
         if not isinstance(bid, Sequence):

@@ -29,7 +29,7 @@ class ClusterDevice:
         """Takes the device with the state of its start."""
         self.node = node
         self.tick = tick
-        self._kind = DeviceKind(node.kind, tuple(getattr(node, it) for it in PARAMETERS.get(node.kind, ())))
+        self._kind = DeviceKind(node.kind, tuple(getattr(node, word) for word in PARAMETERS.get(node.kind, ())))
         # A temperature, a charge in watt-hours, a power or a target in watts; of a manual device 0, since its bid is its state.
         self.state = float(getattr(node, "start", 0))
         self._manual: Bid = (node.demand or node.points or 0) if isinstance(node, Manual) else 0

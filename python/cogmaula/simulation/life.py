@@ -44,8 +44,8 @@ class Life:
         """Is before the first phase: nobody is a member."""
         self._basis = cluster.basis
         self._moments = list(moments_of(cluster))
-        ticks = [it.what.minutes for it in self._moments if isinstance(it.what, Tick)]
-        self.devices = {it.name: ClusterDevice(it, (ticks or [USUAL_TICK])[0]) for it in cluster.devices}
+        ticks = [moment.what.minutes for moment in self._moments if isinstance(moment.what, Tick)]
+        self.devices = {device.name: ClusterDevice(device, (ticks or [USUAL_TICK])[0]) for device in cluster.devices}
         self.members: set[str] = set()
         self.powers: dict[str, int] = dict.fromkeys(self.devices, 0)
         self.minute = 0.0
@@ -65,8 +65,8 @@ class Life:
 
     def _happens(self, moment: Moment) -> Iterator[str]:
         if isinstance(moment.what, Tick):
-            for it in self.devices.values():
-                it.tick = moment.what.minutes
+            for device in self.devices.values():
+                device.tick = moment.what.minutes
             return
         for event in moment.what.events:
             self._take(event)
@@ -85,7 +85,7 @@ class Life:
     def offers(self) -> dict[str, AnyOffer | None]:
         """What each device offers now, None if it is no member."""
         now = self.now
-        return {name: offer_of(it.bid(now), self._basis, name) if name in self.members else None for name, it in self.devices.items()}
+        return {name: offer_of(device.bid(now), self._basis, name) if name in self.members else None for name, device in self.devices.items()}
 
     @property
     def now(self) -> datetime:

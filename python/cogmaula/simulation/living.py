@@ -111,7 +111,7 @@ class LivingCluster:
         self._say = say
         self.life = Life(cluster)
         self.exchange = Exchange()
-        self.controls = {it: ModelControl() for it in self.life.devices}
+        self.controls = {name: ModelControl() for name in self.life.devices}
         self._folder = tempfile.TemporaryDirectory(prefix="cogmaula.")
         self._settings = self._all_settings(Path(self._folder.name))
         self.topics = self._settings[0].topics
@@ -148,13 +148,13 @@ class LivingCluster:
             self._end_nodes()
             self._showing.close()
             self._folder.cleanup()
-        for it in self._running:
-            if it.error is not None:
-                raise it.error
+        for carrier in self._running:
+            if carrier.error is not None:
+                raise carrier.error
 
     def facts(self) -> list[NodeFacts]:
         """What the nodes tell of themselves. It may be called from any thread."""
-        return [it.node.facts() for it in list(self._running)]
+        return [carrier.node.facts() for carrier in list(self._running)]
 
     def stop(self) -> None:
         """Ends `run`, from any thread or from the handler of a signal."""
@@ -193,21 +193,21 @@ class LivingCluster:
 
     def _end_nodes(self) -> None:
         """Ends all nodes, each parent after its children, so that none of them misses it."""
-        devices = [it for it in self._running if it.node.settings.sort == "device"]
-        for it in devices:
-            it.stop()
-        for it in devices:
-            it.join(LAST_SECONDS)
-        for it in reversed(self._running):
-            it.stop()
-            it.join(LAST_SECONDS)
+        devices = [carrier for carrier in self._running if carrier.node.settings.sort == "device"]
+        for device in devices:
+            device.stop()
+        for device in devices:
+            device.join(LAST_SECONDS)
+        for carrier in reversed(self._running):
+            carrier.stop()
+            carrier.join(LAST_SECONDS)
 
     def _is_up(self, name: str) -> bool:
         message = self.exchange.message(self.topics.of(name, "state"))
         return message is not None and StateMessage.of(message.payload).state == "up"
 
     def _lives(self) -> bool:
-        return not self._stopping.is_set() and all(it.is_alive for it in self._running)
+        return not self._stopping.is_set() and all(carrier.is_alive for carrier in self._running)
 
     def _pass(self, minutes: float | None) -> None:
         """Lets the devices' time pass, and tells what happens."""
@@ -227,7 +227,7 @@ class LivingCluster:
         while self._lives() and time.monotonic() < min(end, quiet_since + QUIET_SECONDS):
             newest, before = self._newest, told
             told = self._look(0.0, told)
-            if told != before or self._newest is not newest or not all(self.controls[it].is_told for it in self.life.members):
+            if told != before or self._newest is not newest or not all(self.controls[name].is_told for name in self.life.members):
                 quiet_since = time.monotonic()
         return told
 
@@ -252,7 +252,7 @@ class LivingCluster:
 
     def _sums(self, price: Price) -> str:
         powers = [self.life.powers[name] for name in self.life.members]
-        taken, given = sum(it for it in powers if it > 0), -sum(it for it in powers if it < 0)
+        taken, given = sum(power for power in powers if power > 0), -sum(power for power in powers if power < 0)
         return f"price {self._cluster.basis.price(price.step)}: {len(powers)} devices take {taken} W and give {given} W"
 
     def _hear(self, message: Message) -> None:

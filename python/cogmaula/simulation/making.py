@@ -69,7 +69,7 @@ class BidMaker:
         asked = [name for name in new if name not in given]
         for first in range(0, len(asked), WINDOW):
             part = asked[first : first + WINDOW]
-            given |= zip(part, self._ask([new[it] for it in part]), strict=True)
+            given |= zip(part, self._ask([new[name] for name in part]), strict=True)
         self._made |= {name: (offer, given[name]) for name, offer in new.items()}
         return {name: self._made[name][1] for name in offers}
 
@@ -86,6 +86,6 @@ class BidMaker:
         gone = self._agent.read_all(size_of(ResumeGone, self._steps) + size_of(Gone, self._steps))
         found = list(self._answer.iter_unpack(answers))
         begins = 6 + self._steps
-        if any((it[0], it[begins]) != (DeviceResume.KIND, Bid.KIND) for it in found) or gone[0] != ResumeGone.KIND:
+        if any((piece[0], piece[begins]) != (DeviceResume.KIND, Bid.KIND) for piece in found) or gone[0] != ResumeGone.KIND:
             raise self._agent.fault("it wrote no Bid to an offer")
-        return [it[-self._steps :] for it in found]
+        return [piece[-self._steps :] for piece in found]

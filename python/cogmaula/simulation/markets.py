@@ -134,14 +134,14 @@ class _Relay(_Node):
             found += self._frames.feed(self.read(PIECE))
             if found and isinstance(found[-1], Fault):
                 raise self.fault("it found a bad frame")
-        for it in found:
-            self._resume = it.to_bytes() if isinstance(it, RelayResume) else self._resume
+        for answer in found:
+            self._resume = answer.to_bytes() if isinstance(answer, RelayResume) else self._resume
         return found
 
     def announced(self) -> bytes:
         """The bid of the group for the auctioneer, once a bid in it is new. One that was started anew may first give its last bid again."""
         self.has_news = False
-        found = [it for it in self._answers(Send(), self._is_newer) if self._is_newer(it)]
+        found = [answer for answer in self._answers(Send(), self._is_newer) if self._is_newer(answer)]
         self._number = found[0].number
         return found[0].to_bytes()
 
@@ -153,8 +153,8 @@ class _Relay(_Node):
         self._index += 1
         basis = self._basis
         price = Price(self.child, self._number, self._index, step, basis.min, basis.max, basis.steps)
-        found = self._answers(price, lambda it: isinstance(it, RelayResume))
-        return {it.child: it.step for it in found if isinstance(it, Price)}
+        found = self._answers(price, lambda frame: isinstance(frame, RelayResume))
+        return {frame.child: frame.step for frame in found if isinstance(frame, Price)}
 
 
 @dataclass(frozen=True)
@@ -201,7 +201,7 @@ class Market:
         self._bid = struct.Struct(f">BHI{basis.steps}i")
         self._children = _places(devices, groups)
         self._is_changed = False
-        self._cleared = Cleared(0, {it.name: 0 for it in groups}, {})
+        self._cleared = Cleared(0, {group.name: 0 for group in groups}, {})
         self._stack = ExitStack()
         with ExitStack() as stack:
             self._auctioneer = _Auctioneer(chosen(program), basis)
@@ -224,13 +224,13 @@ class Market:
 
     def bid(self, device: str, demands: Demands) -> None:
         """Takes the demand of a device at each step, in watts. The same again is no new bid."""
-        it = self._children[device]
-        if demands == it.demands:
+        child = self._children[device]
+        if demands == child.demands:
             return
-        it.demands, self._is_changed = demands, True
-        it.number += 1
-        to = self._auctioneer if it.group is None else self._relays[it.group]
-        to.bid(it.child, self._bid.pack(Bid.KIND, it.child, it.number, *demands))
+        child.demands, self._is_changed = demands, True
+        child.number += 1
+        to = self._auctioneer if child.group is None else self._relays[child.group]
+        to.bid(child.child, self._bid.pack(Bid.KIND, child.child, child.number, *demands))
 
     def clear(self) -> Cleared:
         """Clears over the newest bids. Without a new one all is as before; without any the step is 0. Raises ProgramFault."""
@@ -249,8 +249,8 @@ class Market:
         step = next(iter(steps.values()))
         groups = {name: next(iter(below.get(name, {}).values()), step) for name in self._relays}
         devices = {
-            name: steps[it.child] if it.group is None else below[it.group][it.child]
-            for name, it in self._children.items() if it.demands is not None
+            name: steps[child.child] if child.group is None else below[child.group][child.child]
+            for name, child in self._children.items() if child.demands is not None
         }
         return Cleared(step, groups, devices)
 
@@ -267,7 +267,7 @@ def _places(devices: Sequence[str], groups: Sequence[Group]) -> dict[str, _Child
             if name in above:
                 raise ValueError(f"{name} is in the groups {above[name]} and {group.name}: a device is in one group at most")
             above[name] = group.name
-    if len({it.name for it in groups}) != len(groups) or any(not it.devices for it in groups):
+    if len({group.name for group in groups}) != len(groups) or any(not group.devices for group in groups):
         raise ValueError("each group has a name of its own and one device or more")
     # Groups are the first children of the auctioneer.
     counts: dict[str | None, int] = {None: len(groups)}

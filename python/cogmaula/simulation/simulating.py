@@ -63,20 +63,20 @@ def simulate(
     """
     if ticks < 1 or minutes < 1:
         raise ValueError(f"{ticks} ticks of {minutes} minutes: give 1 or more of each")
-    begin, names = moment_of(start, frames.START), [it.name for it in devices]
+    begin, names = moment_of(start, frames.START), [device.name for device in devices]
     rows: list[_Row] = []
     with Market(basis, names, groups, program=program, live=live) as market, BidMaker(basis, live) as maker:
         for tick in range(ticks):
             now = later(begin, tick * minutes)
-            bids = tuple(maker.demands({it.name: offer_of(it.bid(now), basis, it.name) for it in devices}).values())
-            states = tuple(it.state for it in devices)
+            bids = tuple(maker.demands({device.name: offer_of(device.bid(now), basis, device.name) for device in devices}).values())
+            states = tuple(device.state for device in devices)
             for name, demands in zip(names, bids, strict=True):
                 market.bid(name, demands)
             cleared = market.clear()
             steps = cleared.devices
             powers = tuple(demands[steps[name]] for name, demands in zip(names, bids, strict=True))
-            for it, power in zip(devices, powers, strict=True):
-                it.step(power, minutes)
+            for device, power in zip(devices, powers, strict=True):
+                device.step(power, minutes)
             rows.append(_Row(cleared, powers, states, bids if keep_bids else None))
     return Simulation(tuple(names), basis, begin, minutes, tuple(groups), tuple(rows))
 
@@ -113,13 +113,13 @@ class Simulation:
     def ends(self) -> tuple[PhaseEnd, ...]:
         """Each tick as the end of a phase: the price, the powers, and what is left over."""
         found, price = [], self.basis.prices
-        for tick, it in enumerate(self._rows, 1):
-            powers, step = dict(zip(self.names, it.powers, strict=True)), it.cleared.step
+        for tick, row in enumerate(self._rows, 1):
+            powers, step = dict(zip(self.names, row.powers, strict=True)), row.cleared.step
             groups = tuple(
                 GroupEnd(group.name, price[below], below, sum(powers[name] for name in group.devices))
-                for group in self.groups for below in [it.cleared.groups[group.name]]
+                for group in self.groups for below in [row.cleared.groups[group.name]]
             )
-            found.append(PhaseEnd(tick, price[step], step, sum(it.powers), powers, {}, groups))
+            found.append(PhaseEnd(tick, price[step], step, sum(row.powers), powers, {}, groups))
         return tuple(found)
 
     @cached_property
@@ -134,12 +134,12 @@ class Simulation:
     @cached_property
     def powers(self) -> Any:
         """The power of each device in watts, positive if it takes power: (time, phase) by device, Int64."""
-        return frames.wide(self._index, self.names, [it.powers for it in self.ends])
+        return frames.wide(self._index, self.names, [end.powers for end in self.ends])
 
     @cached_property
     def states(self) -> Any:
         """The state of each device at the begin of each tick, in the unit of its model: (time, phase) by device, float64."""
-        found = frames.pandas().DataFrame([it.states for it in self._rows], index=self._index, columns=list(self.names), dtype="float64")
+        found = frames.pandas().DataFrame([row.states for row in self._rows], index=self._index, columns=list(self.names), dtype="float64")
         found.columns.name = "device"
         return found
 
@@ -150,7 +150,7 @@ class Simulation:
 
     @property
     def _limited(self) -> list[Node]:
-        return [Limited(it.name, floor=it.floor, ceiling=it.ceiling) for it in self.groups]
+        return [Limited(group.name, floor=group.floor, ceiling=group.ceiling) for group in self.groups]
 
     def series(self) -> Any:
         """The power of each device over time, with an index of times that has its frequency: Int64 by device."""
@@ -169,13 +169,13 @@ class Simulation:
         """
         if self.groups:
             raise ValueError("a simulation with groups has no cluster file of the same prices")
-        bids = [it.demands for it in self._rows if it.demands is not None]
+        bids = [row.demands for row in self._rows if row.demands is not None]
         if len(bids) != len(self):
             raise BidsNotKept("the bids were not kept: give simulate keep_bids=True")
         phases: list[Phase] = []
         before = bids[0]
         for now in bids:
-            changed = [State(name, demand=it) for name, it, old in zip(self.names, now, before, strict=True) if it != old]
+            changed = [State(name, demand=demand) for name, demand, old in zip(self.names, now, before, strict=True) if demand != old]
             phases += [Events(changed) if phases else Events(map(Join, self.names)), Tick(self.minutes)]
             before = now
-        return Cluster(self.basis, [Manual(name, demand=it) for name, it in zip(self.names, bids[0], strict=True)], phases)
+        return Cluster(self.basis, [Manual(name, demand=demand) for name, demand in zip(self.names, bids[0], strict=True)], phases)

@@ -7,7 +7,7 @@ from pathlib import Path
 
 import pytest
 
-sys.path += [str(Path(__file__).resolve().parents[1] / it) for it in ("live", "hub")]
+sys.path += [str(Path(__file__).resolve().parents[1] / folder) for folder in ("live", "hub")]
 
 
 @pytest.fixture

@@ -87,7 +87,7 @@ class Working:
         return self
 
     def says(self, words):
-        wait_until(lambda: any(re.search(words, it) for it in self.said), f"{words!r} in {self.said}")
+        wait_until(lambda: any(re.search(words, line) for line in self.said), f"{words!r} in {self.said}")
         return self
 
     def __exit__(self, *_):
@@ -118,7 +118,7 @@ def test_a_battery_by_modbus_follows_the_market_and_stays_within_its_bounds(live
         house = hub.agent("house")
         tables = tables_of(hub, battery.place(register=2, type="f32", unit="Wh", timeout=5.0), battery.place(register=0, timeout=5.0))
         with Working({**tables, "agent": {"every": 0.05, "stale": 10}}) as agent:
-            for watts, is_there in ((-1500, lambda it: it > 800), (1500, lambda it: it < 200)):
+            for watts, is_there in ((-1500, lambda power: power > 800), (1500, lambda power: power < 200)):
                 house.bids([watts] * 10)
                 wait_until(lambda: is_there(battery.read(register=2, type="f32")), f"the battery follows {watts} W: {agent.said}")
         assert battery.read(register=0) == 0
@@ -172,7 +172,7 @@ def test_a_jump_of_the_clock_changes_nothing(live, tmp_path, monkeypatch):
             wait_until(lambda: Jumping.looks > looks + 3, "it looks at the clock")
             house.bids([300] * 10)
             wait_until(lambda: ",-400" in sink.read_text(), "the battery is told -400 W")
-        assert [it for it in agent.said if "fallback" in it] == ["the agent ends: the device takes its fallback, 0 W"]
+        assert [line for line in agent.said if "fallback" in line] == ["the agent ends: the device takes its fallback, 0 W"]
     assert sink.read_text().splitlines()[-1].endswith(",0")
 
 
@@ -200,8 +200,8 @@ def test_a_strategy_of_one_s_own_keeps_its_own_state_at_a_hub_by_tls(live, tmp_p
         del tables["state"]
         tables["device"] = {"strategy": "own.py:Own", "name": "own", "hours": 1 / 3600}
         with Working(tables, tmp_path) as agent:
-            wait_until(lambda: sink.exists() and [it.partition(",")[2] for it in sink.read_text().split()] == ["700", "0"], f"it ran: {agent.said}")
-    seconds = [float(it.partition(",")[0]) for it in sink.read_text().split()]
+            wait_until(lambda: sink.exists() and [row.partition(",")[2] for row in sink.read_text().split()] == ["700", "0"], f"it ran: {agent.said}")
+    seconds = [float(row.partition(",")[0]) for row in sink.read_text().split()]
     assert seconds[1] - seconds[0] >= 0.9
 
 

@@ -245,7 +245,7 @@ def tables(**more):
         "setpoint": {"by": "mqtt", "topic": "store/power"},
     }
     for name, members in more.items():
-        found[name] = {key: it for key, it in {**found.get(name, {}), **members}.items() if it is not None}
+        found[name] = {key: value for key, value in {**found.get(name, {}), **members}.items() if value is not None}
     return found
 
 
@@ -305,4 +305,4 @@ def test_settings_that_are_wrong(more, words):
 
 def test_settings_that_lack_a_table():
     with pytest.raises(BadSettings, match=r"\[limits\] is missing"):
-        agent_settings_of({name: it for name, it in tables().items() if name != "limits"})
+        agent_settings_of({name: table for name, table in tables().items() if name != "limits"})

@@ -44,7 +44,7 @@ def falls_at(step, before, behind):
 def clearing_step(*offers):
     """The first step at which these offers together are not positive, or the last."""
     sums = [sum(them) for them in zip(*offers, strict=True)]
-    return next((step for step, it in enumerate(sums) if it <= 0), STEPS - 1)
+    return next((step for step, total in enumerate(sums) if total <= 0), STEPS - 1)
 
 
 def tokens_in(folder, children=CHILDREN):
@@ -144,7 +144,7 @@ class HubProcess:
     def megabytes(self):
         """The memory of the process that no other shares."""
         rows = Path(f"/proc/{self.process.pid}/smaps_rollup").read_text().splitlines()
-        return sum(int(it.split()[1]) for it in rows if it.startswith("Private")) / 1024
+        return sum(int(row.split()[1]) for row in rows if row.startswith("Private")) / 1024
 
     def agent(self, name, **more):
         return TcpAgent(self.port, **more).login(name, self.tokens[name])
@@ -199,11 +199,11 @@ class Told:
 
     @property
     def prices(self):
-        return [it["priceUpdate"] for it in self.told if "priceUpdate" in it]
+        return [message["priceUpdate"] for message in self.told if "priceUpdate" in message]
 
     @property
     def errors(self):
-        return [it["error"] for it in self.told if "error" in it]
+        return [message["error"] for message in self.told if "error" in message]
 
     @property
     def welcome(self):
@@ -219,7 +219,7 @@ class Told:
         return self
 
     def waits_for_error(self, words):
-        wait_until(lambda: any(words in it for it in self.errors), f"{words!r}, and not {self.told[-3:]}")
+        wait_until(lambda: any(words in error for error in self.errors), f"{words!r}, and not {self.told[-3:]}")
         return self
 
     def waits_for_end(self):
@@ -268,7 +268,7 @@ class TcpAgent(Told):
         try:
             for piece in self._pieces():
                 *lines, kept = (kept + piece).split(b"\n")
-                self.told += [json.loads(it) for it in lines]
+                self.told += [json.loads(line) for line in lines]
         except OSError:
             pass
         self.is_over = True

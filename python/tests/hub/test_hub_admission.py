@@ -20,7 +20,7 @@ def test_silent_connections_end_no_node_and_keep_nobody_out(live, tmp_path):
             for name, address in (("store", "127.0.0.1"), ("mill", "127.0.0.2")):
                 hub.agent(name, address=address).bids([7] * 10, 1).waits_for(power=7)
         assert hub.process.poll() is None
-        assert any("too many connections wait for a login, many of 127.0.0.1" in it for it in hub.lines)
+        assert any("too many connections wait for a login, many of 127.0.0.1" in line for line in hub.lines)
         assert len(hub.lines) < 10, hub.lines[-10:]
 
 
@@ -76,7 +76,7 @@ def test_in_all_the_oldest_of_the_address_ends_of_which_most_wait():
     room = Room()
     other = room.named("198.51.100.1")
     many = [room.named("192.0.2.1") for _ in range(WAITING_OF_ADDRESS)]
-    few = [room.named(f"192.0.2.{2 + it}") for it in range(WAITING - WAITING_OF_ADDRESS - 1)]
+    few = [room.named(f"192.0.2.{2 + host}") for host in range(WAITING - WAITING_OF_ADDRESS - 1)]
     assert room.ended == []
     room.named("203.0.113.1")
     assert room.ended == [many[0]]
@@ -89,8 +89,8 @@ def test_the_files_of_nodes_are_kept_free():
     assert room.admission.room == 10 - FILES_OF_AGENT
     guests = [room.named("192.0.2.1") for _ in range(10 - FILES_OF_AGENT)]
     assert room.ended == []
-    for it in guests:
-        room.admission.admit(it)
+    for guest in guests:
+        room.admission.admit(guest)
     last = room.named("192.0.2.2")
     assert room.ended == [last], "those that have logged in stay"
     room.admission.leave(guests[0])

@@ -84,7 +84,7 @@ def price(index):
 
 
 def clearings(channel):
-    return [it["priceUpdate"]["clearing"] for it in channel.written if "priceUpdate" in it]
+    return [message["priceUpdate"]["clearing"] for message in channel.written if "priceUpdate" in message]
 
 
 def run(work):
@@ -146,7 +146,7 @@ def test_bids_and_leaves_go_to_the_node():
         channel.lines.put_nowait(b" \r\n")
         channel.lines.put_nowait(b'{"leave": true}')
         await until(lambda: len(table.offers) == 2)
-        assert [json.loads(it) for it in table.offers] == [{"power": [3, -3], "reference": 4}, {"leave": True}]
+        assert [json.loads(offer) for offer in table.offers] == [{"power": [3, -3], "reference": 4}, {"leave": True}]
         assert table.said == []
 
     run(work)
@@ -221,7 +221,7 @@ def test_the_other_side_ends(last):
         channel.lines.put_nowait(last)
         await channel.work
         assert channel.is_closed
-        assert [it.get("error") for it in channel.written[1:]] == ([str(last)] if isinstance(last, LineTooLong) else [])
+        assert [message.get("error") for message in channel.written[1:]] == ([str(last)] if isinstance(last, LineTooLong) else [])
         # The agent has a while to come back, and then leaves.
         await until(lambda: table.offers == [b'{"leave": true}'])
 

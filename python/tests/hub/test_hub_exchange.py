@@ -24,7 +24,7 @@ class Reader:
         return self
 
     def taken(self):
-        return [(it.topic, it.payload) for it in self.link.taken()]
+        return [(publication.topic, publication.payload) for publication in self.link.taken()]
 
 
 def publish(exchange, topic, payload, **properties):
@@ -120,16 +120,16 @@ def test_many_threads_lose_nothing(exchange):
         for number in range(1, 501):
             publish(exchange, f"market/a/bid/{child}", str(number).encode())
 
-    threads = [threading.Thread(target=write, args=(it,)) for it in range(1, 9)]
-    for it in threads:
-        it.start()
-    seen = {f"market/a/bid/{it}": [0] for it in range(1, 9)}
-    while any(it.is_alive() for it in threads):
+    threads = [threading.Thread(target=write, args=(number,)) for number in range(1, 9)]
+    for thread in threads:
+        thread.start()
+    seen = {f"market/a/bid/{number}": [0] for number in range(1, 9)}
+    while any(thread.is_alive() for thread in threads):
         for topic, payload in reader.taken():
             seen[topic].append(int(payload))
     for topic, payload in reader.taken():
         seen[topic].append(int(payload))
-    assert all(it == sorted(set(it)) and it[-1] == 500 for it in seen.values())
+    assert all(numbers == sorted(set(numbers)) and numbers[-1] == 500 for numbers in seen.values())
 
 
 def test_a_market_of_four_nodes_over_an_exchange(exchange, live, tmp_path):
@@ -146,10 +146,10 @@ def test_a_market_of_four_nodes_over_an_exchange(exchange, live, tmp_path):
         settings = Settings(sort, name, str(tmp_path / name), BASIS, live, parent, child, pause=0.05)
         nodes[name] = Node(settings, controls.get(name), lambda _: None, exchange.link)
         threads.append(threading.Thread(target=nodes[name].run))
-    for it in threads:
-        it.start()
+    for thread in threads:
+        thread.start()
     try:
-        wait_until(lambda: all(it.serving.service for it in nodes.values()), "all nodes are up")
+        wait_until(lambda: all(node.serving.service for node in nodes.values()), "all nodes are up")
         controls["house"].offers([100] * 10)
         controls["store"].offers(falls_at(4, 0, -150))
         wait_until(lambda: controls["house"].has(step=4, power=100) and controls["store"].has(step=4, power=-150), "price 4")
@@ -159,8 +159,8 @@ def test_a_market_of_four_nodes_over_an_exchange(exchange, live, tmp_path):
         assert json.loads(found["market/store/setpoint"].payload)["step"] == 8
         assert json.loads(found["market/basis"].payload)["session"] == nodes["auctioneer"].session.id
     finally:
-        for it in nodes.values():
-            it.stop()
-        for it in threads:
-            it.join(60)
-    assert {json.loads(exchange.message(f"market/{it}/state").payload)["state"] for it in nodes} == {"down"}
+        for node in nodes.values():
+            node.stop()
+        for thread in threads:
+            thread.join(60)
+    assert {json.loads(exchange.message(f"market/{name}/state").payload)["state"] for name in nodes} == {"down"}

@@ -61,15 +61,15 @@ def test_three_agents_over_tcp_and_websocket_with_tls(live, tmp_path):
         # At 4: 100 - 150 + 80 = 30. At 5: 100 - 150 + 60 = 10. At 6: -10.
         mill.waits_for(step=6, power=40, bidNumber=77, offer=4)
         settles(6, house=(house, 100), store=(store, -150))
-        assert all(it["time"].endswith("Z") for it in house.prices + store.prices + mill.prices)
+        assert all(price["time"].endswith("Z") for price in house.prices + store.prices + mill.prices)
         for agent in (house, store, mill):
-            assert [it["clearing"] for it in agent.prices] == sorted(it["clearing"] for it in agent.prices)
+            assert [price["clearing"] for price in agent.prices] == sorted(price["clearing"] for price in agent.prices)
             assert agent.errors == []
         for agent in (house, store, mill):
             agent.close()
             agent.waits_for_end()
         wait_until(lambda: not hub.hub._admission._guests, f"all connections have ended: {hub.said}")
-    assert all("listens at" in it or "begins" in it for it in hub.said), hub.said
+    assert all("listens at" in line or "begins" in line for line in hub.said), hub.said
 
 
 def test_tls_is_asked_for(live, tmp_path):
@@ -77,7 +77,7 @@ def test_tls_is_asked_for(live, tmp_path):
     with HubInThread(tmp_path, live, certificate=certificate, key=key) as hub:
         plain = hub.agent("house").waits_for_end()
         assert plain.told == []
-        wait_until(lambda: any("a handshake of TLS fails" in it for it in hub.said), f"the log has the handshake: {hub.said}")
+        wait_until(lambda: any("a handshake of TLS fails" in line for line in hub.said), f"the log has the handshake: {hub.said}")
 
 
 def test_a_leave_and_a_bid_without_a_number(hub):
@@ -137,7 +137,7 @@ def test_a_second_connection_of_an_agent_ends_the_first(hub):
     first.bids([0] * STEPS, 2)
     second.bids([50] * STEPS, 3).waits_for(power=50, bidNumber=3)
     assert second.errors == []
-    assert any("another connection of house" in it for it in hub.said)
+    assert any("another connection of house" in line for line in hub.said)
 
 
 @pytest.mark.parametrize(
@@ -153,7 +153,7 @@ def test_a_second_connection_of_an_agent_ends_the_first(hub):
 def test_a_wrong_login_is_refused_with_a_line(hub, line, why):
     one = TcpAgent(hub.port).says(line).waits_for_error(why).waits_for_end()
     assert len(one.told) == 1
-    assert any(why in it for it in hub.said)
+    assert any(why in line for line in hub.said)
 
 
 def test_the_token_of_another_agent_is_refused(hub):
@@ -168,11 +168,11 @@ def test_wrong_logins_keep_no_right_one_out(hub):
         right = hub.agent("store")
         assert right.welcome.get("agentId") == "store", right.told
         right.close()
-    for it in wrong:
-        it.waits_for_end()
-    told = [it.errors[0] for it in wrong]
-    assert any("too many logins of 127.0.0.1 failed: try again in a second" in it for it in told)
-    assert len([it for it in hub.said if "login" in it]) == 2
+    for agent in wrong:
+        agent.waits_for_end()
+    told = [agent.errors[0] for agent in wrong]
+    assert any("too many logins of 127.0.0.1 failed: try again in a second" in line for line in told)
+    assert len([line for line in hub.said if "login" in line]) == 2
 
 
 def test_a_login_has_to_come_in_time(hub, monkeypatch):
@@ -204,7 +204,7 @@ def test_a_bad_bid_has_its_line_and_the_connection_goes_on(hub):
     house.waits_for_error("the bid is not taken: 1 demands are there, and 10 are due")
     house.says_bytes(b"\n\r\n").bids(CONSTANT, 1).waits_for(power=100, bidNumber=1)
     assert len(house.errors) == 1
-    assert any(it.startswith("house (127.0.0.1:") and "the bid is not taken" in it for it in hub.said)
+    assert any(line.startswith("house (127.0.0.1:") and "the bid is not taken" in line for line in hub.said)
 
 
 def test_a_slow_reader_holds_up_nobody(hub):
@@ -219,7 +219,7 @@ def test_a_slow_reader_holds_up_nobody(hub):
         settles(step, house=(house, 100), store=(store, -150))
     store.bids(falls_at(7, 0, -150), 1_000).waits_for(step=7, bidNumber=1_000)
     slow.reads().waits_for(step=7, power=0, bidNumber=1)
-    assert [it["clearing"] for it in slow.prices] == sorted({it["clearing"] for it in slow.prices})
+    assert [price["clearing"] for price in slow.prices] == sorted({price["clearing"] for price in slow.prices})
 
 
 def test_an_agent_is_added_and_another_barred_while_the_hub_runs(hub):
@@ -228,17 +228,17 @@ def test_an_agent_is_added_and_another_barred_while_the_hub_runs(hub):
     settles(4, house=(house, 100), store=(store, -150))
     path = hub.folder / "agents"
     lines = path.read_text().splitlines(keepends=True)
-    path.write_text("".join(it for it in lines if not it.startswith("store ")))
+    path.write_text("".join(line for line in lines if not line.startswith("store ")))
     store.waits_for_error("store is barred").waits_for_end()
     house.waits_for(step=9)
     TcpAgent(hub.port).login("store", hub.tokens["store"]).waits_for_error("the login of 'store' is refused")
     hub.tokens |= {"shed": tokens_in(hub.folder, {"shed": 4})["shed"]}
-    wait_until(lambda: any("3 agents may log in" in it for it in hub.said), f"the file is read again: {hub.said}")
+    wait_until(lambda: any("3 agents may log in" in line for line in hub.said), f"the file is read again: {hub.said}")
     hub.agent("shed").bids(falls_at(6, 0, -150), 1).waits_for(step=6, power=-150)
     house.waits_for(step=6)
     # A child number stays the barred agent's, and a file that is wrong is not taken.
     path.write_text(path.read_text() + f"new 2 {'0' * 64}\n")
-    wait_until(lambda: any("child 2 is store's in this session" in it for it in hub.said), f"it is refused: {hub.said}")
+    wait_until(lambda: any("child 2 is store's in this session" in line for line in hub.said), f"it is refused: {hub.said}")
     hub.agent("shed").waits_for(step=6)
 
 
@@ -261,9 +261,9 @@ def test_each_service_that_is_killed_comes_back(hub):
         settles(number, house=(house, 100), store=(store, -150))
         assert store.has(bidNumber=number)
         wait_until(lambda running=running, before=before: running.node.serving.service not in (before, None), "another service")
-        assert any("SIGKILL" in it for it in hub.said)
+        assert any("SIGKILL" in line for line in hub.said)
     for agent in (house, store):
-        assert [it["clearing"] for it in agent.prices] == sorted(it["clearing"] for it in agent.prices)
+        assert [price["clearing"] for price in agent.prices] == sorted(price["clearing"] for price in agent.prices)
         assert agent.errors == []
 
 
@@ -299,7 +299,7 @@ def test_an_agent_whose_folder_is_lost_does_not_count_anew(live, tmp_path):
     folder.rename(tmp_path / "lost")
     with HubInThread(tmp_path, live, tokens=hub.tokens) as hub:
         hub.agent("store").waits_for_error("the node of store does not start").waits_for_end()
-        assert any("store: child 2 has bid in this session" in it for it in hub.said)
+        assert any("store: child 2 has bid in this session" in line for line in hub.said)
         hub.agent("house").bids(falls_at(6, 200, 100), 2).waits_for(step=6, power=100)
     (tmp_path / "lost").rename(folder)
     with HubInThread(tmp_path, live, tokens=hub.tokens) as hub:
@@ -370,7 +370,7 @@ def test_a_killed_hub_goes_back_on_nothing(live, tmp_path):
             connect("house")
             connect("store")
             end = time.monotonic() + 60
-            while min(len(it.prices) for it in agents.values()) < 4:
+            while min(len(agent.prices) for agent in agents.values()) < 4:
                 assert time.monotonic() < end, "too few prices came"
                 number += 1
                 bid("house", falls_at(drawn.randrange(1, STEPS), 1_000_000 + number, number))
@@ -391,16 +391,16 @@ def test_a_killed_hub_goes_back_on_nothing(live, tmp_path):
         process.stop()
     for name, agent in agents.items():
         told = seen[name] + agent.prices
-        assert len({it["clearing"] for it in told}) > 10
-        indices = [it["clearing"] for it in told]
+        assert len({setpoint["clearing"] for setpoint in told}) > 10
+        indices = [setpoint["clearing"] for setpoint in told]
         assert indices == sorted(indices)
-        offers = [it["offer"] for it in told]
+        offers = [setpoint["offer"] for setpoint in told]
         assert offers == sorted(offers)
-        for it in told:
-            assert it["power"] == bids[name][it["bidNumber"]][it["step"]]
+        for setpoint in told:
+            assert setpoint["power"] == bids[name][setpoint["bidNumber"]][setpoint["step"]]
 
 
 def test_the_command_without_a_live_says_so(tmp_path):
     process = HubProcess(tmp_path, "/nowhere/live", listen="listen_tcp")
     with process:
-        wait_until(lambda: any("/nowhere/live cannot be started" in it for it in process.lines), "a line")
+        wait_until(lambda: any("/nowhere/live cannot be started" in line for line in process.lines), "a line")

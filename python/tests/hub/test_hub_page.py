@@ -20,7 +20,7 @@ from cogmaula.live.recording import numbered_files
 def viewed(hub):
     """The nodes of the hub's page by their names, and the clearing."""
     told = json.loads(get(hub.hub.showing.port, "/view")[2])
-    return {it["name"]: it for it in told["nodes"]}, told["clearing"]
+    return {node["name"]: node for node in told["nodes"]}, told["clearing"]
 
 
 def test_the_page_shows_what_the_agents_are_told(live, tmp_path):
@@ -34,10 +34,10 @@ def test_the_page_shows_what_the_agents_are_told(live, tmp_path):
         clearing = store.prices[-1]["clearing"]
         wait_until(lambda: viewed(hub)[1] == clearing and viewed(hub)[0]["house"]["power"], "the page has the clearing")
         nodes, _ = viewed(hub)
-        assert {it: nodes[it]["power"]["power"] for it in nodes} == {"hub": -50, "house": 100, "store": -150}
-        assert {it: nodes[it]["price"]["price"] for it in nodes} == {"hub": 4, "house": 4, "store": 4}
-        assert [nodes[it]["parent"] for it in ("house", "store")] == ["hub", "hub"]
-        assert [nodes[it]["child"] for it in ("house", "store")] == [1, 2]
+        assert {name: nodes[name]["power"]["power"] for name in nodes} == {"hub": -50, "house": 100, "store": -150}
+        assert {name: nodes[name]["price"]["price"] for name in nodes} == {"hub": 4, "house": 4, "store": 4}
+        assert [nodes[name]["parent"] for name in ("house", "store")] == ["hub", "hub"]
+        assert [nodes[name]["child"] for name in ("house", "store")] == [1, 2]
         port = hub.hub.showing.port
     with pytest.raises(ConnectionRefusedError):
         get(port, "/view")
@@ -64,7 +64,7 @@ def test_what_the_nodes_of_a_hub_record_is_a_run(live, tmp_path):
     path = next(folder.glob("hub.*.frames"))
     lines = path.read_text().splitlines(keepends=True)
     # A Price is its kind 23, the child, the number, the index and then the step, of two bytes.
-    at = next(it for it, line in enumerate(lines) if '"out"' in line and '"frame": "17' in line)
+    at = next(at for at, line in enumerate(lines) if '"out"' in line and '"frame": "17' in line)
     begin = lines[at].index('"frame": "17') + len('"frame": "17') + 2 * (2 + 4 + 4)
     step = "0004" if lines[at][begin : begin + 4] == "0009" else "0009"
     lines[at] = lines[at][:begin] + step + lines[at][begin + 4 :]

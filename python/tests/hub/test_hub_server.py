@@ -16,7 +16,7 @@ from cogmaula.live import LiveError
 def files(tmp_path):
     """A certificate and its key under names of their own, and two pairs to copy there."""
     authority = Certificates(tmp_path / "keys")
-    pairs = [authority.make(it, "127.0.0.1") for it in ("one", "other")]
+    pairs = [authority.make(name, "127.0.0.1") for name in ("one", "other")]
     paths = (str(tmp_path / "hub.crt"), str(tmp_path / "hub.key"))
     return paths, pairs
 

@@ -142,15 +142,15 @@ def test_the_command_draws_a_token_and_prints_it_once(config, tmp_path, capsys):
 
 
 def test_the_command_draws_tokens_for_256_agents_at_once(config, tmp_path, capsys):
-    children = {f"agent{it}": it for it in range(1, 257)}
+    children = {f"agent{child}": child for child in range(1, 257)}
     (tmp_path / "list").write_text("# all\n" + "".join(f"{agent} {child}\n" for agent, child in children.items()))
     begin = time.monotonic()
     assert cli.main(["hub", "--config", config, "--new-tokens", str(tmp_path / "list"), "--into", str(tmp_path / "out")]) == 0
     assert time.monotonic() - begin < SECONDS / 2
     entries = TokenFile(tmp_path / "agents").read()
-    assert {it.agent: it.child for it in entries.values()} == children
+    assert {entry.agent: entry.child for entry in entries.values()} == children
     paths = capsys.readouterr().out.split()
-    assert paths == [str(tmp_path / "out" / f"{it}.token") for it in children]
+    assert paths == [str(tmp_path / "out" / f"{child}.token") for child in children]
     for agent, path in zip(children, paths, strict=True):
         assert entries[agent].takes(Path(path).read_text().strip())
         assert stat.S_IMODE(os.stat(path).st_mode) == 0o600

@@ -127,11 +127,11 @@ def test_a_list_of_agents_that_is_none(text, why):
 
 
 def test_tokens_that_are_drawn_at_once_are_all_there(file):
-    threads = [threading.Thread(target=file.add, args=(f"agent{it}", it)) for it in range(1, 17)]
-    for it in threads:
-        it.start()
-    for it in threads:
-        it.join()
+    threads = [threading.Thread(target=file.add, args=(f"agent{child}", child)) for child in range(1, 17)]
+    for thread in threads:
+        thread.start()
+    for thread in threads:
+        thread.join()
     assert len(file.read()) == 16
 
 
@@ -152,9 +152,9 @@ def test_a_file_is_read_again_when_it_changes(file):
 
 def test_eight_logins_may_fail_in_a_second():
     failed = FailedLogins()
-    for it in range(FAILED):
-        assert not failed.are_too_many("1.2.3.4", 10 + it / 100)
-        failed.note("1.2.3.4", 10 + it / 100)
+    for second in range(FAILED):
+        assert not failed.are_too_many("1.2.3.4", 10 + second / 100)
+        failed.note("1.2.3.4", 10 + second / 100)
     assert failed.are_too_many("1.2.3.4", 10.99)
     assert not failed.are_too_many("1.2.3.5", 10.99)
     assert not failed.are_too_many("1.2.3.4", 11.0)
@@ -165,6 +165,6 @@ def test_eight_logins_may_fail_in_a_second():
 
 def test_addresses_are_not_remembered_for_ever():
     failed = FailedLogins()
-    for it in range(10_000):
-        failed.note(f"address {it}", it / 1_000)
+    for number in range(10_000):
+        failed.note(f"address {number}", number / 1_000)
     assert len(failed._times) < 5_200

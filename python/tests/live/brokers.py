@@ -58,7 +58,7 @@ class Mosquitto:
         self.folder.mkdir(parents=True, exist_ok=True)
         # The broker keeps its user: it must read the keys of the test, which are of the one who runs it.
         first = [f"listener {self.port} 127.0.0.1", "user root"]
-        if not any(it.startswith(("password_file", "allow_anonymous")) for it in lines):
+        if not any(line.startswith(("password_file", "allow_anonymous")) for line in lines):
             first.append("allow_anonymous true")
         (self.folder / "mosquitto.conf").write_text("\n".join([*first, *lines]) + "\n")
         self.process = None
@@ -141,7 +141,7 @@ class Onlooker:
         first = (mqtt.CallbackAPIVersion.VERSION1,) if hasattr(mqtt, "CallbackAPIVersion") else ()
         self.client = mqtt.Client(*first, protocol=mqtt.MQTTv5)
         self.client.reconnect_delay_set(0.1, 0.2)
-        self.client.on_connect = lambda it, *_: it.subscribe([(topic, 1) for topic in topics or [f"{prefix}/#"]])
+        self.client.on_connect = lambda client, *_: client.subscribe([(topic, 1) for topic in topics or [f"{prefix}/#"]])
         self.client.on_message = self._take
         self.client.connect("127.0.0.1", port)
         self.client.loop_start()

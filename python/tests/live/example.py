@@ -30,13 +30,13 @@ def example_tree():
 def example_broker(folder):
     """A broker by the files that are made of the example's tree, in a folder of the test."""
     folder, tree = Path(folder), example_tree()
-    (folder / "passwords").write_text("".join(f"{it}:word\n" for it in tree.rights()))
+    (folder / "passwords").write_text("".join(f"{right}:word\n" for right in tree.rights()))
     (folder / "passwords").chmod(0o600)
     subprocess.run(["mosquitto_passwd", "-U", str(folder / "passwords")], check=True, capture_output=True)
     (folder / "mosquitto.acl").write_text(rights_text(tree))
     (folder / "word").write_text("word\n")
     lines = configuration_text(tree, Places(folder, False)).splitlines()
-    kept = [it.replace("/etc/market", str(folder)) for it in lines if it and not it.startswith(OF_THE_MACHINE)]
+    kept = [line.replace("/etc/market", str(folder)) for line in lines if line and not line.startswith(OF_THE_MACHINE)]
     return Mosquitto(folder / "broker", *kept, f"persistence_location {folder}/")
 
 
@@ -47,8 +47,11 @@ class ExampleMarket(Market):
         self.more = {"user": name, "password_file": str(self.folder / "word")}
         if name == "street":
             tree = example_tree()
-            children = children_of({it.name: {"child": it.child, "sort": it.sort, "least": it.least, "greatest": it.greatest} for it in tree.children(name)})
-            more = {"children": tuple(replace(it, pause=0.1) for it in children), **more}
+            below = tree.children(name)
+            children = children_of(
+                {child.name: {"child": child.child, "sort": child.sort, "least": child.least, "greatest": child.greatest} for child in below}
+            )
+            more = {"children": tuple(replace(child, pause=0.1) for child in children), **more}
         return super().settings(name, **more)
 
 
@@ -62,7 +65,7 @@ class Member(Onlooker):
         first = (mqtt.CallbackAPIVersion.VERSION1,) if hasattr(mqtt, "CallbackAPIVersion") else ()
         self.client = mqtt.Client(*first, client_id=name, protocol=mqtt.MQTTv5)
         self.client.username_pw_set(user, "word")
-        self.client.on_connect = lambda it, *_: [it.subscribe(topic, 1) for topic in topics]
+        self.client.on_connect = lambda client, *_: [client.subscribe(topic, 1) for topic in topics]
         self.client.on_message = self._take
         self.client.connect("127.0.0.1", port)
         self.client.loop_start()

@@ -93,6 +93,6 @@ def dom_of(port, folder, milliseconds=4_000):
 def cells_of(dom, name):
     """The texts of a node's row, without those that are hidden, and without ages."""
     dom = dom.replace("&nbsp;", " ").replace("\u2212", "-")
-    (row,) = [it for it in re.findall(r"<tr.*?</tr>", dom, re.DOTALL) if f'<span class="main">{name}</span>' in it]
+    (row,) = [row for row in re.findall(r"<tr.*?</tr>", dom, re.DOTALL) if f'<span class="main">{name}</span>' in row]
     shown = re.sub(r'<(\w+)[^>]* hidden=""[^>]*>.*?</\1>|<span class="more age"[^>]*>[^<]*</span>', "", row)
     return re.findall(r">([^<]+)<", shown)

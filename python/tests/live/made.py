@@ -39,9 +39,9 @@ class MadeMarket:
         return self
 
     def __exit__(self, *_):
-        for it in self.clients:
-            it.disconnect()
-            it.loop_stop()
+        for client in self.clients:
+            client.disconnect()
+            client.loop_stop()
         for node in self.nodes.values():
             node.stop()
         for thread in self.threads.values():
@@ -55,9 +55,9 @@ class MadeMarket:
 
     def start(self, name, live, **more):
         """Starts a node by the file that was made for it."""
-        sort = next(it.sort for it in read_tree(self.out / "tree.toml").members if it.name == name)
+        sort = next(member.sort for member in read_tree(self.out / "tree.toml").members if member.name == name)
         settings = settings_of(sort, {**read_toml(self.out / name / f"{name}.toml")})
-        children = tuple(replace(it, pause=0.05) for it in settings.children)
+        children = tuple(replace(child, pause=0.05) for child in settings.children)
         settings = replace(settings, live=live, pause=0.05, children=children, **more)
         control = self.controls[name] = Control() if sort == "device" else None
         said = self.said[name] = []
@@ -84,7 +84,7 @@ class MadeMarket:
         one.tls_set(str(self.out / "authority" / "ca.crt"))
         one.on_message = lambda _client, _data, message: one.read.append((message.topic, message.payload))
         one.on_disconnect = lambda _client, _data, code, *_: one.ends.append(str(code))
-        one.on_connect = lambda it, *_: it.subscribe([("#", 1)])
+        one.on_connect = lambda client, *_: client.subscribe([("#", 1)])
         subscribed = threading.Event()
         one.on_subscribe = lambda *_: subscribed.set()
         one.connect("127.0.0.1", self.port)

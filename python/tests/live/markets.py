@@ -36,7 +36,7 @@ def falls_at(step, before, behind):
 def clearing_step(*offers):
     """The first step at which these offers together are not positive, or the last."""
     sums = [sum(them) for them in zip(*offers, strict=True)]
-    return next((step for step, it in enumerate(sums) if it <= 0), STEPS - 1)
+    return next((step for step, total in enumerate(sums) if total <= 0), STEPS - 1)
 
 
 class Control(PretendedControl):
@@ -47,7 +47,7 @@ class Control(PretendedControl):
 
     @property
     def setpoints(self):
-        return [json.loads(it) for it in self.told]
+        return [json.loads(message) for message in self.told]
 
     def has(self, **due):
         """Whether the newest setpoint has these members."""
@@ -75,7 +75,7 @@ class Market:
             node = self.nodes[name] = make_node(settings, None if settings.leave else self.controls[name], said.append)
             self.threads[name] = threading.Thread(target=self._run, args=(name, node))
             self.threads[name].start()
-        wait_until(lambda: all(self._is_up(it) or not self.threads[it].is_alive() for it in names), f"{names} are up: {self.said}")
+        wait_until(lambda: all(self._is_up(name) or not self.threads[name].is_alive() for name in names), f"{names} are up: {self.said}")
         return self
 
     def _run(self, name, node):
@@ -94,8 +94,8 @@ class Market:
             self.threads.pop(name).join(SECONDS)
 
     def offers(self, **demands):
-        for name, it in demands.items():
-            self.controls[name].offers(it)
+        for name, offered in demands.items():
+            self.controls[name].offers(offered)
 
     def settles_at(self, step, **powers):
         """Waits until these devices have a setpoint of this step, each with its power in watts."""

@@ -70,10 +70,10 @@ class DrawnMarket:
             self.feed(name, Bound(child, -self.bound, self.bound).to_bytes())
 
     def children(self, name, sort="device"):
-        return [it.child for it in self.nodes.values() if it.parent == name and it.sort == sort]
+        return [node.child for node in self.nodes.values() if node.parent == name and node.sort == sort]
 
     def take(self, node, data):
-        node.written += [it.to_bytes() for it in Splitter(WRITES[node.sort], BASIS.steps).feed(node.stream.feed(data))]
+        node.written += [frame.to_bytes() for frame in Splitter(WRITES[node.sort], BASIS.steps).feed(node.stream.feed(data))]
         assert not node.stream.is_bad
 
     def feed(self, name, data):
@@ -107,7 +107,7 @@ class DrawnMarket:
         for _ in range(self.random.randint(0, 3)):
             self.handle(name)
         newest = self.random.choice([node.stored] if node.waits is None else [node.stored, node.waits])
-        self.start(name, self.random.choice([it for it in node.resumes if exact(it)[0] == exact(newest)[0]]))
+        self.start(name, self.random.choice([resume for resume in node.resumes if exact(resume)[0] == exact(newest)[0]]))
 
     def deliver(self, name):
         """A node is given a frame that its parent or a child sent it, the newest or any."""
@@ -115,8 +115,8 @@ class DrawnMarket:
         if self.random.random() < 0.5:
             to, kinds, sent = parent, BIDS, self.nodes[name].sent
         else:
-            to, kinds, sent = name, PRICES, [it for it in self.nodes[parent].sent if self.is_for(it, name)]
-        found = [it for it in sent if it[0] in kinds]
+            to, kinds, sent = name, PRICES, [frame for frame in self.nodes[parent].sent if self.is_for(frame, name)]
+        found = [frame for frame in sent if frame[0] in kinds]
         if found:
             self.feed(to, found[-1] if self.random.random() < 0.7 else self.random.choice(found))
 
@@ -168,8 +168,8 @@ class DrawnMarket:
         if self.random.random() < 0.1:
             self.handle(name)
         else:
-            for it in self.nodes:
-                self.handle_all(it)
+            for node_name in self.nodes:
+                self.handle_all(node_name)
 
     def write(self, folder):
         folder.mkdir(parents=True)

@@ -57,8 +57,8 @@ class PretendedLink:
             self.held.add(publication.topic)
 
     def publish_all(self):
-        for it in list(self.newest.values()):
-            self.publish(it)
+        for publication in list(self.newest.values()):
+            self.publish(publication)
 
     def kept(self, topic):
         return self.newest.get(topic)
@@ -95,7 +95,7 @@ class PretendedLink:
 
     def of(self, topic):
         """The payloads that were published under a topic, in their order."""
-        return [it.payload for it in self.sent if it.topic == topic]
+        return [publication.payload for publication in self.sent if publication.topic == topic]
 
 
 class PretendedService:
@@ -119,8 +119,8 @@ class PretendedService:
         self.is_closed = True
 
     def writes(self, *frames):
-        for it in frames:
-            self.notify(Came(self, it))
+        for frame in frames:
+            self.notify(Came(self, frame))
 
     def ends(self, why="status 4"):
         self.notify(Ended(self, why))
@@ -242,4 +242,4 @@ def resume_gone(last, index, basis=BASIS):
 def numbers(*pairs):
     """The numbers of 256 children, 0 for one that is not given."""
     found = dict(pairs)
-    return tuple(found.get(it, 0) for it in range(1, 257))
+    return tuple(found.get(child, 0) for child in range(1, 257))

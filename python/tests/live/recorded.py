@@ -23,7 +23,7 @@ from cogmaula.live.settings import Settings
 def matches(topic, pattern):
     """Whether a topic is one of a pattern, in which + stands for a level."""
     one, other = topic.split("/"), pattern.split("/")
-    return len(one) == len(other) and all(it in (level, "+") for level, it in zip(one, other, strict=True))
+    return len(one) == len(other) and all(part in (level, "+") for level, part in zip(one, other, strict=True))
 
 
 class Post:
@@ -38,7 +38,7 @@ class Post:
             self.deliver(link, publication, False)
 
     def deliver(self, link, publication, retained):
-        if any(matches(publication.topic, it) for it in link.topics):
+        if any(matches(publication.topic, topic) for topic in link.topics):
             message = Message(publication.topic, publication.payload, dict(publication.properties), retained)
             link.inbox[publication.topic] = message
             link.notify(Arrived())
@@ -58,8 +58,8 @@ class PostLink(PretendedLink):
 
     def connects(self):
         self.post.links.append(self)
-        for it in self.post.retained.values():
-            self.post.deliver(self, it, True)
+        for publication in self.post.retained.values():
+            self.post.deliver(self, publication, True)
         self.settles()
 
 
@@ -77,7 +77,7 @@ class RecordedMarket:
             settings = Settings(**{**told, "parent": parent, "child": child, "record": str(self.recordings), **more})
             control = self.controls[name] = Control() if sort == "device" else None
             links = []
-            make_link = lambda *it, made=links: made.append(PostLink(self.post, *it)) or made[0]  # noqa: E731
+            make_link = lambda *arguments, made=links: made.append(PostLink(self.post, *arguments)) or made[0]  # noqa: E731
             node = self.nodes[name] = Node(settings, control, self.said.append, make_link)
             links[0].start(node._subscriptions(), None, node._marker)
             if control is not None:
@@ -97,12 +97,12 @@ class RecordedMarket:
         wait_until(turned, f"{what}: {self.said}")
 
     def offers(self, **demands):
-        for name, it in demands.items():
-            self.controls[name].offers(it)
+        for name, offered in demands.items():
+            self.controls[name].offers(offered)
 
     def settles_at(self, step, **powers):
         def holds():
-            return all(self.controls[it].has(step=step, power=power) for it, power in powers.items())
+            return all(self.controls[device].has(step=step, power=power) for device, power in powers.items())
 
         self.until(holds, f"step {step}, {powers}")
 
@@ -148,7 +148,7 @@ class Lines:
             frame = self.frame(file, at)
             return type(frame).__name__ == name and all(getattr(frame, of) == due for of, due in fields.items())
 
-        files = [it for it in self.files if it.startswith(f"{node}.")]
+        files = [file for file in self.files if file.startswith(f"{node}.")]
         return [(file, at) for file in files for at in range(len(self.files[file])) if is_one(file, at)]
 
     def told(self, file, at):
@@ -178,7 +178,7 @@ class Lines:
         for path in self.folder.iterdir():
             path.unlink()
         for file, lines in self.files.items():
-            (self.folder / file).write_bytes(b"".join(it + b"\n" for it in lines))
+            (self.folder / file).write_bytes(b"".join(line + b"\n" for line in lines))
         return self.folder
 
 
@@ -186,7 +186,7 @@ def contents_of(folder):
     """What each file of a folder has, also those that are compressed, by their names without `.gz`."""
     wait_until(compressing.is_idle, "all files that have ended are compressed")
     read = {True: gzip.decompress, False: bytes}
-    found = {it.name.removesuffix(".gz"): read[it.suffix == ".gz"](it.read_bytes()) for it in Path(folder).iterdir()}
+    found = {path.name.removesuffix(".gz"): read[path.suffix == ".gz"](path.read_bytes()) for path in Path(folder).iterdir()}
     return dict(sorted(found.items()))
 
 

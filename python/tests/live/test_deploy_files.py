@@ -22,12 +22,12 @@ from cogmaula.live.rights import Right
 
 BASIS = "[basis]\nmin = 0\nmax = 9\nsteps = 10\n"
 RELAYS = "[relays.a]\n[relays.b]\nparent = 'a'\n"
-DEVICES = "".join(f"[devices.d{it}]\nparent = 'a'\n" for it in range(257))
+DEVICES = "".join(f"[devices.d{number}]\nparent = 'a'\n" for number in range(257))
 
 
 def chain(count):
     """So many relays, each below the one before."""
-    return "[relays.r1]\n" + "".join(f"[relays.r{it}]\nparent = 'r{it - 1}'\n" for it in range(2, count + 1))
+    return "[relays.r1]\n" + "".join(f"[relays.r{number}]\nparent = 'r{number - 1}'\n" for number in range(2, count + 1))
 
 
 def tree(text):
@@ -89,7 +89,7 @@ def test_the_kind_of_a_device_is_in_its_settings(tmp_path):
 def test_numbers_are_given_and_kept():
     """Those of the file stay; others get the first that is free. A device more gets the one behind the greatest."""
     one = tree(f"{RELAYS}[devices.c]\nchild = 2\n[devices.d]\n[devices.e]\nparent = 'b'\n")
-    assert {it.name: (it.parent, it.child) for it in one.members[1:]} == {
+    assert {member.name: (member.parent, member.child) for member in one.members[1:]} == {
         "a": ("auctioneer", 1), "b": ("a", 1), "c": ("auctioneer", 2), "d": ("auctioneer", 3), "e": ("b", 1),
     }
     assert tree_of(tomllib.loads(toml_text(one.to_tables()))) == one
@@ -105,8 +105,8 @@ def test_numbers_are_given_and_kept():
 
 def test_limits_of_the_broker_grow_with_the_tree():
     """A thousand devices need more than 256 connections; a file may say otherwise."""
-    small, large = limits_of(tree("[devices.a]")), limits_of(tree("".join(f"[relays.r{it}]\n" for it in range(250)) + "".join(
-        f"[devices.d{it}]\nparent = 'r{it % 250}'\n" for it in range(1000))))
+    small, large = limits_of(tree("[devices.a]")), limits_of(tree("".join(f"[relays.r{number}]\n" for number in range(250)) + "".join(
+        f"[devices.d{number}]\nparent = 'r{number % 250}'\n" for number in range(1000))))
     assert (small.connections, small.queued, small.memory) == (256, 2**20, 2**27)
     assert (large.connections, large.files) == (4096, 4352)
     assert large.queued >= 1251 * 2048
@@ -122,10 +122,10 @@ def test_each_node_may_read_what_it_subscribes_to_and_write_its_will(tmp_path):
         settings = settings_of(member.sort, tables_of(told, member, Places(tmp_path, True)))
         node = Node(settings, None, lambda _: None, lambda *_: None)
         rights = told.rights()[member.name]
-        numbers = [str(it.child) for it in told.children(member.name)]
-        for topic in {it.replace("+", number) for it in [*node._subscriptions(), *node._written()] for number in numbers or ["+"]}:
-            assert any(it.allows("read", topic) for it in rights), (member.name, topic)
-        assert any(it.allows("write", settings.own_topic("state")) for it in rights), "its last will"
+        numbers = [str(child.child) for child in told.children(member.name)]
+        for topic in {topic.replace("+", number) for topic in [*node._subscriptions(), *node._written()] for number in numbers or ["+"]}:
+            assert any(right.allows("read", topic) for right in rights), (member.name, topic)
+        assert any(right.allows("write", settings.own_topic("state")) for right in rights), "its last will"
         node._store.close()
 
 
@@ -156,16 +156,16 @@ def test_secrets_are_in_files_of_their_own_and_in_no_argument(tmp_path, monkeypa
     monkeypatch.setattr(keys.subprocess, "run", lambda them, **more: words.extend(them) or run(them, **more))
     out = tmp_path / "market"
     assert main(["market", "init", str(TREE), "--out", str(out)]) == 0
-    passwords = {it: it.read_text().strip() for it in out.glob("*/*.password")}
-    assert sorted(it.name for it in passwords) == [
-        f"{it}.password" for it in ("auctioneer", "gridoperator", "history", "house.control", "house", "operator", "store.control", "store", "street")
+    passwords = {path: path.read_text().strip() for path in out.glob("*/*.password")}
+    assert sorted(password.name for password in passwords) == [
+        f"{login}.password" for login in ("auctioneer", "gridoperator", "history", "house.control", "house", "operator", "store.control", "store", "street")
     ]
     assert len(set(passwords.values())) == 9
     assert not any(password in word for password in passwords.values() for word in words)
     secret = [*passwords, *out.glob("*/*.key"), *out.glob("*/mosquitto_?ub"), out / "broker" / "passwords"]
-    assert {oct(it.stat().st_mode & 0o777) for it in secret} == {"0o600"}
-    assert {oct(it.stat().st_mode & 0o777) for it in [out, *out.iterdir()] if it.is_dir()} == {"0o700"}
-    holders = {it for it in out.rglob("*") if it.is_file() and any(password in it.read_text() for password in passwords.values())}
+    assert {oct(path.stat().st_mode & 0o777) for path in secret} == {"0o600"}
+    assert {oct(path.stat().st_mode & 0o777) for path in [out, *out.iterdir()] if path.is_dir()} == {"0o700"}
+    holders = {path for path in out.rglob("*") if path.is_file() and any(password in path.read_text() for password in passwords.values())}
     assert holders == {*passwords, *out.glob("*/mosquitto_?ub")}
 
 
@@ -175,11 +175,11 @@ def test_a_device_more_leaves_what_is_there(tmp_path, capsys):
     assert main(["market", "init", str(TREE), "--out", str(out)]) == 0
     assert main(["market", "init", str(TREE), "--out", str(out)]) == 2
     assert "has files: give a new folder" in capsys.readouterr().err
-    before = {it: it.read_bytes() for it in out.rglob("*") if it.is_file()}
+    before = {path: path.read_bytes() for path in out.rglob("*") if path.is_file()}
     assert main(["market", "add", "car", "--out", str(out), "--parent", "street", "--greatest", "3700", "--control", "--host", "garage"]) == 0
     told = capsys.readouterr().out.splitlines()
     assert told[:4] == ["broker.example: broker", "the machine of street: street", "garage: car", "the machine of car.control: car.control"]
-    changed = {str(it.relative_to(out)) for it, text in before.items() if it.read_bytes() != text}
+    changed = {str(path.relative_to(out)) for path, text in before.items() if path.read_bytes() != text}
     assert changed == {"tree.toml", "compose.yaml", "broker/passwords", "broker/mosquitto.acl", "street/street.toml"}
     assert (out / "broker" / "passwords").read_bytes().startswith(before[out / "broker" / "passwords"])
     assert "[children.car]\nchild = 3\nsort = \"device\"\ngreatest = 3700\npause = 1.0\n" in (out / "street" / "street.toml").read_text()

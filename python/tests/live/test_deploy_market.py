@@ -33,9 +33,9 @@ store/state store/resume store/setpoint store/offer store/measured
 PARENT = ["state", "resume", "heartbeat", "price/1", "lapsed/1", "refused/1"]
 # What each login writes and reads, by hand from docs/LIVE.md. Each of these is allowed, and nothing else.
 WRITES = {
-    "auctioneer": ["basis", *(f"auctioneer/{it}" for it in PARENT)],
+    "auctioneer": ["basis", *(f"auctioneer/{kind}" for kind in PARENT)],
     "street": [
-        *(f"street/{it}" for it in (*PARENT, "price/2", "lapsed/2", "refused/2", "limits", "limits/state")), "auctioneer/bid/1",
+        *(f"street/{kind}" for kind in (*PARENT, "price/2", "lapsed/2", "refused/2", "limits", "limits/state")), "auctioneer/bid/1",
     ],
     "house": ["house/state", "house/resume", "house/setpoint", "house/answer", "street/bid/1"],
     "store": ["store/state", "store/resume", "store/setpoint", "store/answer", "street/bid/2"],
@@ -59,12 +59,12 @@ READS = {
     "operator": TOPICS,
     "gridoperator": ["street/limits/state", "street/state"],
     "history": [
-        "basis", *(it for it in TOPICS if it.partition("/")[2].partition("/")[0] in ("state", "bid", "price", "lapsed", "setpoint", "measured")),
+        "basis", *(topic for topic in TOPICS if topic.partition("/")[2].partition("/")[0] in ("state", "bid", "price", "lapsed", "setpoint", "measured")),
         "street/limits/state",
     ],
 }
 # A node reads what it writes.
-READS |= {it: [*READS[it], *WRITES[it]] for it in ("auctioneer", "street", "house", "store")}
+READS |= {login: [*READS[login], *WRITES[login]] for login in ("auctioneer", "street", "house", "store")}
 
 
 @pytest.fixture
@@ -77,13 +77,13 @@ def made(tmp_path):
 def publish_all(clients):
     """Lets each login write its name to each topic, and waits until the broker has confirmed it, whether it took it or not."""
     told = [client.publish(f"market/{topic}", login, 1) for login, client in clients.items() for topic in TOPICS]
-    for it in told:
-        it.wait_for_publish(30)
+    for publication in told:
+        publication.wait_for_publish(30)
 
 
 def test_each_right_is_given_and_no_other(made):
     """Each login writes each topic and reads all. The operator, who reads the whole market, sees what was let through."""
-    clients = {it: made.client(it) for it in WRITES}
+    clients = {login: made.client(login) for login in WRITES}
     publish_all(clients)
     all_written = {(login, topic) for login, them in WRITES.items() for topic in them}
     wait_until(lambda: len(clients["operator"].read) >= len(all_written), "what is written")
@@ -91,9 +91,9 @@ def test_each_right_is_given_and_no_other(made):
     assert sorted(seen) == sorted(all_written)
     written = {topic for _, topic in all_written}
     for login, client in clients.items():
-        wait_until(lambda: {it.removeprefix("market/") for it, _ in client.read} >= written & set(READS[login]), f"what {login} reads")
-        assert {it.removeprefix("market/") for it, _ in client.read} == written & set(READS[login]), login
-    unwritten = {it for login, them in READS.items() for it in them if login != "operator"} - written
+        wait_until(lambda: {topic.removeprefix("market/") for topic, _ in client.read} >= written & set(READS[login]), f"what {login} reads")
+        assert {topic.removeprefix("market/") for topic, _ in client.read} == written & set(READS[login]), login
+    unwritten = {topic for login, them in READS.items() for topic in them if login != "operator"} - written
     assert unwritten == {"auctioneer/bid/2", "house/bid/1", "street/price/3", "street/price/x"}, "these have no writer: the others were tried"
 
 
@@ -113,10 +113,10 @@ def test_an_agent_has_the_login_of_a_control(made):
     for name in ("auctioneer", "street", "house"):
         made.start(name, live)
     table = read_toml(made.out / "house.control" / "house.control.toml")["broker"]
-    link = NodeLink(BrokerPlace(**{it: table[it] for it in ("host", "port", "user", "password_file", "ca")}), "market", "house")
+    link = NodeLink(BrokerPlace(**{word: table[word] for word in ("host", "port", "user", "password_file", "ca")}), "market", "house")
     link.start(heard.append, said.append)
     link.offer(Offer((100,) * STEPS))
-    wait_until(lambda: any(isinstance(it, Setpoint) and it.power == 100 for it in heard), f"the agent is told its setpoint: {heard} {said}")
+    wait_until(lambda: any(isinstance(setpoint, Setpoint) and setpoint.power == 100 for setpoint in heard), f"its setpoint: {heard} {said}")
     assert Basis(0, 9, STEPS) in heard and said == [] and "Denied" not in made.log
     link.close()
 
@@ -136,17 +136,17 @@ def test_a_market_lives_by_these_rights_alone(made):
     made.controls["house"].offers([100] * STEPS)
     control.publish("market/store/offer", json.dumps({"power": falls_at(4, 0, -150)}), 1, True).wait_for_publish(30)
     wait_until(lambda: made.controls["store"].has(step=4, power=-150), "the setpoint")
-    wait_until(lambda: any(b'"power": -150' in it for _, it in control.read), "the control hears it")
+    wait_until(lambda: any(b'"power": -150' in payload for _, payload in control.read), "the control hears it")
     until = (datetime.now(timezone.utc) + timedelta(hours=1)).isoformat()
     assert "street" in give_limits(broker_of(made, "gridoperator"), "street", LimitsMessage(None, 2000, until), 20)
     assert "let go" in drop(broker_of(made, "operator"), "street", 1, 20)
     wait_until(lambda: made.controls["house"].has(step=4, power=100), "the house is back")
     lines = add_device(made.out, Member("device", "car", "street", least=-100, greatest=100))
-    assert lines[1:] == [f"cogmaula node {sort} --config {made.out / it / it}.toml" for sort, it in (("relay", "street"), ("device", "car"))]
+    assert lines[1:] == [f"cogmaula node {sort} --config {made.out / name / name}.toml" for sort, name in (("relay", "street"), ("device", "car"))]
     made.process.send_signal(signal.SIGHUP)
     wait_until(lambda: "Reloading config" in made.log, "the broker reads its files again")
     made.start("car", live)
     made.controls["car"].offers([50] * STEPS)
     wait_until(lambda: made.controls["car"].has(step=4, power=50), "the car is told a setpoint")
     assert "Denied" not in made.log
-    assert [it for said in made.said.values() for it in said if "give" in it] == []
+    assert [line for said in made.said.values() for line in said if "give" in line] == []

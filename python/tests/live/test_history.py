@@ -139,11 +139,11 @@ def url(request, tmp_path):
 
 def test_rows_are_kept_once_and_all_or_none(url):
     database = open_database(url)
-    rows = [row for it in village().messages.values() for row in rows_of(TOPICS, it)]
+    rows = [row for messages in village().messages.values() for row in rows_of(TOPICS, messages)]
     database.put(rows)
     database.put(reversed(rows))
-    tables = {it.table for it in rows}
-    assert {it: database.read(f"SELECT count(*) FROM {it}")[0][0] for it in tables} == {it: sum(row.table == it for row in rows) for it in tables}
+    tables = {row.table for row in rows}
+    assert {table: database.read(f"SELECT count(*) FROM {table}")[0][0] for table in tables} == {table: sum(row.table == table for row in rows) for table in tables}
     assert database.read("SELECT clearing, price, step FROM clearings") == [(7, 2, 2)]
     (query,) = re.findall(r"^    (SELECT own\.at.*(?:\n    .*)*)", (TOP / "docs" / "OPERATE.md").read_text(), re.MULTILINE)
     assert database.read(query) == [(AT, 2, 4)], "the query of the page: the street passed 4 where it had 2"
@@ -248,11 +248,11 @@ def test_a_kill_at_any_moment_loses_and_repeats_nothing(url, tmp_path):
             for topic, payload in list(operator.read):
                 parent, word = (*topic.split("/"), "")[1:3]
                 if word == "bid" and payload:
-                    it = frame_of(payload, BIDS, STEPS)
-                    found["bids"].add((parent, it.child, it.number, json.dumps(it.demands) if isinstance(it, Bid) else None))
+                    frame = frame_of(payload, BIDS, STEPS)
+                    found["bids"].add((parent, frame.child, frame.number, json.dumps(frame.demands) if isinstance(frame, Bid) else None))
                 elif word == "price" and payload:
-                    it = frame_of(payload, PRICES, STEPS)
-                    found["prices"].add((parent, it.child, it.index, it.step))
+                    frame = frame_of(payload, PRICES, STEPS)
+                    found["prices"].add((parent, frame.child, frame.index, frame.step))
             return found
 
         def kept():
@@ -260,7 +260,7 @@ def test_a_kill_at_any_moment_loses_and_repeats_nothing(url, tmp_path):
             prices = database.read("SELECT parent, child, clearing, step FROM prices")
             return {"bids": set(bids), "prices": set(prices)}
 
-        wait_until(lambda: kept() == seen(), f"all is kept: {[{it: seen()[it] ^ kept()[it] for it in seen()}]}")
+        wait_until(lambda: kept() == seen(), f"all is kept: {[{name: seen()[name] ^ kept()[name] for name in seen()}]}")
         assert len(seen()["bids"]) > 40
         assert len(seen()["prices"]) > 20
         newest = made.controls["house"].setpoints[-1]

@@ -37,13 +37,13 @@ RELAYS = {(parent, child) for _, (sort, parent, child) in PLACES.items() if sort
 def lives_of(told):
     """The lives of a node, each a list of its lines. None if a line is outside a life."""
     lives, has_ended = [], True
-    for it in told:
-        if it["what"] == "start":
+    for line in told:
+        if line["what"] == "start":
             lives.append([])
         elif has_ended:
             return None
-        has_ended = it["what"] == "end"
-        lives[-1].append(it)
+        has_ended = line["what"] == "end"
+        lives[-1].append(line)
     return lives
 
 
@@ -55,16 +55,16 @@ def answers_as_recorded(life):
         return False
     stream, due = frames.Stream(service), b""
     due += stream.feed(Hello(start["min"], start["max"], start["steps"]).to_bytes() + bytes.fromhex(start["resume"] or ""))
-    for it in life[1:]:
-        if it["what"] == "in":
-            data = bytes.fromhex(it["frame"])
+    for line in life[1:]:
+        if line["what"] == "in":
+            data = bytes.fromhex(line["frame"])
             if data[0] in (1, RESUME, RESUME_GONE):
                 return False
             due += stream.feed(data)
             if stream.is_bad or stream.kept:
                 return False
-        elif it["what"] == "out":
-            data = bytes.fromhex(it["frame"])
+        elif line["what"] == "out":
+            data = bytes.fromhex(line["frame"])
             if not due.startswith(data):
                 return False
             due = due[len(data) :]
@@ -88,19 +88,19 @@ def comes_back_with_newest(lives):
     stored, waits, prices = b"", None, {b"", bytes(4), bytes(8)}
     for life in lives:
         begin = bytes.fromhex(life[0]["resume"] or "")
-        if exact(begin)[0] not in [exact(it)[0] for it in (stored, waits) if it is not None] or exact(begin)[1] not in prices:
+        if exact(begin)[0] not in [exact(resume)[0] for resume in (stored, waits) if resume is not None] or exact(begin)[1] not in prices:
             return False
         stored, waits = begin, None
-        for it in life[1:]:
-            if it["what"] == "out":
-                data = bytes.fromhex(it["frame"])
+        for line in life[1:]:
+            if line["what"] == "out":
+                data = bytes.fromhex(line["frame"])
                 if waits is not None and exact(waits)[0] != exact(stored)[0]:
                     return False
                 waits = None
                 if data[0] in (RESUME, RESUME_GONE):
                     waits = data
                     prices.add(exact(data)[1])
-            elif it["what"] == "stored":
+            elif line["what"] == "stored":
                 if waits is None:
                     return False
                 stored, waits = waits, None
@@ -109,14 +109,14 @@ def comes_back_with_newest(lives):
 
 def lets_devices_go_alone(name, lives):
     """Whether no relay is let go."""
-    fed = (bytes.fromhex(it["frame"]) for life in lives for it in life if it["what"] == "in")
-    return not any(it[0] == EXPIRE and (name, int.from_bytes(it[1:3], "big")) in RELAYS for it in fed)
+    fed = (bytes.fromhex(line["frame"]) for life in lives for line in life if line["what"] == "in")
+    return not any(frame[0] == EXPIRE and (name, int.from_bytes(frame[1:3], "big")) in RELAYS for frame in fed)
 
 
 def gives_a_number_once(lives):
     """Whether limits of one number are the same."""
-    fed = [bytes.fromhex(it["frame"]) for life in lives for it in life if it["what"] == "in"]
-    given = {(it[1:5], it[5:]) for it in fed if it[0] == LIMITS}
+    fed = [bytes.fromhex(line["frame"]) for life in lives for line in life if line["what"] == "in"]
+    given = {(frame[1:5], frame[5:]) for frame in fed if frame[0] == LIMITS}
     return len({number for number, _ in given}) == len(given)
 
 
@@ -128,17 +128,17 @@ def sender_of(name, data):
 
 def has_an_order(told):
     """Whether all lines have an order in which each frame is sent before it is taken."""
-    at, sent, moved = dict.fromkeys(told, 0), {it: set() for it in told}, True
+    at, sent, moved = dict.fromkeys(told, 0), {name: set() for name in told}, True
     while moved:
         moved = False
         for name, them in told.items():
             while at[name] < len(them):
-                it = them[at[name]]
-                if it["what"] == "out":
-                    sent[name].add(it["frame"])
-                elif it["what"] == "in":
-                    sender = sender_of(name, bytes.fromhex(it["frame"]))
-                    if sender is not None and it["frame"] not in sent[sender]:
+                line = them[at[name]]
+                if line["what"] == "out":
+                    sent[name].add(line["frame"])
+                elif line["what"] == "in":
+                    sender = sender_of(name, bytes.fromhex(line["frame"]))
+                    if sender is not None and line["frame"] not in sent[sender]:
                         break
                 at[name] += 1
                 moved = True
@@ -149,10 +149,10 @@ def is_run(lines):
     """Whether recordings are those of a run, by the rules of this file."""
     told = {name: [] for name in PLACES}
     for file in sorted(lines.files):
-        told[file.split(".")[0]] += [json.loads(it) for it in lines.files[file]]
+        told[file.split(".")[0]] += [json.loads(line) for line in lines.files[file]]
     for name, them in told.items():
         lives = lives_of(them)
-        if lives is None or not all(answers_as_recorded(it) for it in lives) or not comes_back_with_newest(lives):
+        if lives is None or not all(answers_as_recorded(life) for life in lives) or not comes_back_with_newest(lives):
             return False
         if not lets_devices_go_alone(name, lives) or not gives_a_number_once(lives):
             return False
@@ -233,7 +233,7 @@ def test_the_changes_that_leave_a_run(recorded, live, quick, tmp_path):
     whole = Lines(recorded)
     assert require_as_worked_out(whole, live) == "valid"
     cases = {
-        "an end": [(file, at) for file, at in places_of(whole, lambda *it: whole.told(*it)["what"] == "end")],
+        "an end": [(file, at) for file, at in places_of(whole, lambda *place: whole.told(*place)["what"] == "end")],
         "a stored before a start": places_of(
             whole, lambda file, at: whole.told(file, at)["what"] == "stored" and is_last_word(whole, file, at)
         ),
@@ -257,5 +257,5 @@ def test_the_changes_that_leave_a_run(recorded, live, quick, tmp_path):
 
 def is_last_word(lines, file, at):
     """Whether nothing is done behind a line in its life. Lives of these recordings do not go on in another file."""
-    behind = [lines.told(file, it)["what"] for it in range(at + 1, len(lines.files[file]))]
+    behind = [lines.told(file, number)["what"] for number in range(at + 1, len(lines.files[file]))]
     return not behind or behind[0] in ("end", "start")

@@ -32,9 +32,9 @@ def test_a_market_over_kills_is_valid_and_counted(recorded, live):
     assert verdict.verdict == "valid", verdict
     told = Counter(lines.told(file, at)["what"] for file, them in lines.files.items() for at in range(len(them)))
     names = ("auctioneer", "street", "mill", "house", "store")
-    setpoints = sum(len(lines.of(it, "out", "Setpoint")) for it in ("mill", "house", "store"))
-    taken = sum(len(lines.of(it, "in", name)) for it in names for name in ("Bid", "Gone", "Price"))
-    clearings = max(lines.frame(*it).index for it in lines.of("auctioneer", "out", "AuctioneerResume"))
+    setpoints = sum(len(lines.of(name, "out", "Setpoint")) for name in ("mill", "house", "store"))
+    taken = sum(len(lines.of(node, "in", name)) for node in names for name in ("Bid", "Gone", "Price"))
+    clearings = max(lines.frame(*place).index for place in lines.of("auctioneer", "out", "AuctioneerResume"))
     assert (verdict.sessions, verdict.nodes, verdict.lives) == (1, 5, told["start"]) == (1, 5, 10)
     assert (verdict.frames_in, verdict.frames_out) == (told["in"], told["out"])
     assert (verdict.taken, verdict.unmatched, verdict.missing) == (taken, 0, ())
@@ -45,14 +45,14 @@ def test_a_market_over_kills_is_valid_and_counted(recorded, live):
 # A frame out that is another, is not there, or is elsewhere.
 
 CHANGED = [
-    ("auctioneer", "Price", lambda it: replace(it, step=it.step + 1)),
-    ("auctioneer", "Price", lambda it: replace(it, number=it.number + 1)),
-    ("street", "Price", lambda it: replace(it, index=it.index + 1)),
-    ("street", "Bid", lambda it: replace(it, demands=(it.demands[0] + 1, *it.demands[1:]))),
-    ("house", "Bid", lambda it: replace(it, number=it.number + 2)),
-    ("store", "Setpoint", lambda it: replace(it, power=it.power - 1)),
-    ("mill", "DeviceResume", lambda it: replace(it, last=it.last + 2)),
-    ("auctioneer", "AuctioneerResume", lambda it: replace(it, numbers=(it.numbers[0] + 1, *it.numbers[1:]))),
+    ("auctioneer", "Price", lambda frame: replace(frame, step=frame.step + 1)),
+    ("auctioneer", "Price", lambda frame: replace(frame, number=frame.number + 1)),
+    ("street", "Price", lambda frame: replace(frame, index=frame.index + 1)),
+    ("street", "Bid", lambda frame: replace(frame, demands=(frame.demands[0] + 1, *frame.demands[1:]))),
+    ("house", "Bid", lambda frame: replace(frame, number=frame.number + 2)),
+    ("store", "Setpoint", lambda frame: replace(frame, power=frame.power - 1)),
+    ("mill", "DeviceResume", lambda frame: replace(frame, last=frame.last + 2)),
+    ("auctioneer", "AuctioneerResume", lambda frame: replace(frame, numbers=(frame.numbers[0] + 1, *frame.numbers[1:]))),
 ]
 
 
@@ -142,8 +142,8 @@ def test_a_bid_that_is_taken_before_it_could_be_sent_is_named(lines, live):
     Each service alone answers just so. There is no order of both.
     """
     file, gone = lines.of("auctioneer", "in", "Gone", child=2)[0]
-    price = max(at for it, at in lines.of("auctioneer", "out", "Price", child=2) if it == file and at < gone)
-    clear = max(at for it, at in lines.of("auctioneer", "in", "Clear") if it == file and at < price)
+    price = max(at for other, at in lines.of("auctioneer", "out", "Price", child=2) if other == file and at < gone)
+    clear = max(at for other, at in lines.of("auctioneer", "in", "Clear") if other == file and at < price)
     taken = lines.frame(file, price)
     assert lines.of("mill", "in", "Price", index=taken.index)[0][1] < lines.of("mill", "out", "Gone")[0][1]
     them = lines.files[file]
@@ -160,7 +160,7 @@ def test_what_is_taken_again_late_and_out_of_order_is_valid(lines, live):
     first, last = lines.of("store", "in", "Price")[0], lines.of("store", "in", "Price")[-1]
     price = lines.frame(*first)
     file, at = last
-    ends = next(it for it in range(at, len(lines.files[file])) if lines.told(file, it)["what"] == "end")
+    ends = next(number for number in range(at, len(lines.files[file])) if lines.told(file, number)["what"] == "end")
     lines.insert(file, ends, what="out", frame=b"\x0b".hex() + price.to_bytes()[3:11].hex())
     lines.insert(file, ends, what="in", frame=price.to_bytes().hex())
     assert judge(lines.write(), live).verdict == "valid"
@@ -182,12 +182,12 @@ def test_a_frame_of_a_stranger_is_named(lines, live):
 
 
 OLDER = [
-    ("street", "RelayResume", lambda it: it),
-    ("auctioneer", "AuctioneerResume", lambda it: it),
-    ("store", "DeviceResume", lambda it: it),
+    ("street", "RelayResume", lambda frame: frame),
+    ("auctioneer", "AuctioneerResume", lambda frame: frame),
+    ("store", "DeviceResume", lambda frame: frame),
     # The house had one offer up to there: a number that it never had, and an offer that is not of its number.
-    ("house", "DeviceResume", lambda it: replace(it, last=it.last + 2)),
-    ("house", "DeviceResume", lambda it: replace(it, demands=(101, *it.demands[1:]))),
+    ("house", "DeviceResume", lambda frame: replace(frame, last=frame.last + 2)),
+    ("house", "DeviceResume", lambda frame: replace(frame, demands=(101, *frame.demands[1:]))),
 ]
 
 
@@ -392,7 +392,7 @@ def test_sessions_are_judged_one_by_one(tmp_path, live):
         before = market.nodes["auctioneer"].session
         market.stop("auctioneer")
         market.start("auctioneer", new_session=True)
-        market.until(lambda: all(it.session != before for it in market.nodes.values()), "all follow")
+        market.until(lambda: all(node.session != before for node in market.nodes.values()), "all follow")
         market.offers(house=[100] * 10, store=falls_at(6, 0, -150))
         market.settles_at(6, house=100, store=-150)
     finally:

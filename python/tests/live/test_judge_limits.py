@@ -27,14 +27,14 @@ class ByHand(DrawnMarket):
     """A market of which each step is named: a frame of a control or a carrier, or the newest of a node that comes to another."""
 
     def given(self, name, *frames):
-        for it in frames:
-            self.feed(name, it.to_bytes())
+        for frame in frames:
+            self.feed(name, frame.to_bytes())
             self.handle_all(name)
 
     def comes(self, name, to, kinds):
         """The newest frame of these kinds that a node sent to its parent, or that a parent sent to a child."""
         child = self.nodes[to].child if self.nodes[to].parent == name else self.nodes[name].child
-        found = [it for it in self.nodes[name].sent if it[0] in kinds and int.from_bytes(it[1:3], "big") == child]
+        found = [frame for frame in self.nodes[name].sent if frame[0] in kinds and int.from_bytes(frame[1:3], "big") == child]
         self.feed(to, found[-1])
         self.handle_all(to)
 
@@ -96,35 +96,35 @@ def found(lines, live):
 def test_the_market_is_valid_and_as_it_was_worked(lines, live):
     verdict = judge(lines.folder, live)
     assert verdict.verdict == "valid", verdict
-    bids = [lines.frame(*it) for it in lines.of("street", "out", "Bid")]
-    assert [(it.number, it.demands) for it in bids if it.number > 1] == [
+    bids = [lines.frame(*place) for place in lines.of("street", "out", "Bid")]
+    assert [(bid.number, bid.demands) for bid in bids if bid.number > 1] == [
         (2, (300, 150, -50, -50)), (3, (300, 150, -50, -50)), (4, (150,) * 4), (5, (50,) * 4), (5, (50,) * 4), (6, (150,) * 4)
     ]  # fmt: skip
-    assert [lines.frame(*it).number for it in lines.of("house", "out", "Bid")] == [2, 6]
-    setpoints = [lines.frame(*it) for it in lines.of("house", "out", "Setpoint")]
-    assert [(it.number, it.power) for it in setpoints] == [(2, 100), (6, 100)]
-    assert [lines.frame(*it).number for it in lines.of("street", "out", "TooMuch")] == [4]
+    assert [lines.frame(*place).number for place in lines.of("house", "out", "Bid")] == [2, 6]
+    setpoints = [lines.frame(*place) for place in lines.of("house", "out", "Setpoint")]
+    assert [(setpoint.number, setpoint.power) for setpoint in setpoints] == [(2, 100), (6, 100)]
+    assert [lines.frame(*place).number for place in lines.of("street", "out", "TooMuch")] == [4]
 
 
 # A frame that was changed: of which node and name, the one to change, how, and how it is named.
-def with_number(it, child, number):
-    return replace(it, numbers=tuple(number if at == child else before for at, before in enumerate(it.numbers, 1)))
+def with_number(resume, child, number):
+    return replace(resume, numbers=tuple(number if at == child else before for at, before in enumerate(resume.numbers, 1)))
 
 
 CHANGED = {
-    "an even expiry": ("street", "RelayResume", {"last": 5}, lambda it: with_number(it, 1, 4)),
-    "an expiry of the number before": ("street", "RelayResume", {"last": 5}, lambda it: with_number(it, 1, 2)),
-    "a lapse that goes back to the bid before": ("street", "Bid", {"number": 5}, lambda it: replace(it, demands=(150,) * 4)),
-    "a price settled by the newest limits": ("street", "Price", {"index": 1}, lambda it: replace(it, step=1)),
-    "a price settled by the limits before": ("street", "Price", {"index": 2}, lambda it: replace(it, step=3)),
-    "a sum that is announced as it is": ("street", "Bid", {"number": 4}, lambda it: replace(it, demands=(300, 150, -50, -50))),
-    "a sum that is moved into the limits": ("street", "Bid", {"number": 4}, lambda it: replace(it, demands=(150, 150, 0, 0))),
-    "limits of the bid before in a resume": ("street", "RelayResume", {"last": 4}, lambda it: replace(it, floor=-1_000, ceiling=1_000)),
-    "a setpoint of another offer": ("house", "Setpoint", {"number": 6}, lambda it: replace(it, number=2)),
-    "an offer anew under its own number": ("house", "Bid", {"number": 6}, lambda it: replace(it, number=4)),
-    "an offer anew under its parent's number": ("house", "Bid", {"number": 6}, lambda it: replace(it, number=3)),
-    "a bid beyond its bound that counts": ("street", "TooMuch", {}, lambda it: Old(it.child, it.number)),
-    "a price of another basis": ("street", "Price", {"index": 1}, lambda it: replace(it, greatest=12)),
+    "an even expiry": ("street", "RelayResume", {"last": 5}, lambda resume: with_number(resume, 1, 4)),
+    "an expiry of the number before": ("street", "RelayResume", {"last": 5}, lambda resume: with_number(resume, 1, 2)),
+    "a lapse that goes back to the bid before": ("street", "Bid", {"number": 5}, lambda frame: replace(frame, demands=(150,) * 4)),
+    "a price settled by the newest limits": ("street", "Price", {"index": 1}, lambda frame: replace(frame, step=1)),
+    "a price settled by the limits before": ("street", "Price", {"index": 2}, lambda frame: replace(frame, step=3)),
+    "a sum that is announced as it is": ("street", "Bid", {"number": 4}, lambda frame: replace(frame, demands=(300, 150, -50, -50))),
+    "a sum that is moved into the limits": ("street", "Bid", {"number": 4}, lambda frame: replace(frame, demands=(150, 150, 0, 0))),
+    "limits of the bid before in a resume": ("street", "RelayResume", {"last": 4}, lambda frame: replace(frame, floor=-1_000, ceiling=1_000)),
+    "a setpoint of another offer": ("house", "Setpoint", {"number": 6}, lambda frame: replace(frame, number=2)),
+    "an offer anew under its own number": ("house", "Bid", {"number": 6}, lambda frame: replace(frame, number=4)),
+    "an offer anew under its parent's number": ("house", "Bid", {"number": 6}, lambda frame: replace(frame, number=3)),
+    "a bid beyond its bound that counts": ("street", "TooMuch", {}, lambda frame: Old(frame.child, frame.number)),
+    "a price of another basis": ("street", "Price", {"index": 1}, lambda frame: replace(frame, greatest=12)),
 }
 
 
@@ -211,13 +211,13 @@ def test_a_node_in_the_place_of_limits_is_named(lines, live):
 
 def test_arguments_that_are_no_command_are_named(lines, live):
     place = lines.of("street", "start")[0]
-    for it in lines.of("street", "start"):
-        lines.change(*it, arguments=["relay", "1", "-1000", "1000", "0"])
+    for start in lines.of("street", "start"):
+        lines.change(*start, arguments=["relay", "1", "-1000", "1000", "0"])
     assert found(lines, live) == ("street", place, "its arguments are no command of the program live")
 
 
 def test_a_seventh_relay_on_a_path_is_named(tmp_path, live):
-    chain = [(f"r{it}", "relay", f"r{it - 1}" if it else "auctioneer") for it in range(7)]
+    chain = [(f"r{depth}", "relay", f"r{depth - 1}" if depth else "auctioneer") for depth in range(7)]
     six = DrawnMarket(nodes_of(*chain[:6], ("house", "device", "r5")), 0).write(tmp_path / "six")
     assert judge(six, live).verdict == "valid"
     seven = DrawnMarket(nodes_of(*chain), 0).write(tmp_path / "seven")
@@ -233,6 +233,6 @@ def test_drawn_markets_are_valid(tmp_path, live):
             market.step()
         folder = market.write(tmp_path / str(seed))
         assert judge(folder, live).verdict == "valid"
-        told = [json.loads(it)["what"] for name in PLACES for it in market.nodes[name].lines]
+        told = [json.loads(line)["what"] for name in PLACES for line in market.nodes[name].lines]
         assert told.count("start") > len(PLACES)
         shutil.rmtree(folder)

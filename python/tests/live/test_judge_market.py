@@ -27,7 +27,7 @@ def test_a_storm_is_a_run(live, tmp_path, keeps):
     folder = tmp_path / "recordings"
     with Mosquitto(tmp_path / "broker", *lines) as broker:
         options = {"record": folder, "record_size": 32_768}
-        nodes = {it: Process(broker.port, live, tmp_path, it, **options).start() for it in PLACES}
+        nodes = {name: Process(broker.port, live, tmp_path, name, **options).start() for name in PLACES}
         storm = Storm(nodes)
         try:
             storm.flows_to_all()
@@ -56,7 +56,7 @@ def test_a_storm_is_a_run(live, tmp_path, keeps):
     assert verdict.clearings > 10 and verdict.setpoints > 30
     told = Lines(folder)
     assert len(told.files) > 2 * len(PLACES), "files ended at their size"
-    assert sum(len(told.of(it, "start")) for it in PLACES) == verdict.lives
-    setpoints = {it.name: len(told.of(it.name, "out", "Setpoint")) for it in storm.devices}
+    assert sum(len(told.of(name, "start")) for name in PLACES) == verdict.lives
+    setpoints = {device.name: len(told.of(device.name, "out", "Setpoint")) for device in storm.devices}
     assert sum(setpoints.values()) == verdict.setpoints
     assert time.monotonic() - begin < 300

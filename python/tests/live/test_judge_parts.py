@@ -39,9 +39,9 @@ AUCTIONEER = auctioneer_resume(5, numbers((1, 4)))
 def stored(*resumes):
     """What is kept once these Resumes were stored, one after the other."""
     keeping = Keeping()
-    for it in resumes:
-        assert keeping.starts(None) == "" if it is resumes[0] else True
-        assert keeping.writes(it) == keeping.stores() == ""
+    for resume in resumes:
+        assert keeping.starts(None) == "" if resume is resumes[0] else True
+        assert keeping.writes(resume) == keeping.stores() == ""
     return keeping
 
 
@@ -156,8 +156,8 @@ def run(live):
         return made[-1]
 
     yield make
-    for it in made:
-        it.close()
+    for judge in made:
+        judge.close()
 
 
 def test_frames_come_one_by_one(run):

@@ -24,13 +24,13 @@ FIRST = relay_resume(1, 0, 0, numbers((1, 1)))
 def told_in(folder):
     """All lines of a folder's recordings, without their times."""
     found = [json.loads(line) for data in contents_of(folder).values() for line in data.splitlines()]
-    for it in found:
-        assert re.fullmatch(r"\d{4}-\d\d-\d\dT\d\d:\d\d:\d\d\.\d{6}Z", it.pop("at"))
+    for entry in found:
+        assert re.fullmatch(r"\d{4}-\d\d-\d\dT\d\d:\d\d:\d\d\.\d{6}Z", entry.pop("at"))
     return found
 
 
 def frames_in(folder, *words):
-    return [(it["what"], it["frame"]) for it in told_in(folder) if it["what"] in (words or ("in", "out"))]
+    return [(line["what"], line["frame"]) for line in told_in(folder) if line["what"] in (words or ("in", "out"))]
 
 
 def test_a_node_records_its_start_and_each_frame(joined, tmp_path):
@@ -41,7 +41,7 @@ def test_a_node_records_its_start_and_each_frame(joined, tmp_path):
     one.link.comes("market/auctioneer/price/3", price(3, 1, 7, 1).to_bytes())
     one.turned()
     one.node.serving.end("stopped")
-    assert [it.name for it in folder.iterdir()] == [f"street.{SESSION.id}.000001.frames"]
+    assert [path.name for path in folder.iterdir()] == [f"street.{SESSION.id}.000001.frames"]
     place = {"node": "street", "sort": "relay", "arguments": ["relay", "3", "-1000", "1000"], "parent": "auctioneer", "child": 3}
     basis = {"min": 0, "max": 9, "steps": 2}
     assert told_in(folder) == [
@@ -62,13 +62,13 @@ def test_a_node_without_a_folder_records_nothing(joined, tmp_path):
     one = joined("relay").begun(("market/street/bid/1", bid(1, 1, 5, -3).to_bytes()))
     one.writes(FIRST)
     one.node.serving.end("stopped")
-    assert sorted(it.name for it in tmp_path.iterdir()) == ["relay"]
+    assert sorted(path.name for path in tmp_path.iterdir()) == ["relay"]
 
 
 def test_a_start_has_the_resume_that_it_goes_on_from(joined, tmp_path):
     saved(tmp_path, "relay", "street", FIRST)
     joined("relay", record=str(tmp_path / "recordings")).begun()
-    assert [it["resume"] for it in told_in(tmp_path / "recordings")] == [FIRST.to_bytes().hex()]
+    assert [line["resume"] for line in told_in(tmp_path / "recordings")] == [FIRST.to_bytes().hex()]
 
 
 def test_a_service_that_ends_and_comes_back_is_recorded_in_one_file(joined, tmp_path, monkeypatch):
@@ -78,7 +78,7 @@ def test_a_service_that_ends_and_comes_back_is_recorded_in_one_file(joined, tmp_
     one.turned()
     monkeypatch.setattr(one.node.serving, "_restart_at", 0)
     one.turned()
-    assert [it["what"] for it in told_in(folder)] == ["start", "end", "start"]
+    assert [line["what"] for line in told_in(folder)] == ["start", "end", "start"]
     assert told_in(folder)[1]["why"] == "status 4"
     assert len(list(folder.iterdir())) == 1
 
@@ -96,10 +96,10 @@ class Noted:
         files = lambda: serving._recording._file  # noqa: E731
         monkeypatch.setattr(recording.os, "write", lambda file, data: (file == files() and self.note(data), write(file, data))[1])
         monkeypatch.setattr(recording.os, "fsync", lambda file: (file == files() and self.done.append("safe"), fsync(file))[1])
-        monkeypatch.setattr(one.node._store, "save", lambda it: (self.done.append("store"), save(it))[1])
-        published = lambda it: self.done.append(f"publish {it.topic.rpartition('market/')[2]}")  # noqa: E731
-        monkeypatch.setattr(one.link, "publish", lambda it: (published(it), publish(it))[1])
-        monkeypatch.setattr(one.service, "feed", lambda it: (it and self.done.append("feed"), feed(it))[1])
+        monkeypatch.setattr(one.node._store, "save", lambda stored: (self.done.append("store"), save(stored))[1])
+        published = lambda publication: self.done.append(f"publish {publication.topic.rpartition('market/')[2]}")  # noqa: E731
+        monkeypatch.setattr(one.link, "publish", lambda publication: (published(publication), publish(publication))[1])
+        monkeypatch.setattr(one.service, "feed", lambda data: (data and self.done.append("feed"), feed(data))[1])
 
     def note(self, data):
         told = json.loads(data)
@@ -129,7 +129,7 @@ def test_a_resume_that_waits_for_the_broker_is_not_yet_recorded(joined, tmp_path
     assert frames_in(folder, "out") == [("out", told.to_bytes().hex())]
     one.link.confirm()
     one.turned()
-    assert frames_in(folder, "out") == [("out", it.to_bytes().hex()) for it in (told, resume)]
+    assert frames_in(folder, "out") == [("out", frame.to_bytes().hex()) for frame in (told, resume)]
 
 
 # A disk that takes no more.
@@ -205,8 +205,8 @@ def test_a_file_ends_at_its_size_and_the_next_begins(tmp_path, live):
     for name in ("auctioneer", "street", "house", "store"):
         files = files_of(market.recordings, name)
         assert len(files) > 1
-        assert [it.split(".")[2] for it in files] == [f"{number:06}" for number in range(1, len(files) + 1)]
-        assert all(len(contents_of(market.recordings)[it]) <= 4_096 for it in files)
+        assert [file.split(".")[2] for file in files] == [f"{number:06}" for number in range(1, len(files) + 1)]
+        assert all(len(contents_of(market.recordings)[file]) <= 4_096 for file in files)
     verdict = judge(market.recordings, live)
     assert (verdict.verdict, verdict.lives) == ("valid", 4)
     lines = Lines(market.recordings)
@@ -228,12 +228,12 @@ def test_files_that_have_ended_are_compressed_and_judged(tmp_path, live):
     names = list(contents_of(market.recordings))
     packed = sorted(market.recordings.glob("*.gz"))
     assert len(packed) == len(names) - 4
-    for it in packed:
-        assert it.stat().st_mode & 0o777 == 0o600
-        assert it.stat().st_size < len(gzip.decompress(it.read_bytes())) / 3
+    for path in packed:
+        assert path.stat().st_mode & 0o777 == 0o600
+        assert path.stat().st_size < len(gzip.decompress(path.read_bytes())) / 3
     assert judge(market.recordings, live).verdict == "valid"
     # A process that ended between the two leaves both, and each is whole.
-    one = next(it for it in packed if it.name.startswith("street"))
+    one = next(path for path in packed if path.name.startswith("street"))
     (market.recordings / one.stem).write_bytes(gzip.decompress(one.read_bytes()))
     assert judge(market.recordings, live).verdict == "valid"
     (market.recordings / one.stem).unlink()
@@ -253,13 +253,13 @@ def test_a_file_that_cannot_be_compressed_stays_as_it_is(tmp_path, monkeypatch):
     monkeypatch.setattr(compressing.os, "fsync", fails)
     with pytest.raises(OSError, match="No space left"):
         compressing.compress(path)
-    assert [it.name for it in tmp_path.iterdir()] == ["a.frames"]
+    assert [path.name for path in tmp_path.iterdir()] == ["a.frames"]
     monkeypatch.undo()
     compressing.compress(path)
-    assert [it.name for it in tmp_path.iterdir()] == ["a.frames.gz"]
+    assert [path.name for path in tmp_path.iterdir()] == ["a.frames.gz"]
     with pytest.raises(OSError, match="No such file"):
         compressing.compress(path)
-    assert [it.name for it in tmp_path.iterdir()] == ["a.frames.gz"]
+    assert [path.name for path in tmp_path.iterdir()] == ["a.frames.gz"]
 
 
 def test_only_the_newest_files_are_kept(tmp_path, live):
@@ -270,7 +270,7 @@ def test_only_the_newest_files_are_kept(tmp_path, live):
         market.offers(store=falls_at(step, 0, -150))
         market.settles_at(step, house=100, store=-150)
     market.stop()
-    first, second = (int(it.split(".")[2]) for it in files_of(market.recordings, "street"))
+    first, second = (int(file.split(".")[2]) for file in files_of(market.recordings, "street"))
     assert second == first + 1 > 4
     verdict = judge(market.recordings, live)
     assert verdict.verdict == "incomplete"
@@ -292,7 +292,7 @@ def test_a_session_has_files_of_its_own(joined, tmp_path):
     one.link.comes(BASIS_TOPIC, basis_payload(LATER))
     one.turned()
     assert list(contents_of(folder)) == [f"street.{SESSION.id}.000001.frames", f"street.{LATER.id}.000002.frames"]
-    assert [it["what"] for it in told_in(folder)] == ["start", "end", "start"]
+    assert [line["what"] for line in told_in(folder)] == ["start", "end", "start"]
 
 
 def test_a_recording_can_only_be_read_by_its_owner(joined, tmp_path):

@@ -44,7 +44,7 @@ class Plain:
 
     def answer(self, command, data, timeout=None):
         if command == "run":
-            return b"".join(it + b"\n" for it in plan_of(data).report)
+            return b"".join(line + b"\n" for line in plan_of(data).report)
         status, line = answer(data)
         if status == 1:
             raise Invalid(int(line.split()[2]))
@@ -108,10 +108,10 @@ def setpoints_in(lines):
     """Of each device the Setpoints whose clearing is newer than all before."""
     for name in ("house", "store", "mill"):
         newest = 0
-        for it in (lines.frame(*at) for at in lines.of(name, "out", "Setpoint")):
-            if it.index > newest:
-                newest = it.index
-                yield name, it
+        for setpoint in (lines.frame(*at) for at in lines.of(name, "out", "Setpoint")):
+            if setpoint.index > newest:
+                newest = setpoint.index
+                yield name, setpoint
 
 
 @pytest.mark.parametrize("market", ["recorded", "long"])
@@ -121,23 +121,23 @@ def test_recordings_over_kills_and_losses_are_a_trace(request, judges, live, tmp
     assert verdict.verdict == "valid"
     lines, told = lines_in(traced), Lines(folder)
     assert lines[-1] == f"moves {traced.moves}"
-    passes = [it.split() for it in lines[: traced.settling - 1] if it.startswith("pass ") and "price" in it]
-    due = Counter((name, str(it.index), str(it.step)) for name, it in setpoints_in(told))
+    passes = [line.split() for line in lines[: traced.settling - 1] if line.startswith("pass ") and "price" in line]
+    due = Counter((name, str(setpoint.index), str(setpoint.step)) for name, setpoint in setpoints_in(told))
     assert sum(due.values()) > 10
     # Prices are 0 to 9 in ten steps. Each Setpoint is a pass with its price. A restarted device may have dropped one.
     assert not due - Counter((name, index, price) for _, name, index, _, price, *_ in passes)
-    assert sum(it.startswith("clear ") for it in lines[: traced.settling - 1]) == verdict.clearings
+    assert sum(line.startswith("clear ") for line in lines[: traced.settling - 1]) == verdict.clearings
     assert Cluster.load(traced.cluster).devices
 
 
 def test_a_device_that_comes_back_with_another_offer_joins_and_changes(live, long, tmp_path):
     _, traced = judge_and_trace(long, tmp_path / "street", live, Plain())
-    events = [it.members() for it in Cluster.load(traced.cluster).phases[0].events]
-    mills = [it for it in events if "mill" in it.values()]
-    assert [next(iter(it)) for it in mills[:5]] == ["join", "state", "leave", "join", "state"]
+    events = [event.members() for event in Cluster.load(traced.cluster).phases[0].events]
+    mills = [event for event in events if "mill" in event.values()]
+    assert [next(iter(mill)) for mill in mills[:5]] == ["join", "state", "leave", "join", "state"]
     assert list(mills[4]["demand"]) == falls_at(2, 60, -60)
     # It came back a second time with the offer that it had: this is one change.
-    assert [next(iter(it)) for it in mills[-2:]] == ["leave", "join"]
+    assert [next(iter(mill)) for mill in mills[-2:]] == ["leave", "join"]
     # It counts by two, and one number more for its first return.
     last = Lines(long).frame(*Lines(long).of("mill", "out", "Bid")[-1]).number // 2
     assert f"change mill {last + 1}" in lines_in(traced) and f"change mill {last + 2}" not in lines_in(traced)
@@ -147,11 +147,11 @@ def test_a_price_that_the_relay_missed_is_passed_in_its_place(live, long, tmp_pa
     _, traced = judge_and_trace(long, tmp_path / "street", live, Plain())
     assert Cluster.load(traced.cluster).node("street").kind == "concentrator"
     told = Lines(long)
-    steps = {name: {it.index: it.step for at, it in
+    steps = {name: {price.index: price.step for at, price in
              ((at, told.frame(*at)) for at in told.of(name, "out", "Price"))} for name in ("auctioneer", "street")}
-    assert all(steps["auctioneer"][it] == step for it, step in steps["street"].items()), "limits moved no price"
+    assert all(steps["auctioneer"][index] == step for index, step in steps["street"].items()), "limits moved no price"
     missed = set(steps["auctioneer"]) - {told.frame(*at).index for at in told.of("street", "in", "Price")}
-    passed = {int(it.split()[2]) for it in lines_in(traced)[: traced.settling - 1] if it.startswith("pass street ")}
+    passed = {int(line.split()[2]) for line in lines_in(traced)[: traced.settling - 1] if line.startswith("pass street ")}
     assert missed & passed, "a price that the relay missed is passed in its place"
 
 
@@ -177,9 +177,9 @@ def test_two_levels_of_relays_are_a_trace(judges, live, tmp_path):
         market.stop()
     verdict, traced = judge_and_trace(market.recordings, tmp_path / "levels", live, judges)
     cluster = Cluster.load(traced.cluster)
-    relays = [(it.name, it.kind, it.above) for it in cluster.nodes if not it.is_device]
+    relays = [(node.name, node.kind, node.above) for node in cluster.nodes if not node.is_device]
     assert relays == [("area", "concentrator", "auctioneer"), ("street", "concentrator", "area")]
-    assert verdict.verdict == "valid" and any(it.startswith("learn auctioneer area ") for it in lines_in(traced))
+    assert verdict.verdict == "valid" and any(line.startswith("learn auctioneer area ") for line in lines_in(traced))
 
 
 # Changes of one line.
@@ -188,9 +188,9 @@ def test_two_levels_of_relays_are_a_trace(judges, live, tmp_path):
 def changes_of(lines, first):
     """Of each form of a move the last line of it, and what is put in its place."""
     for word in ("change", "learn", "publish", "clear", "pass", "close", "moves"):
-        at = max(it for it in range(first, len(lines)) if lines[it].startswith(f"{word} "))
+        at = max(number for number in range(first, len(lines)) if lines[number].startswith(f"{word} "))
         yield at, " ".join([*lines[at].split()[:-1], str(int(lines[at].split()[-1]) + 1)])
-    prices = [it for it in range(first, len(lines)) if " price " in lines[it]]
+    prices = [number for number in range(first, len(lines)) if " price " in lines[number]]
     words = lines[prices[0]].split()
     yield prices[0], " ".join([*words[:4], str(int(words[4]) + 1), *words[5:]])
 
@@ -198,14 +198,14 @@ def changes_of(lines, first):
 def test_a_trace_of_which_a_line_is_changed_is_refused(judges, live, long, tmp_path):
     _, traced = judge_and_trace(long, tmp_path / "street", live, judges)
     lines, file = lines_in(traced), Path(traced.cluster).read_bytes()
-    first = next(it for it in range(len(lines)) if lines[it].startswith("end ")) + 1
+    first = next(number for number in range(len(lines)) if lines[number].startswith("end ")) + 1
     assert check(file, Path(traced.trace).read_bytes(), program=judges) == traced.moves
     changes = list(changes_of(lines, first))
     assert len(changes) == 8
-    for at, line in [*changes, *((it, None) for it in range(first, len(lines)))]:
+    for at, line in [*changes, *((number, None) for number in range(first, len(lines)))]:
         changed = [*lines[:at], *([] if line is None else [line]), *lines[at + 1 :]]
         with pytest.raises(Invalid) as error:
-            check(file, "".join(f"{it}\n" for it in changed).encode(), program=judges)
+            check(file, "".join(f"{line}\n" for line in changed).encode(), program=judges)
         assert error.value.line >= at + 1
 
 
@@ -244,11 +244,11 @@ def require_trace(following, judge):
     text, moves, settling = trace_of(following, cluster, judge.answer("run", cluster.to_bytes()))
     assert judge.answer("check", envelope(cluster.to_bytes(), text)) == b"valid moves %d\n" % moves
     recorded = text.splitlines()[: settling - 1]
-    SEEN.update(it.split()[0].decode() for it in recorded)
-    SEEN["none"] += sum(it.endswith(b" none") for it in recorded)
-    SEEN["window"] += any(it.startswith(b"publish ") and int(it.split()[2]) > 8 for it in recorded)
-    SEEN["lapse"] += sum(len(it.lapses) for it in following.script.devices.values())
-    SEEN["limits"] += sum(len(following.script.devices[it].numbers) - 1 for it in following.givers.values())
+    SEEN.update(line.split()[0].decode() for line in recorded)
+    SEEN["none"] += sum(line.endswith(b" none") for line in recorded)
+    SEEN["window"] += any(line.startswith(b"publish ") and int(line.split()[2]) > 8 for line in recorded)
+    SEEN["lapse"] += sum(len(device.lapses) for device in following.script.devices.values())
+    SEEN["limits"] += sum(len(following.script.devices[name].numbers) - 1 for name in following.givers.values())
 
 
 def drawn_into(places, seed, steps, judge):
@@ -275,15 +275,15 @@ def test_a_drawn_market_whose_limits_bind_has_no_trace(places, seed, steps):
     def noting(self):
         record(self)
         made = self.records[self.last]
-        bound.append(any(not made.limits[0] <= it <= made.limits[1] for it in made.total))
+        bound.append(any(not made.limits[0] <= power <= made.limits[1] for power in made.total))
 
     nodes.Relay.record = noting
     try:
         market = DrawnMarket(nodes_of(*places), seed)
         for _ in range(steps):
             market.step()
-        for it in market.nodes:
-            market.handle_all(it)
+        for name in market.nodes:
+            market.handle_all(name)
     finally:
         nodes.Relay.record = record
     with tempfile.TemporaryDirectory() as folder:
@@ -302,7 +302,7 @@ def test_drawn_markets_made_all_moves():
     SEEN.clear()
     for seed, places in enumerate(TREES * 6):
         drawn_into(places, seed, 300, Plain())
-    assert all(SEEN[it] > 20 for it in ("change", "learn", "publish", "clear", "pass", "none", "lapse", "limits")), SEEN
+    assert all(SEEN[word] > 20 for word in ("change", "learn", "publish", "clear", "pass", "none", "lapse", "limits")), SEEN
     assert SEEN["window"] > 1, SEEN
 
 
@@ -323,7 +323,7 @@ def test_an_offer_whose_service_stops_before_it_is_sent(tmp_path, is_stored):
     market.feed("a", Offer(second).to_bytes())
     market.handle_all("a")
     following = followed(market, tmp_path / "recordings")
-    demands = [following.script.devices["a"].start, *(it.demand for it in following.script.events[1:])]
+    demands = [following.script.devices["a"].start, *(event.demand for event in following.script.events[1:])]
     assert demands == ([first, second] if is_stored else [second])
     require_trace(following, Plain())
 
@@ -331,15 +331,15 @@ def test_an_offer_whose_service_stops_before_it_is_sent(tmp_path, is_stored):
 def test_a_bid_whose_relay_stops_before_it_is_sent(tmp_path):
     """It is published, and nobody takes it: its number is stored, and the next bid has the next one."""
     market = DrawnMarket(nodes_of(("r", "relay", "auctioneer"), ("a", "device", "r")), 0)
-    for it in ((300, 100, 0, -200), (200, 0, 0, 0)):
-        market.feed("a", Offer(it).to_bytes())
+    for demands in ((300, 100, 0, -200), (200, 0, 0, 0)):
+        market.feed("a", Offer(demands).to_bytes())
         market.handle_all("a")
         market.feed("r", market.nodes["a"].sent[-1])
         market.feed("r", Send().to_bytes())
         market.handle("r")
         market.start("r", market.nodes["r"].waits)
     following = followed(market, tmp_path / "recordings")
-    assert [it for it in following.journal.lines if it.startswith("publish ")] == ["publish r 1", "publish r 2"]
+    assert [line for line in following.journal.lines if line.startswith("publish ")] == ["publish r 1", "publish r 2"]
     require_trace(following, Plain())
 
 
@@ -362,7 +362,7 @@ def test_a_device_that_was_let_go_and_offers_anew_left_before(tmp_path):
     market.handle_all("a")
     market.start("auctioneer", market.nodes["auctioneer"].stored)
     following = followed(market, tmp_path / "recordings")
-    assert [next(iter(it.members())) for it in following.script.events] == ["join", "leave", "join"]
+    assert [next(iter(event.members())) for event in following.script.events] == ["join", "leave", "join"]
     assert following.journal.lines[-1] == "pass a 1 none"
     require_trace(following, Plain())
 
@@ -375,8 +375,8 @@ def refusal(*places, feeds=()):
     market = DrawnMarket(nodes_of(*places), 0)
     for name, frame in feeds:
         market.feed(name, frame.to_bytes())
-        for it in market.nodes:
-            market.handle_all(it)
+        for node in market.nodes:
+            market.handle_all(node)
     with tempfile.TemporaryDirectory() as folder, pytest.raises(NoTrace) as error:
         cluster_of(followed(market, Path(folder) / "recordings"))
     return str(error.value)
@@ -385,7 +385,7 @@ def refusal(*places, feeds=()):
 @pytest.mark.parametrize(
     ("places", "found", "rule"),
     [
-        ([(f"d{it}", "device", "r" if it % 2 else "auctioneer") for it in range(256)], "256 nodes", None),
+        ([(f"d{number}", "device", "r" if number % 2 else "auctioneer") for number in range(256)], "256 nodes", None),
         ([("9a", "device", "auctioneer")], "9a is the name", "a letter first"),
         ([("a" * 33, "device", "auctioneer")], "a is the name", "1 to 32 bytes"),
     ],

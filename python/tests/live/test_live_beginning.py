@@ -200,7 +200,7 @@ def test_a_resume_of_another_session_or_of_another_form_is_not_taken(joined):
     assert one.service.read == [b""]
     other = joined("relay").begun(("market/street/resume", b"nonsense"))
     assert other.service.read == [b""]
-    assert any("market/street/resume is not taken" in it for it in other.said)
+    assert any("market/street/resume is not taken" in line for line in other.said)
 
 
 def test_a_node_that_has_lost_its_resume_is_refused(joined):
@@ -295,7 +295,7 @@ def test_a_resume_that_the_service_refuses_ends_the_node(joined, tmp_path):
 def of_version_1(payload):
     """A message of JSON without what the first form lacks."""
     told = json.loads(payload)
-    return json.dumps({name: it for name, it in told.items() if name not in ("version", "validity", "heartbeat", "grace")}).encode()
+    return json.dumps({name: value for name, value in told.items() if name not in ("version", "validity", "heartbeat", "grace")}).encode()
 
 
 def first_form(path):
@@ -426,7 +426,7 @@ def test_after_a_lost_connection_the_newest_of_all_is_published_again(joined):
     one.link.comes(BASIS_TOPIC, basis_payload())
     one.link.settles()
     one.turned()
-    again = {it.topic for it in one.link.sent[count:]}
+    again = {publication.topic for publication in one.link.sent[count:]}
     assert {"market/street/resume", "market/auctioneer/bid/3", "market/street/state"} <= again
 
 
@@ -472,7 +472,7 @@ def test_what_the_node_itself_or_an_earlier_process_published_does_no_harm(joine
 
 def test_a_device_reads_what_is_for_it_and_its_own_topics(joined):
     of_house = {"market/house/state", "market/house/resume", "market/house/offer", "market/house/answer", "market/house/setpoint"}
-    of_street = {f"market/street/{it}" for it in ("bid/2", "price/2", "lapsed/2", "refused/2", "state", "heartbeat")}
+    of_street = {f"market/street/{kind}" for kind in ("bid/2", "price/2", "lapsed/2", "refused/2", "state", "heartbeat")}
     assert set(joined("device").link.topics) == {"market/basis"} | of_house | of_street
 
 

@@ -43,7 +43,7 @@ class Connected:
         return self
 
     def says(self, words, seconds=SECONDS):
-        wait_until(lambda: self.ticked() and any(words in it for it in self.said), words, seconds)
+        wait_until(lambda: self.ticked() and any(words in line for line in self.said), words, seconds)
 
     def ticked(self):
         self.broker.tick()
@@ -61,7 +61,7 @@ def test_it_settles_publishes_confirms_and_reads(tmp_path):
     with Mosquitto(tmp_path) as broker, Onlooker(broker.port) as onlooker:
         onlooker.publish("market/street/price/2", b"old", UserProperty=[("time", "t"), ("session", "s")], MessageExpiryInterval=600)
         with Connected(broker.port).settled() as one:
-            (found,) = [it for it in one.broker.taken() if it.topic == "market/street/price/2"]
+            (found,) = [message for message in one.broker.taken() if message.topic == "market/street/price/2"]
             assert (found.payload, found.properties, found.retained) == (b"old", {"time": "t", "session": "s"}, True)
             assert 590 <= found.expiry <= 600
             one.broker.publish(Publication("market/house/setpoint", b"5", (("time", "now"),)))
@@ -70,7 +70,7 @@ def test_it_settles_publishes_confirms_and_reads(tmp_path):
                 pass
             wait_until(lambda: onlooker.newest.get("market/house/setpoint") == (b"5", {"time": "now"}), "the setpoint")
             onlooker.publish("market/street/price/2", b"new")
-            wait_until(lambda: any(it.payload == b"new" and not it.retained for it in one.broker.taken()), "the message")
+            wait_until(lambda: any(message.payload == b"new" and not message.retained for message in one.broker.taken()), "the message")
             assert one.broker.kept("market/house/setpoint").payload == b"5"
             assert one.broker.is_settled
         wait_until(lambda: onlooker.payload(STATE) == b"ended", "the last message")
@@ -96,12 +96,12 @@ def test_many_confirmations_wake_the_node_once():
     events, topics = [], [f"market/street/price/{child}" for child in range(1, 4)]
     broker = Broker(BrokerSettings(), "cogmaula.market.street", events.append, print)
     broker._settled = client = Numbering()
-    for it in topics:
-        broker.publish(Publication(it, b"5"))
+    for topic in topics:
+        broker.publish(Publication(topic, b"5"))
     broker._on_publish(client, 1)
     broker._on_publish(client, 3)
     assert events == [Confirmed()]
-    assert [broker.is_unconfirmed([it]) for it in topics] == [False, True, False]
+    assert [broker.is_unconfirmed([topic]) for topic in topics] == [False, True, False]
     broker._on_publish(client, 2)
     assert events == [Confirmed(), Confirmed()]
     assert not broker.is_unconfirmed(topics)
@@ -128,7 +128,7 @@ PRICES = ["market/street/price/+"]
 
 def prices(found):
     """The numbers of the children and the payloads of the prices among some messages."""
-    return [(it.topic.rpartition("/")[2], it.payload) for it in found if "/price/" in it.topic]
+    return [(message.topic.rpartition("/")[2], message.payload) for message in found if "/price/" in message.topic]
 
 
 def test_what_a_node_alone_writes_comes_back_until_one_message_shows_its_rights(tmp_path):
@@ -185,7 +185,7 @@ def test_the_newest_alone_of_a_topic_waits(tmp_path):
         onlooker.publish(STATE, b"of somebody else")
         wait_until(lambda: STATE in one.broker._inbox, "the last message")
         found = one.broker.taken()
-        assert [it.payload for it in found] == [b"49", b"of somebody else"]
+        assert [message.payload for message in found] == [b"49", b"of somebody else"]
         assert one.broker.taken() == []
 
 
@@ -202,14 +202,14 @@ def test_a_broker_that_is_away_is_waited_for_with_growing_pauses(tmp_path):
     with Connected(port) as one:
         one.broker.publish(Publication("market/house/setpoint", b"first"))
         one.says("The next try is in 0.4 s")
-        assert [it.rpartition(" in ")[2] for it in one.said[:4]] == ["0.1 s", "0.2 s", "0.4 s", "0.4 s"][: len(one.said[:4])]
+        assert [line.rpartition(" in ")[2] for line in one.said[:4]] == ["0.1 s", "0.2 s", "0.4 s", "0.4 s"][: len(one.said[:4])]
         assert one.said[0].startswith(f"127.0.0.1:{port}: the broker cannot be reached (Connection refused)")
         one.broker.publish(Publication("market/house/setpoint", b"second"))
         assert one.broker.is_unconfirmed(["market/house/setpoint"])
         with Mosquitto(tmp_path, port=port) as broker, Onlooker(port) as onlooker:
             one.settled()
             wait_until(lambda: onlooker.payload("market/house/setpoint") == b"second", "the newest")
-            assert (b"first" not in [it[1] for it in onlooker.all])
+            assert (b"first" not in [message[1] for message in onlooker.all])
             assert one.said[-1] == f"127.0.0.1:{port}: connected"
             broker.kill()
             one.says("the connection was lost")
@@ -286,7 +286,7 @@ def test_a_certificate_of_the_node(tmp_path, certificates):
             pass
         with Connected(broker.port, ca=certificates.ca) as one:
             one.says("The next try is in")
-            assert any("certificate" in it for it in one.said)
+            assert any("certificate" in line for line in one.said)
 
 
 def test_what_tls_raises_behind_the_handshake_ends_a_connection(tmp_path, monkeypatch):
@@ -314,7 +314,7 @@ def test_a_node_that_may_not_write_or_read_its_own_topics(tmp_path, monkeypatch)
         one.says("does not give")
         wait_until(lambda: one.ticked() and one.marks > marks, "the next marker")
         assert not one.broker.is_settled
-        assert len([it for it in one.said if "market/house/state" in it]) == 1
+        assert len([line for line in one.said if "market/house/state" in line]) == 1
 
 
 def test_a_topic_that_is_not_allowed(tmp_path, monkeypatch):
@@ -326,7 +326,7 @@ def test_a_topic_that_is_not_allowed(tmp_path, monkeypatch):
         one.broker.publish(Publication("market/street/bid/2", b"2"))
         one.says("does not give market/street/bid/2 back: let house write and read this topic")
         wait_until(lambda: not one.broker.is_unconfirmed(["market/street/bid/2"]), "what is refused holds nothing up")
-        assert not any("setpoint" in it for it in one.said)
+        assert not any("setpoint" in line for line in one.said)
 
 
 class Code:
@@ -377,8 +377,8 @@ def test_a_flood_takes_no_memory(tmp_path):
     """Only topics of a market are taken, each with a message that is not too long, and so many of them."""
     with Mosquitto(tmp_path, "max_queued_messages 0") as broker, Connected(broker.port, [*TOPICS, "market/#"]).settled() as one:
         with Onlooker(broker.port, "nothing") as other:
-            for it in ("flood/x", "house/state", "street/bid/300", "a b/state"):
-                other.publish(f"market/{it}", b"x" * 30_000)
+            for topic in ("flood/x", "house/state", "street/bid/300", "a b/state"):
+                other.publish(f"market/{topic}", b"x" * 30_000)
             for number in range(3_000):
                 other.client.publish(f"market/n{number}/state", b"x", 1)
             other.publish("market/n0/state", b"last")
@@ -386,7 +386,7 @@ def test_a_flood_takes_no_memory(tmp_path):
         time.sleep(0.3)
         found = one.broker.taken()
         assert len(found) == 2_048
-        assert {len(it.payload) for it in found} <= {1, 4}
+        assert {len(message.payload) for message in found} <= {1, 4}
         assert one.broker.has_lost
         assert not one.broker.has_lost
-        assert len([it for it in one.said if "it is no topic of a market, or too long for it" in it]) == 4
+        assert len([line for line in one.said if "it is no topic of a market, or too long for it" in line]) == 4

@@ -98,14 +98,14 @@ class Street:
                 if house.renews(now):
                     bids.add((now + house.delay, at))
                 lapses.state(str(at), at, not house.wire.is_given_up(now), mine)
-            for due, at in [it for it in bids if is_there and it[0] <= now]:
+            for due, at in [bid for bid in bids if is_there and bid[0] <= now]:
                 bids.remove((due, at))
                 if at in counted:
                     lapses.heard(at, str(at), TIMES.grace, mine)
             for at in lapses.due(mine):
                 counted.discard(at)
                 lapses.forget(at)
-            found.append(sum(it.power(now) for it in self.houses) - POWER * len(counted))
+            found.append(sum(house.power(now) for house in self.houses) - POWER * len(counted))
             # Who is let go and hears again offers anew, and counts: that is of other tests. Here it is taken out.
             for at in set(range(len(self.houses))) - counted:
                 if not self.houses[at].wire.is_cut(now):
@@ -129,5 +129,5 @@ def test_no_more_flows_than_the_relay_counts_if_clocks_run_within_one_percent(st
 
 def test_more_would_flow_if_clocks_ran_apart_by_more_than_the_margin() -> None:
     """A control whose clock is slow by 20 % falls back after 150 s, and a parent whose clock is fast by as much lets go after 125 s."""
-    found = find(streets(0.8, 1.2), lambda it: max(it.excess()) > 0, settings=settings(max_examples=2000, deadline=None))
-    assert any(it.rate < found.rate for it in found.houses)
+    found = find(streets(0.8, 1.2), lambda street: max(street.excess()) > 0, settings=settings(max_examples=2000, deadline=None))
+    assert any(house.rate < found.rate for house in found.houses)

@@ -92,7 +92,7 @@ EXAMPLES = [
 ]
 
 
-@pytest.mark.parametrize(("frame", "text"), EXAMPLES, ids=lambda it: type(it).__name__)
+@pytest.mark.parametrize(("frame", "text"), EXAMPLES, ids=lambda kind: type(kind).__name__)
 def test_the_bytes_of_the_page(frame, text):
     data = bytes.fromhex(text)
     assert frame.to_bytes() == data
@@ -101,11 +101,11 @@ def test_the_bytes_of_the_page(frame, text):
 
 
 def test_a_resume_has_the_sizes_of_the_page():
-    assert [size_of(it, 2) for it in (RelayResume, AuctioneerResume, DeviceResume)] == [1065, 1039, 19 + 4 * 2]
+    assert [size_of(kind, 2) for kind in (RelayResume, AuctioneerResume, DeviceResume)] == [1065, 1039, 19 + 4 * 2]
 
 
 def test_each_node_reads_and_writes_what_the_page_says():
-    names = {sort: {it.__name__ for it in kinds.values()} for sort, kinds in READS.items()}
+    names = {sort: {kind.__name__ for kind in kinds.values()} for sort, kinds in READS.items()}
     assert names["device"] == {"Hello", "DeviceResume", "ResumeGone", "Offer", "Points", "Kind", "State", "Leave", "Price", "Old"}
     assert names["relay"] == {"Hello", "RelayResume", "Bound", "Limits", "Bid", "Gone", "Expire", "Send", "Price", "Old"}
     assert names["auctioneer"] == {"Hello", "AuctioneerResume", "Bound", "Bid", "Gone", "Expire", "Clear"}
@@ -156,7 +156,7 @@ def streams(draw):
     """A sort, a number of steps, frames that such a node writes, and where to cut the stream of them."""
     sort, steps = draw(st.sampled_from(["relay", "auctioneer", "device"])), draw(st.integers(2, 5))
     frames = draw(st.lists(written(sort, steps), max_size=6))
-    length = sum(len(it.to_bytes()) for it in frames)
+    length = sum(len(frame.to_bytes()) for frame in frames)
     cuts = sorted(draw(st.lists(st.integers(0, length), max_size=8)))
     return sort, steps, frames, [0, *cuts, length]
 
@@ -164,13 +164,13 @@ def streams(draw):
 @given(streams())
 def test_a_stream_is_cut_into_its_frames_wherever_it_comes_apart(drawn):
     sort, steps, frames, cuts = drawn
-    data = b"".join(it.to_bytes() for it in frames)
+    data = b"".join(frame.to_bytes() for frame in frames)
     splitter = Splitter(WRITES[sort], steps)
     found = []
     for begin, end in zip(cuts, cuts[1:], strict=False):
         found += splitter.feed(data[begin:end])
-        ends = [sum(len(it.to_bytes()) for it in frames[:n]) for n in range(len(frames) + 1)]
-        assert len(found) == max(n for n, it in enumerate(ends) if it <= end)
+        ends = [sum(len(frame.to_bytes()) for frame in frames[:n]) for n in range(len(frames) + 1)]
+        assert len(found) == max(n for n, ended in enumerate(ends) if ended <= end)
     assert found == frames
     assert splitter.kept == b""
 

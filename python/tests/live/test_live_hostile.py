@@ -61,7 +61,7 @@ def test_a_login_does_not_take_the_connection_of_another(broker, market):
     market.offers(store=falls_at(8, 0, -150))
     market.settles_at(8, house=100, store=-150)
     attack.end()
-    assert [it for it in market.said["auctioneer"] if "connection" in it] == []
+    assert [line for line in market.said["auctioneer"] if "connection" in line] == []
 
 
 def test_a_restarted_relay_needs_no_child_to_tell_its_bid_again(broker, market, tmp_path, capsys):
@@ -75,7 +75,7 @@ def test_a_restarted_relay_needs_no_child_to_tell_its_bid_again(broker, market, 
     market.start("street")
     market.offers(store=falls_at(6, 0, -150))
     market.settles_at(6, store=-150)
-    assert [it for it in market.said["street"] if "waits" in it] == []
+    assert [line for line in market.said["street"] if "waits" in line] == []
     market.start("house", leave=True, state=str(tmp_path / "elsewhere"))
     market.threads.pop("house").join(10)
     assert "cogmaula market drop street 1" in market.raised["house"], "nothing was left, and it says so"
@@ -104,7 +104,7 @@ def test_a_bid_behind_a_pause_and_a_flood_is_not_lost(broker, market, live, tmp_
     market.stop("house")
     os.kill(street.process.pid, signal.SIGSTOP)
     with Member(broker.port, "house") as house:
-        bids = [Bid(1, 100 + 2 * it, (100 + it % 50,) * STEPS).to_bytes() for it in range(3_000)]
+        bids = [Bid(1, 100 + 2 * number, (100 + number % 50,) * STEPS).to_bytes() for number in range(3_000)]
         house.client.max_inflight_messages_set(1_000)
         house.floods("market/street/bid/1", bids, 10_000, 0.3, of_session(market), qos=1)
         time.sleep(1.0)
@@ -116,7 +116,7 @@ def test_a_bid_behind_a_pause_and_a_flood_is_not_lost(broker, market, live, tmp_
 
 def test_a_flood_of_one_child_holds_no_sibling_up(broker, market):
     begun(market).stop("house")
-    bids = [Bid(1, 2, (100 + it,) * STEPS).to_bytes() for it in range(50)]
+    bids = [Bid(1, 2, (100 + number,) * STEPS).to_bytes() for number in range(50)]
     with Member(broker.port, "house") as house:
         attack = Attack(lambda: house.floods("market/street/bid/1", bids, 5_000, 0.5, of_session(market)), 0.0)
         waited = []
@@ -128,8 +128,8 @@ def test_a_flood_of_one_child_holds_no_sibling_up(broker, market):
             waited.append(time.monotonic() - begin)
         attack.end()
     said = market.said["street"]
-    assert any("market/street/bid/1: more than 200 messages a second come from house" in it for it in said), said
-    assert [it for it in said if "rights" in it] == []
+    assert any("market/street/bid/1: more than 200 messages a second come from house" in line for line in said), said
+    assert [line for line in said if "rights" in line] == []
     # A busy machine may take long to begin with; without that line each offer waits.
     assert min(waited) < SECONDS / 4, f"seconds from an offer of the store to its setpoint: {waited}"
     assert market.controls["store"].has(bid=10)
@@ -159,11 +159,11 @@ class Hostile:
             case 4:
                 Member(self.port, "store.control", name=self.chance.choice(["auctioneer", "cogmaula.market.street", "store"]))
             case 5:
-                for it in range(200):
-                    self._puts(f"house/{it}/x", b"x" * 10_000)
+                for number in range(200):
+                    self._puts(f"house/{number}/x", b"x" * 10_000)
             case _:
                 # A relay is never let go, and its bids are of no device.
-                self._puts("street/bid/1", bids[0], [("sort", "relay"), *[it for it in self.properties if it[0] != "sort"]])
+                self._puts("street/bid/1", bids[0], [("sort", "relay"), *[pair for pair in self.properties if pair[0] != "sort"]])
 
     def _bid(self, number):
         return Bid(1, 2 * number, falls_at(self.chance.randrange(STEPS), 300, -300)).to_bytes()
@@ -225,15 +225,15 @@ def test_a_storm_of_all_attacks(broker, market, live, tmp_path):
             told = market.controls[name].setpoints[-1]
             return told.get("power") == newest[name][told.get("step", 0)] and told["power"] in (newest[name][0], newest[name][-1])
 
-        wait_until(lambda: all(has(it) for it in newest), f"the setpoints of {newest}")
+        wait_until(lambda: all(has(one_of) for one_of in newest), f"the setpoints of {newest}")
     assert attack.count > 10
     for name, them in offered.items():
         told = market.controls[name].setpoints[before[name] :]
-        assert [it for it in told if it.get("market") == "silent"] == [], f"{name} was told a fallback"
-        powers = [it for it in told if "step" in it]
+        assert [message for message in told if message.get("market") == "silent"] == [], f"{name} was told a fallback"
+        powers = [message for message in told if "step" in message]
         allowed = [falls_at(4, 0, -150), falls_at(3, 60, -60), *them]
-        assert all(any(it["power"] == one[it["step"]] for one in allowed) for it in powers), f"{name} was told a power of no offer"
-        indices = [it["clearing"] for it in powers]
+        assert all(any(power["power"] == one[power["step"]] for one in allowed) for power in powers), f"{name} was told a power of no offer"
+        indices = [setpoint["clearing"] for setpoint in powers]
         assert indices == sorted(indices), f"{name} went back"
     bids, prices = counted_bids(looks), {}
     for topic, payload, _ in looks.all:
@@ -241,10 +241,10 @@ def test_a_storm_of_all_attacks(broker, market, live, tmp_path):
             prices.setdefault(frame.index, {})[frame.child] = frame
     seen = 0
     for told in prices.values():
-        named = [bids.get((f"market/auctioneer/bid/{child}", it.number)) for child, it in told.items()]
+        named = [bids.get((f"market/auctioneer/bid/{child}", price.number)) for child, price in told.items()]
         if set(told) == {1, 2} and None not in named:
             seen += 1
-            assert {it.step for it in told.values()} == {clearing_step(*(it.demands for it in named))}
+            assert {price.step for price in told.values()} == {clearing_step(*(bid.demands for bid in named))}
     assert seen > 5
 
 

@@ -120,11 +120,11 @@ def with_children(joined, **more):
 
 def passes(one, seconds):
     """Lets so many seconds pass for what the node knows of its children."""
-    for it in one.node.serving.letting.lapses._children.values():
-        it.heard -= seconds
+    for child in one.node.serving.letting.lapses._children.values():
+        child.heard -= seconds
     down = one.node.serving.letting.lapses._down
-    for it in down:
-        down[it] -= seconds
+    for name in down:
+        down[name] -= seconds
     one.turned()
 
 
@@ -146,7 +146,7 @@ def test_a_device_that_is_silent_is_let_go_and_a_relay_never(joined):
     assert one.link.newest["market/street/price/1"].payload == b"", "nobody is told a price for it"
     assert one.node._store.newest().lapsed == {1: 5}
     assert one.node._store.newest().relays == (2,)
-    assert any("child 1 is let go, its bid was not renewed for 150 s" in it for it in one.said)
+    assert any("child 1 is let go, its bid was not renewed for 150 s" in line for line in one.said)
 
 
 def test_a_bid_that_is_renewed_is_not_fed_again_and_holds_on(joined):
@@ -155,7 +155,7 @@ def test_a_bid_that_is_renewed_is_not_fed_again_and_holds_on(joined):
     one.link.comes("market/street/bid/1", bid(1, 4, 5, -3).to_bytes(), of("device", "house"))
     one.turned()
     passes(one, 140)
-    assert [it for it in one.service.read if it != Send().to_bytes()] == []
+    assert [frame for frame in one.service.read if frame != Send().to_bytes()] == []
     assert "market/street/lapsed/1" not in one.link.newest
 
 
@@ -272,11 +272,11 @@ def test_a_child_that_left_by_itself_is_not_let_go(joined):
 
 def test_a_bid_of_another_version_is_not_taken(joined):
     one = with_children(joined)
-    properties = [it for it in of("device", "house") if it[0] != "version"]
+    properties = [property_ for property_ in of("device", "house") if property_[0] != "version"]
     one.link.comes("market/street/bid/3", bid(3, 1, 5, -3).to_bytes(), properties)
     one.turned()
     assert bid(3, 1, 5, -3).to_bytes() not in one.service.read
-    assert any("market/street/bid/3 comes from a node of another version" in it for it in one.said)
+    assert any("market/street/bid/3 comes from a node of another version" in line for line in one.said)
 
 
 # Bounds.
@@ -286,7 +286,7 @@ def test_bounds_come_directly_behind_the_resume(joined, tmp_path):
     saved(tmp_path, "relay", "street", relay_resume(3, 0, 0, numbers((1, 4))))
     one = joined("relay", children=(ChildSettings(1, -300, 500), ChildSettings(9))).begun()
     due = ["15 0001 FFFFFED4 000001F4", "15 0009 C4653600 3B9ACA00"]
-    assert one.service.read[1:3] == [bytes.fromhex(it) for it in due]
+    assert one.service.read[1:3] == [bytes.fromhex(frame) for frame in due]
 
 
 def test_a_bid_that_is_too_much_is_told_and_the_one_before_counts(joined):
@@ -296,7 +296,7 @@ def test_a_bid_that_is_too_much_is_told_and_the_one_before_counts(joined):
     one.writes(TooMuch(1, 6))
     told = json.loads(one.link.newest["market/street/refused/1"].payload)
     assert (told["number"], told["least"], told["greatest"]) == (6, -300, 500)
-    assert any("bid 6 of child 1 is outside -300 to 500 watts" in it for it in one.said)
+    assert any("bid 6 of child 1 is outside -300 to 500 watts" in line for line in one.said)
     one.service.ends()
     one.turned()
     one.node.serving._restart_at = 0
@@ -346,4 +346,4 @@ def test_a_device_that_was_let_go_is_told_so_before_its_stored_setpoint(joined, 
     saved(tmp_path, "device", "house", device_resume(4, 2, (5, -3)), setpoint='{"power": 5, "bid": 4, "time": "t"}')
     lapse = b'{"number": 5, "why": "w", "time": "2026-01-31T06:30:00.000Z"}'
     one = joined("device").begun(("market/street/lapsed/2", lapse))
-    assert [json.loads(it).get("market") for it in one.control.told] == ["silent"]
+    assert [json.loads(message).get("market") for message in one.control.told] == ["silent"]

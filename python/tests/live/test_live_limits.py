@@ -37,23 +37,23 @@ def state(one):
 
 
 def fed(one):
-    return [it for it in one.service.read if it[:1] == bytes([Limits.KIND])]
+    return [frame for frame in one.service.read if frame[:1] == bytes([Limits.KIND])]
 
 
 def test_the_service_has_the_place_of_limits_and_nobody_else(joined):
     one = begun(joined, ("market/street/bid/256", bid(256, 2, 5, -3).to_bytes()))
     assert one.service.command == ["live", "relay", "3", "-1000", "1000", "256"]
     assert bid(256, 2, 5, -3).to_bytes() not in one.service.read
-    assert any("child 256 is the place in which limits are given" in it for it in one.said)
+    assert any("child 256 is the place in which limits are given" in line for line in one.said)
     assert {"market/street/limits", "market/street/limits/state"} <= set(one.link.topics)
-    assert not any("limits" in it for it in joined("device").link.topics)
+    assert not any("limits" in topic for topic in joined("device").link.topics)
 
 
 def test_limits_are_stored_under_a_number_of_their_own_and_then_fed(joined, monkeypatch):
     one = begun(joined)
     done = []
     save = one.node._store.save
-    monkeypatch.setattr(one.node._store, "save", lambda it: (done.append((it.given, len(fed(one)))), save(it)))
+    monkeypatch.setattr(one.node._store, "save", lambda stored: (done.append((stored.given, len(fed(one)))), save(stored)))
     until = later(3600)
     takes(one, given(-2, 600, until=until, reference="order 7"))
     assert fed(one) == [Limits(2, -2, 600).to_bytes()]
@@ -62,7 +62,7 @@ def test_limits_are_stored_under_a_number_of_their_own_and_then_fed(joined, monk
     takes(one, given(-2, 500))
     takes(one, b"")
     due = [Limits(2, -2, 600), Limits(4, -2, 500), Limits(6, -1000, 1000)]
-    assert fed(one) == [it.to_bytes() for it in due], "the same ones again are no news, and a cleared topic gives the settings' own"
+    assert fed(one) == [frame.to_bytes() for frame in due], "the same ones again are no news, and a cleared topic gives the settings' own"
     told = json.loads(one.link.of("market/street/state")[-1])
     assert (told["floor"], told["ceiling"]) == (-1000, 1000)
 
@@ -160,9 +160,9 @@ def test_limits_that_cannot_be_kept_raise_an_alarm_until_a_later_bid_keeps_them(
     told = json.loads(one.link.of("market/street/state")[-1])
     assert told["alarm"] == "no price brings the power within 0 to 3 W"
     assert state(one)["state"] == "not kept"
-    assert any(it.startswith("ALARM: no price brings") for it in one.said)
+    assert any(line.startswith("ALARM: no price brings") for line in one.said)
     one.writes(relay_resume(2, 0, 0, numbers((1, 4), (256, 2)), TERMS, (0, 3)), Bid(3, 2, (9, 8)), OutOfLimits(2))
-    assert len([it for it in one.said if it.startswith("ALARM")]) == 1
+    assert len([line for line in one.said if line.startswith("ALARM")]) == 1
     one.writes(relay_resume(3, 0, 0, numbers((1, 6), (256, 2)), TERMS, (0, 3)), Bid(3, 3, (3, 2)))
     one.node.serving.limiting._within_at = 0.0
     one.turned()

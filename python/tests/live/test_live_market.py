@@ -139,7 +139,7 @@ topic read market/street/state
 topic read market/basis
 """
     (tmp_path / "rights").write_text(rights)
-    file = passwords(tmp_path, **{it: f"word of {it}" for it in names})
+    file = passwords(tmp_path, **{name: f"word of {name}" for name in names})
     lines = [f"cafile {certificates.ca}", f"certfile {certificate}", f"keyfile {key}"]
     with Mosquitto(tmp_path / "broker", *lines, f"password_file {file}", f"acl_file {tmp_path / 'rights'}") as broker:
         market = Market(broker.port, live, tmp_path)
@@ -150,7 +150,7 @@ topic read market/basis
             market.offers(house=CONSTANT, store=falls_at(4, 0, -150))
             market.settles_at(4, house=100, store=-150)
             time.sleep(0.5)
-            assert [it for said in market.said.values() for it in said if "back" in it or "let" in it] == []
+            assert [line for said in market.said.values() for line in said if "back" in line or "let" in line] == []
 
 
 def test_a_device_whose_control_is_silent_leaves_and_its_price_is_cleared(market, onlooker):
@@ -161,7 +161,7 @@ def test_a_device_whose_control_is_silent_leaves_and_its_price_is_cleared(market
     assert isinstance(frame_of(onlooker.payload("market/street/bid/2"), BIDS, STEPS), Gone)
     wait_until(lambda: onlooker.payload("market/street/price/2") == b"", "the price is cleared")
     wait_until(lambda: onlooker.payload("market/store/setpoint") == b"", "the setpoint is cleared")
-    assert any("the control was silent" in it for it in market.said["store"])
+    assert any("the control was silent" in line for line in market.said["store"])
     market.offers(store=falls_at(4, 0, -150))
     market.settles_at(4, house=100, store=-150)
 
@@ -180,11 +180,11 @@ def test_a_killed_service_comes_back_within_seconds(market):
     for step, name in enumerate(("auctioneer", "street", "house"), 5):
         killed = market.nodes[name].serving.service
         os.kill(killed.pid, signal.SIGKILL)
-        wait_until(lambda name=name: any("SIGKILL" in it for it in market.said[name]), "it is noticed", 1)
+        wait_until(lambda name=name: any("SIGKILL" in line for line in market.said[name]), "it is noticed", 1)
         market.offers(store=falls_at(step, 0, -150))
         market.settles_at(step, house=100, store=-150)
         assert market.nodes[name].serving.service is not killed
-    indices = [it["clearing"] for it in market.controls["house"].setpoints]
+    indices = [setpoint["clearing"] for setpoint in market.controls["house"].setpoints]
     assert indices == sorted(indices)
 
 
@@ -195,7 +195,7 @@ def test_a_node_that_moves_to_another_machine_goes_on_from_the_broker(market):
         market.stop(name)
         shutil.rmtree(market.folder / market.prefix / name)
         market.start(name)
-        assert any("goes on from the broker's Resume" in it for it in market.said[name])
+        assert any("goes on from the broker's Resume" in line for line in market.said[name])
         market.offers(store=falls_at(step, 0, -150))
         market.settles_at(step, house=100, store=-150)
 
@@ -219,7 +219,7 @@ def test_a_new_session_takes_all_nodes_along(market):
     before = market.nodes["auctioneer"].session
     market.stop("auctioneer")
     market.start("auctioneer", new_session=True)
-    wait_until(lambda: all(it.session not in (None, before) for it in market.nodes.values()), "all follow")
+    wait_until(lambda: all(node.session not in (None, before) for node in market.nodes.values()), "all follow")
     market.offers(house=CONSTANT, store=falls_at(6, 0, -150))
     market.settles_at(6, house=100, store=-150)
     assert market.controls["house"].setpoints[-1]["clearing"] <= 3
@@ -253,7 +253,7 @@ def test_the_example_runs(live):
         name, _, setpoint = line.partition(" ")
         if name in ("house", "store"):
             told[name] = json.loads(setpoint)
-    assert {name: (it["price"], it["power"]) for name, it in told.items()} == {"house": (8, 100), "store": (8, -150)}
+    assert {name: (setpoint["price"], setpoint["power"]) for name, setpoint in told.items()} == {"house": (8, 100), "store": (8, -150)}
 
 
 # Kills of processes.
@@ -267,8 +267,8 @@ def seconds_of_a_process():
 
 
 def test_sigterm_ends_a_node_within_a_second(broker, live, tmp_path, onlooker, request):
-    nodes = [Process(broker.port, live, tmp_path, it).start() for it in ("auctioneer", "street", "store")]
-    request.addfinalizer(lambda: [it.kill() for it in nodes])
+    nodes = [Process(broker.port, live, tmp_path, name).start() for name in ("auctioneer", "street", "store")]
+    request.addfinalizer(lambda: [node.kill() for node in nodes])
     nodes[2].offers(CONSTANT)
     wait_until(lambda: nodes[2].setpoints, "a setpoint")
     for one in reversed(nodes):
@@ -301,13 +301,13 @@ def require_prices_of_bids(messages):
             frame = frame_of(payload, PRICES, STEPS)
             before = prices.setdefault(frame.index, {}).setdefault(topic, frame)
             assert before == frame, "a clearing tells one child two prices"
-    topics = {f"market/{it}" for it in ("auctioneer/price/2", "street/price/1", "street/price/2")}
+    topics = {f"market/{name}" for name in ("auctioneer/price/2", "street/price/1", "street/price/2")}
     seen = 0
     for told in prices.values():
         named = [bids.get((topic.replace("price", "bid"), told[topic].number)) for topic in topics & told.keys()]
         if topics <= told.keys() and None not in named:
             seen += 1
-            assert {told[it].step for it in topics} == {clearing_step(*(it.demands for it in named))}
+            assert {told[topic].step for topic in topics} == {clearing_step(*(bid.demands for bid in named))}
     return seen
 
 
@@ -315,7 +315,7 @@ class Storm:
     """Offers of devices that flow on and on, while nodes, services and the broker are killed."""
 
     def __init__(self, nodes):
-        self.nodes, self.devices = nodes, [nodes[it] for it in ("house", "store", "mill")]
+        self.nodes, self.devices = nodes, [nodes[name] for name in ("house", "store", "mill")]
         self.chance, self.offers = random.Random(7), {}
 
     def offer(self, device):
@@ -332,10 +332,10 @@ class Storm:
 
     def flows_to_all(self):
         """Lets offers flow until each device has two more setpoints."""
-        due = {it.name: len(it.setpoints) + 2 for it in self.devices}
+        due = {device.name: len(device.setpoints) + 2 for device in self.devices}
         end = time.monotonic() + 120
-        while any(len(it.setpoints) < due[it.name] for it in self.devices):
-            assert time.monotonic() < end, f"{due} are due, and {[len(it.setpoints) for it in self.devices]} came"
+        while any(len(device.setpoints) < due[device.name] for device in self.devices):
+            assert time.monotonic() < end, f"{due} are due, and {[len(device.setpoints) for device in self.devices]} came"
             self.flows(0.1)
 
     def has_newest(self, device):
@@ -348,10 +348,10 @@ class Storm:
         """Lets each device make a last offer, and waits until all have the newest setpoint and keep it."""
         for one in self.devices:
             self.offer(one)
-        wait_until(lambda: all(self.has_newest(it) for it in self.devices), f"the newest price of {self.offers}", 120)
+        wait_until(lambda: all(self.has_newest(device) for device in self.devices), f"the newest price of {self.offers}", 120)
         time.sleep(1)
-        assert all(self.has_newest(it) for it in self.devices)
-        assert len({it.setpoints[-1]["clearing"] for it in self.devices}) == 1
+        assert all(self.has_newest(device) for device in self.devices)
+        assert len({device.setpoints[-1]["clearing"] for device in self.devices}) == 1
 
 
 @pytest.mark.parametrize("keeps", [False, True], ids=["forgets", "keeps"])
@@ -362,7 +362,7 @@ def test_a_storm(live, tmp_path, keeps):
     """
     lines = ["persistence true", f"persistence_location {tmp_path}/", "autosave_on_changes true", "autosave_interval 10"] if keeps else []
     with Mosquitto(tmp_path / "broker", *lines) as broker, Onlooker(broker.port, "market/+/bid/+", "market/+/price/+") as looks:
-        nodes = {it: Process(broker.port, live, tmp_path, it).start() for it in PLACES}
+        nodes = {name: Process(broker.port, live, tmp_path, name).start() for name in PLACES}
         storm = Storm(nodes)
         try:
             storm.flows_to_all()
@@ -384,7 +384,7 @@ def test_a_storm(live, tmp_path, keeps):
             for one in nodes.values():
                 one.stop()
     for one in storm.devices:
-        indices = [it["clearing"] for it in one.setpoints]
+        indices = [setpoint["clearing"] for setpoint in one.setpoints]
         assert indices == sorted(indices), f"{one.name} went back"
-        assert len([it for it in nodes[one.name].lines if "SIGKILL" in it and "the service has ended" in it]) >= 1
+        assert len([line for line in nodes[one.name].lines if "SIGKILL" in line and "the service has ended" in line]) >= 1
     assert require_prices_of_bids(looks.all) > 10

@@ -26,7 +26,7 @@ from cogmaula.live.notifying import Notifier
 
 RULES, DASHBOARD = TOP / "packaging" / "prometheus" / "market.rules.yml", TOP / "packaging" / "prometheus" / "market.dashboard.json"
 COUNTERS = {name for name, (kind, _, _) in ALL.items() if kind == "counter"}
-SAMPLES = {f"{it}_total" if it in COUNTERS else it for it in ALL}
+SAMPLES = {f"{metric}_total" if metric in COUNTERS else metric for metric in ALL}
 
 
 def facts(**more):
@@ -52,7 +52,7 @@ def test_each_frame_counts_once(frame, due):
     counts = Counts()
     counts.wrote(frame, 4)
     kind, outcome = due
-    assert {it: number for it, number in getattr(counts, kind).items() if number} == {outcome: 1}
+    assert {word: number for word, number in getattr(counts, kind).items() if number} == {outcome: 1}
     assert sum([*counts.bids.values(), *counts.prices.values(), counts.clearings]) == 1
     assert counts.waiting == (4 if outcome == "not_caught_up" else 0)
 
@@ -85,18 +85,18 @@ def test_a_scrape_has_the_market_and_the_process():
         assert (status, headers["Content-Type"]) == (200, "text/plain; version=0.0.4; charset=utf-8")
         found = scraped(body)
         view = page.view()
-    for it in view["nodes"]:
-        power = None if it["power"] is None else it["power"]["power"]
-        assert found.get(f'market_power_watts{{node="{it["name"]}"}}') == power
-        assert found[f'market_node_lapsed{{node="{it["name"]}"}}'] == (it["lapsed"] is not None)
+    for node in view["nodes"]:
+        power = None if node["power"] is None else node["power"]["power"]
+        assert found.get(f'market_power_watts{{node="{node["name"]}"}}') == power
+        assert found[f'market_node_lapsed{{node="{node["name"]}"}}'] == (node["lapsed"] is not None)
     due = {
         'market_children_lapsed{node="street"}': 1, 'market_stores_total{node="street"}': 3, 'market_store_seconds_total{node="street"}': 0.5,
         'market_heartbeat_timestamp_seconds{node="street"}': 1769841000, 'market_loop_age_seconds{node="street"}': 0.25,
         'market_bids_total{node="street",outcome="sent"}': 0, "market_page_connected": 1, "market_messages_not_taken": 0,
         'market_ceiling_watts{node="street"}': 50, 'market_floor_watts{node="street"}': -4000, 'market_node_up{node="street",parent="auctioneer",sort="relay"}': 1,
     }
-    assert {it: found[it] for it in due} == due
-    names = {it.partition("{")[0] for it in found}
+    assert {series: found[series] for series in due} == due
+    names = {series.partition("{")[0] for series in found}
     assert names == SAMPLES, "each metric is in a scrape, and no other"
 
 
@@ -152,7 +152,7 @@ def test_the_dashboard_asks_for_metrics_that_exist():
         assert names_of(query) <= SAMPLES, query
         for name, labels in re.findall(r"\b(market_\w+)\{([^}]*)\}", query):
             known = {"node", "instance", "job", *ALL[name.removesuffix("_total")][1]}
-            assert {it.partition("=")[0].rstrip("!") for it in labels.split(",")} <= known, query
+            assert {word.partition("=")[0].rstrip("!") for word in labels.split(",")} <= known, query
 
 
 def test_the_rules_ask_for_metrics_that_exist():
@@ -208,11 +208,11 @@ def test_prometheus_scrapes_a_market_and_each_query_of_the_dashboard_answers(tmp
                 due = {"house": "100", "store": "-150", "street": "-50", "auctioneer": "-50"}
 
                 def powers():
-                    return {it["metric"]["node"]: it["value"][1] for it in asked("query", query="market_power_watts")["result"]}
+                    return {sample["metric"]["node"]: sample["value"][1] for sample in asked("query", query="market_power_watts")["result"]}
 
                 wait_until(lambda: powers() == due, "the powers")
                 for query in queries_of(json.loads(DASHBOARD.read_text())["panels"]):
-                    wait_until(lambda it=query: asked("query", query=it.replace("$node", ".*"))["result"], query)
+                    wait_until(lambda text=query: asked("query", query=text.replace("$node", ".*"))["result"], query)
                 assert asked("query", query="market_price{node='store'}")["result"][0]["value"][1] == "4"
                 assert asked("query", query="ALERTS")["result"] == []
             finally:

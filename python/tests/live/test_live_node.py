@@ -60,7 +60,7 @@ def test_a_resume_is_on_disk_and_at_the_broker_before_the_bid_behind_it(joined):
     one.turned()
     assert one.stored() == RELAY_RESUME.to_bytes()
     behind = one.link.sent[topics:]
-    assert [it.topic for it in behind] == ["market/street/resume", "market/auctioneer/bid/3"]
+    assert [message.topic for message in behind] == ["market/street/resume", "market/auctioneer/bid/3"]
     assert behind[1].payload == bid(3, 1, 21, -3).to_bytes()
     assert dict(behind[1].properties)["session"] == SESSION.id
 
@@ -179,7 +179,7 @@ def test_what_a_service_wrote_and_was_not_handled_is_lost_with_it(joined):
 def test_the_state_tells_the_place_and_the_limits(joined, sort, more, due):
     one = joined(sort, **more).begun()
     told = json.loads(one.link.of(one.node.settings.own_topic("state"))[-1])
-    assert tuple(told[it] for it in ("sort", "parent", "child", "floor", "ceiling")) == due
+    assert tuple(told[word] for word in ("sort", "parent", "child", "floor", "ceiling")) == due
 
 
 def test_a_service_that_ends_starts_anew_from_its_newest_resume_with_all_that_it_hears(joined):
@@ -266,7 +266,7 @@ def test_which_topics_need_not_all_be_read_back(joined, sort, due, page, are_all
     """They are the prices for the node's children, unless its page shows what it hears."""
     one = joined(sort, page=page)
     assert one.node._written() == ([] if are_all_read else due)
-    assert [it for it in one.link.topics if it.endswith("/price/+")] == due
+    assert [topic for topic in one.link.topics if topic.endswith("/price/+")] == due
 
 
 def test_an_auctioneer_clears_after_news_and_tells_prices_with_time_and_session(joined):
@@ -286,7 +286,7 @@ def test_an_auctioneer_clears_after_news_and_tells_prices_with_time_and_session(
 
 def test_answers_that_ask_for_patience(joined):
     one = joined("relay").begun(("market/street/bid/1", bid(1, 1, 5, -3).to_bytes()))
-    sends = [it for it in one.service.read if it == Send().to_bytes()]
+    sends = [frame for frame in one.service.read if frame == Send().to_bytes()]
     assert len(sends) == 1
     for frame, is_again in ((NotChanged(), False), (WindowFull(), True), (NotCaughtUp(), True), (Old(1, 1), False)):
         one.node.serving._asking.asked(time.monotonic())
@@ -303,7 +303,7 @@ def test_who_is_awaited_is_told_once_in_a_while(joined, tmp_path):
     saved(tmp_path, "relay", "street", RELAY_RESUME)
     one = joined("relay").begun(("market/street/bid/1", bid(1, 1, 5, -3).to_bytes()))
     one.writes(NotCaughtUp(), NotCaughtUp())
-    told = [it for it in one.said if "waits for the bids of children 2," in it]
+    told = [line for line in one.said if "waits for the bids of children 2," in line]
     assert len(told) == 1
 
 
@@ -365,7 +365,7 @@ def test_a_bid_that_would_end_the_service_never_reaches_it(joined, payload, prop
         one.link.comes("market/street/bid/1", payload, properties)
         one.turned()
     assert one.service.read == [b""]
-    assert [it for it in one.said if "market/street/bid/1" in it] == ([] if why is None else [it for it in one.said[-1:] if why in it])
+    assert [line for line in one.said if "market/street/bid/1" in line] == ([] if why is None else [line for line in one.said[-1:] if why in line])
 
 
 def test_a_child_behind_its_number_is_told_and_not_fed(joined):
@@ -399,7 +399,7 @@ def test_a_price_that_would_end_the_service_never_reaches_it(joined, payload, pr
     one.link.comes("market/auctioneer/price/3", payload, properties)
     one.turned()
     assert one.service.read == [b""]
-    assert any("market/auctioneer/price/3 is not taken" in it for it in one.said) == is_told
+    assert any("market/auctioneer/price/3 is not taken" in line for line in one.said) == is_told
 
 
 def test_a_relay_passes_the_time_of_the_clearing_on(joined):
@@ -432,7 +432,7 @@ def test_offers_become_bids_and_prices_become_setpoints(joined):
     assert one.service.read[-1] == price(2, 1, 7, 1).to_bytes()
     one.writes(Setpoint(1, 7, 1, -300))
     due = {"power": -300, "step": 1, "price": 9, "bid": 1, "clearing": 7, "time": MOMENT}
-    (told,) = [json.loads(it) for it in one.control.told]
+    (told,) = [json.loads(message) for message in one.control.told]
     assert datetime.fromisoformat(told.pop("until")) > datetime.now(timezone.utc)
     assert told == due
     assert one.link.newest["market/house/setpoint"].payload == one.control.told[0]
@@ -464,7 +464,7 @@ def test_an_offer_that_the_broker_sends_again_does_not_say_that_the_control_live
 
 def without_until(told):
     """A setpoint that the control was told, as it is stored."""
-    return json.dumps({name: it for name, it in json.loads(told).items() if name != "until"}).encode()
+    return json.dumps({name: value for name, value in json.loads(told).items() if name != "until"}).encode()
 
 
 SETPOINT = b'{"power": -300, "clearing": 7, "time": "2026-01-31T06:30:00.000Z"}'
@@ -473,7 +473,7 @@ SETPOINT = b'{"power": -300, "clearing": 7, "time": "2026-01-31T06:30:00.000Z"}'
 def test_a_device_that_comes_back_tells_the_control_its_stored_setpoint_and_not_the_brokers(joined, tmp_path):
     saved(tmp_path, "device", "house", device_resume(2, 6, (500, -300)), setpoint=SETPOINT.decode())
     one = joined("device").begun(("market/house/setpoint", b'{"power": 500, "clearing": 6, "time": "t"}'))
-    assert [without_until(it) for it in one.control.told] == [SETPOINT]
+    assert [without_until(message) for message in one.control.told] == [SETPOINT]
     assert set(one.link.of("market/house/setpoint")) == set(one.control.told)
     assert one.service.read == [device_resume(2, 6, (500, -300)).to_bytes()]
 
@@ -483,8 +483,8 @@ def test_a_setpoint_is_stored_before_it_is_told(joined, monkeypatch):
     one.writes(device_resume(1, 0, (500, -300)), bid(2, 1, 500, -300))
     done = []
     save, write = one.node._store.save, one.control.write
-    monkeypatch.setattr(one.node._store, "save", lambda it: (done.append(it.setpoint), save(it)))
-    monkeypatch.setattr(one.control, "write", lambda it: (done.append("told"), write(it)))
+    monkeypatch.setattr(one.node._store, "save", lambda stored: (done.append(stored.setpoint), save(stored)))
+    monkeypatch.setattr(one.control, "write", lambda setpoint: (done.append("told"), write(setpoint)))
     one.writes(Setpoint(1, 7, 1, -300))
     assert done == [without_until(one.control.told[0]).decode(), "told"]
     assert one.stored() == device_resume(1, 0, (500, -300)).to_bytes()
@@ -503,7 +503,7 @@ def test_a_device_without_a_disk_takes_the_brokers_setpoint_of_its_session(joine
     one = joined("device")
     one.link.comes("market/house/setpoint", payload, [("session", session.id)])
     one.begun(("market/house/resume", device_resume(2, 7, (500, -300)).to_bytes()))
-    assert [without_until(it) for it in one.control.told] == told
+    assert [without_until(message) for message in one.control.told] == told
 
 
 def test_the_full_window_lets_an_offer_wait(joined):
@@ -544,9 +544,9 @@ def test_the_parents_state_is_told_when_it_changes(joined):
     ):
         one.link.comes(topic, payload)
         one.turned()
-    told = [it for it in one.said if it.startswith("street")]
+    told = [line for line in one.said if line.startswith("street")]
     assert told == ["street is down: the connection was lost", "street is down: stopped", "street is up again"]
-    assert any(it.startswith(topic) for it in one.said)
+    assert any(line.startswith(topic) for line in one.said)
 
 
 def test_another_basis_is_refused(joined):

@@ -17,6 +17,6 @@ def test_a_device_that_is_back_at_once_was_let_go(tmp_path):
     state = StateMessage("up", "run", now_text(), "session", now_text(), "", "relay", "auctioneer", 1, None, None, "", "", starts=1)
     with Mosquitto(tmp_path) as broker, Onlooker(broker.port, "market/street/drop/1") as street:
         street.publish("market/street/state", state.to_bytes())
-        street.client.on_message = lambda it, *_: [it.publish("market/street/lapsed/1", payload, 1, True) for payload in (lapse, b"")]
+        street.client.on_message = lambda client, *_: [client.publish("market/street/lapsed/1", payload, 1, True) for payload in (lapse, b"")]
         told = drop(BrokerSettings(port=broker.port), "street", 1, SECONDS)
     assert told == "child 1 of street is let go as of number 3: by the word of an operator"

@@ -40,7 +40,7 @@ def test_the_page_is_one_file_and_may_load_nothing_else(served):
     status, headers, body = served.get()
     assert (status, headers["Content-Type"]) == (200, "text/html; charset=utf-8")
     assert (headers["X-Content-Type-Options"], headers["Cache-Control"]) == ("nosniff", "no-store")
-    policy = dict(it.split(" ", 1) for it in headers["Content-Security-Policy"].split("; "))
+    policy = dict(word.split(" ", 1) for word in headers["Content-Security-Policy"].split("; "))
     for tag in ("script", "style"):
         (text,) = re.findall(rf"<{tag}>(.*?)</{tag}>".encode(), body, re.DOTALL)
         assert policy[f"{tag}-src"] == f"'sha256-{base64.b64encode(hashlib.sha256(text).digest()).decode()}'"
@@ -56,7 +56,7 @@ def test_the_view_is_json_for_scripts(served):
     assert (status, headers["Content-Type"], headers["Cache-Control"]) == (200, "application/json", "no-store")
     told = json.loads(body)
     assert (told["own"], told["lost_since"], told["clearing"], told["price"]["price"]) == (None, None, 7, 2)
-    assert [it["power"]["power"] for it in told["nodes"]] == [-110, -50, 100, -150, -60]
+    assert [node["power"]["power"] for node in told["nodes"]] == [-110, -50, 100, -150, -60]
 
 
 @pytest.mark.parametrize("path", ["/favicon.ico", "/view/", "/../view", "/index.html", "//", "/%2e"])
@@ -198,14 +198,14 @@ def test_only_so_many_may_look(served):
     async def look():
         looking = [await served.socket() for _ in range(64)]
         assert await refused(served.socket) == 503
-        found = {json.loads(await it.recv())["clearing"] for it in looking}
+        found = {json.loads(await socket.recv())["clearing"] for socket in looking}
         await looking.pop().close()
         while served.page._sockets == 64:
             await asyncio.sleep(0.01)
         async with served.socket() as one:
             found.add(json.loads(await one.recv())["clearing"])
-        for it in looking:
-            await it.close()
+        for socket in looking:
+            await socket.close()
         return found
 
     assert asyncio.run(look()) == {7}
@@ -216,8 +216,8 @@ def test_connections_that_ask_for_nothing_are_ended(served, monkeypatch):
     """Else they would take all the files that a node may open."""
     monkeypatch.setattr(page_file, "PATIENCE", 1.0)
     silent = [socket.create_connection(("127.0.0.1", served.page.port)) for _ in range(160)]
-    for it in silent:
-        it.settimeout(5)
+    for connection in silent:
+        connection.settimeout(5)
 
     def is_over(one):
         try:
@@ -225,10 +225,10 @@ def test_connections_that_ask_for_nothing_are_ended(served, monkeypatch):
         except ConnectionResetError:
             return True
 
-    assert all(is_over(it) for it in silent)
+    assert all(is_over(connection) for connection in silent)
     wait_until(lambda: served.get("/view")[0] == 200, "the page answers", 5)
-    for it in silent:
-        it.close()
+    for connection in silent:
+        connection.close()
 
 
 def test_a_client_that_never_reads_is_ended_and_holds_nobody_up(monkeypatch):

@@ -43,7 +43,7 @@ def view_at(market, name):
 
 
 def node_of(view, name):
-    return next((it for it in view["nodes"] if it["name"] == name), None)
+    return next((node for node in view["nodes"] if node["name"] == name), None)
 
 
 def start_limited(market, **pages):
@@ -59,7 +59,7 @@ def shows_setpoints(market, view):
     """Whether a page shows each device's newest setpoint, and the sums of just these."""
     told = {name: market.controls[name].setpoints[-1] for name in ("house", "store", "mill")}
     shown = {name: (node_of(view, name) or {}).get("setpoint") for name in told}
-    clearings = {it["clearing"] for it in told.values()}
+    clearings = {price["clearing"] for price in told.values()}
     return shown == told and clearings == {view["clearing"]} and view["lost_since"] is None
 
 
@@ -68,16 +68,16 @@ def test_the_figures_are_the_setpoints(market):
     start_limited(market, auctioneer=WHOLE)
     wait_until(lambda: shows_setpoints(market, view_at(market, "auctioneer")), "the setpoints")
     view = view_at(market, "auctioneer")
-    assert [(it["name"], it["depth"], it["sort"], it["state"]) for it in view["nodes"]] == [
+    assert [(node["name"], node["depth"], node["sort"], node["state"]) for node in view["nodes"]] == [
         ("auctioneer", 0, "auctioneer", "up"), ("street", 1, "relay", "up"), ("house", 2, "device", "up"), ("store", 2, "device", "up"),
         ("mill", 1, "device", "up"),
     ]
-    assert [it["power"]["power"] for it in view["nodes"]] == [-110, -50, 100, -150, -60]
-    assert {(it["power"]["first"], it["power"]["last"]) for it in view["nodes"]} == {(view["clearing"], view["clearing"])}
+    assert [node["power"]["power"] for node in view["nodes"]] == [-110, -50, 100, -150, -60]
+    assert {(node["power"]["first"], node["power"]["last"]) for node in view["nodes"]} == {(view["clearing"], view["clearing"])}
     street = node_of(view, "street")
     assert (street["price"]["price"], street["passed"]["price"], street["is_within"]) == (2, 4, True)
     assert (street["floor"], street["ceiling"], street["bid"]["demand"]) == (None, 50, -50)
-    assert all(it["bid"]["is_answered"] for it in view["nodes"][1:])
+    assert all(node["bid"]["is_answered"] for node in view["nodes"][1:])
     assert (view["price"]["price"], view["own"], view["lost_since"], view["not_taken"]) == (2, None, None, [])
     assert view["session"] == market.nodes["auctioneer"].session.id
     market.offers(house=[0] * STEPS, mill=falls_at(6, 200, 0))
@@ -95,7 +95,7 @@ def test_without_whole_a_relay_shows_what_it_hears(market):
 
     def shown():
         view = view_at(market, "street")
-        return [(it["name"], it["child"], it["power"] and it["power"]["power"]) for it in view["nodes"]], view["lost_since"]
+        return [(node["name"], node["child"], node["power"] and node["power"]["power"]) for node in view["nodes"]], view["lost_since"]
 
     due = [("auctioneer", None, None), ("street", 1, -50), ("house", 1, 100), ("store", 2, -150)], None
     wait_until(lambda: shown() == due, f"the street sees its children: {shown()}")
@@ -166,16 +166,16 @@ def test_it_reads_what_a_page_shows_and_forgets_what_goes(live, tmp_path):
             one.has(*shown)
             onlooker.publish("market/a/bid/1", b"")
             onlooker.publish("market/a/bid/2", b"2")
-            one.has("market/a/bid/2", *(it for it in shown if it != "market/a/bid/1"))
+            one.has("market/a/bid/2", *(topic for topic in shown if topic != "market/a/bid/1"))
             broker.stop()
             wait_until(lambda: one.board.copy()[1] is not None, "the connection is lost")
-            assert sorted(one.board.copy()[0]) == sorted(["market/a/bid/2", *(it for it in shown if it != "market/a/bid/1")])
+            assert sorted(one.board.copy()[0]) == sorted(["market/a/bid/2", *(topic for topic in shown if topic != "market/a/bid/1")])
             # The broker comes back with nothing that it retained.
             broker.start()
             with Onlooker(broker.port, "#") as other:
                 other.publish("market/basis", b"3")
                 one.has("market/basis")
-                assert [it[0] for it in other.all] == ["market/basis"], "the reading connection publishes nothing"
+                assert [message[0] for message in other.all] == ["market/basis"], "the reading connection publishes nothing"
 
 
 def test_a_login_that_may_only_read_is_enough(live, tmp_path):
@@ -189,4 +189,4 @@ def test_a_login_that_may_only_read_is_enough(live, tmp_path):
             one.has("market/a/state")
             assert one.said == []
         with Reading(broker.port, user="operator", password_file=str(tmp_path / "rights")) as other:
-            wait_until(lambda: any("the broker refuses the login of operator" in it for it in other.said), "the line")
+            wait_until(lambda: any("the broker refuses the login of operator" in line for line in other.said), "the line")

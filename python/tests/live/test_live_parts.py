@@ -246,7 +246,7 @@ def test_points_and_states_are_asked_once():
 
 
 def test_a_state_is_two_frames():
-    assert b"".join(it.to_bytes() for it in frames_of(Stated(BATTERY, 400))).hex() == "1d03000003e80000012c0000012c00000000000000001e00000190"
+    assert b"".join(frame.to_bytes() for frame in frames_of(Stated(BATTERY, 400))).hex() == "1d03000003e80000012c0000012c00000000000000001e00000190"
     one, _ = offers(kind=LOAD)
     one.take(b'{"state": 9}', 0)
     assert one.due(0) == Stated(LOAD, 9)

@@ -110,7 +110,7 @@ def test_what_is_before_the_answered_one_is_let_go():
 
 
 def setpoints(one: Joined):
-    return [json.loads(it) for it in one.control.told]
+    return [json.loads(message) for message in one.control.told]
 
 
 def test_a_device_tells_and_stores_the_reference(joined):
@@ -120,11 +120,11 @@ def test_a_device_tells_and_stores_the_reference(joined):
     one.turned().writes(device_resume(1, 0, HIGH))
     assert one.node._store.newest().references == {1: 17}
     one.writes(Setpoint(1, 7, 1, -300), device_resume(1, 7, HIGH))
-    assert [it["reference"] for it in setpoints(one)] == [17]
+    assert [setpoint["reference"] for setpoint in setpoints(one)] == [17]
     # The same offer under another number: the setpoint comes again with that, and both are on disk.
     one.control.offer(offer(HIGH, 18))
     one.turned()
-    assert [it["reference"] for it in setpoints(one)] == [17, 18]
+    assert [setpoint["reference"] for setpoint in setpoints(one)] == [17, 18]
     assert one.service.read[1:] == [Offer(HIGH).to_bytes()]
     stored = one.node._store.newest()
     assert (stored.references, json.loads(stored.setpoint)["reference"]) == ({1: 18}, 18)
@@ -133,7 +133,7 @@ def test_a_device_tells_and_stores_the_reference(joined):
     one.turned().writes(device_resume(2, 7, LOW))
     assert len(one.control.told) == 2
     one.writes(Setpoint(1, 8, 0, 500), device_resume(2, 8, LOW), Setpoint(2, 9, 1, -700), device_resume(2, 9, LOW))
-    assert [it["reference"] for it in setpoints(one)] == [17, 18, 18, 19]
+    assert [setpoint["reference"] for setpoint in setpoints(one)] == [17, 18, 18, 19]
     assert one.node._store.newest().references == {2: 19}
 
 
@@ -145,7 +145,7 @@ def test_the_reference_holds_over_a_restart(joined, tmp_path):
     second = Joined("device", tmp_path / "again").begun()
     assert second.service.read == [device_resume(2, 0, HIGH).to_bytes()]
     second.writes(Setpoint(2, 7, 1, -300))
-    assert [it["reference"] for it in setpoints(second)] == [17]
+    assert [setpoint["reference"] for setpoint in setpoints(second)] == [17]
     second.node._store.close()
 
 
@@ -182,5 +182,5 @@ def test_the_resume_and_the_reference_are_stored_in_one_piece(joined, monkeypatc
     monkeypatch.setattr(one.node._store, "save", saved.append)
     one.control.offer(offer(HIGH, 17))
     one.turned().writes(device_resume(1, 0, HIGH), Setpoint(1, 7, 1, -300), device_resume(1, 7, HIGH))
-    assert [it.references for it in saved] == [{1: 17}] * 2
+    assert [stored.references for stored in saved] == [{1: 17}] * 2
     assert saved[0].frame == device_resume(1, 0, HIGH).to_bytes()

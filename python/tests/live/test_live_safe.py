@@ -74,10 +74,10 @@ def with_sum(joined, **more):
 def test_the_bids_of_a_sum_are_on_disk_before_its_resume_and_are_fed_after_a_restart(joined, monkeypatch):
     done = []
     make_safe = bids.BidLog.make_safe
-    monkeypatch.setattr(bids.BidLog, "make_safe", lambda it, told: (done.append(sorted(told)), make_safe(it, told)))
+    monkeypatch.setattr(bids.BidLog, "make_safe", lambda frames, told: (done.append(sorted(told)), make_safe(frames, told)))
     one = joined("relay")
     save = one.node._store.save
-    monkeypatch.setattr(one.node._store, "save", lambda it: (done.append("resume") if it.frame else None, save(it)))
+    monkeypatch.setattr(one.node._store, "save", lambda stored: (done.append("resume") if stored.frame else None, save(stored)))
     retained_bids(one.begun())
     one.writes(RELAY_RESUME, bid(3, 1, 116, -3))
     assert done == [[1, 2], "resume"]
@@ -96,15 +96,15 @@ def test_a_bid_of_after_the_question_is_not_in_its_sum(joined):
     assert joined("relay").begun().service.read[1] == FIRST.to_bytes()
 
 
-HEARD = [Heard(bid(1, it, it, 0), "device", "house", 150.0) for it in (2, 4, 6)]
+HEARD = [Heard(bid(1, number, number, 0), "device", "house", 150.0) for number in (2, 4, 6)]
 
 
 @pytest.mark.parametrize("change", [lambda data: data[:-1], lambda data: data[:-9] + b"x" + data[-8:], lambda data: data + b"half a li"])
 def test_a_cut_or_damaged_line_ends_the_file_and_it_goes_on_behind_the_whole_ones(tmp_path, change):
     log = bids.BidLog(tmp_path, 2)
     assert log.begin(SESSION) == []
-    for it in HEARD:
-        log.make_safe({1: it})
+    for heard in HEARD:
+        log.make_safe({1: heard})
     log.close()
     (path,) = tmp_path.glob("*.bids")
     path.write_bytes(change(path.read_bytes()))
@@ -150,7 +150,7 @@ def test_a_number_is_of_one_bid_alone(joined, where, tmp_path):
         one.link.comes("market/street/bid/1", other, OF_HOUSE)
         one.turned()
     assert other not in one.service.read
-    told = [it for it in one.said if "market/street/bid/1 has number 4 once more with another bid: it is not taken" in it]
+    told = [line for line in one.said if "market/street/bid/1 has number 4 once more with another bid: it is not taken" in line]
     assert len(told) == 1
     one.link.comes("market/street/bid/1", FIRST.to_bytes(), OF_HOUSE)
     one.turned()
@@ -174,8 +174,8 @@ def test_the_newest_bid_of_a_child_waits_until_its_pause_is_over(joined):
         for child in (1, 2):
             one.link.comes(f"market/street/bid/{child}", bid(child, number, number, 0).to_bytes(), OF_HOUSE)
         one.turned()
-    fed = [it for it in one.service.read if it != Send().to_bytes()]
-    assert fed == [bid(1, 2, 2, 0).to_bytes(), *[bid(2, it, it, 0).to_bytes() for it in (2, 4, 6)]]
+    fed = [frame for frame in one.service.read if frame != Send().to_bytes()]
+    assert fed == [bid(1, 2, 2, 0).to_bytes(), *[bid(2, number, number, 0).to_bytes() for number in (2, 4, 6)]]
     one.node.serving.letting._not_before[1] -= 61
     one.turned()
     assert bid(1, 6, 6, 0).to_bytes() in one.service.read
@@ -192,10 +192,10 @@ def test_a_child_is_what_the_file_of_its_parent_says(joined):
 
 def test_a_child_that_names_many_nodes_lets_few_topics_be_read(joined):
     one = joined("relay").begun()
-    for it in range(20):
-        one.link.comes("market/street/bid/1", bid(1, 2 + 2 * it, 5, 0).to_bytes(), (*MARKED, ("sort", "device"), ("node", f"n{it}")))
+    for number in range(20):
+        one.link.comes("market/street/bid/1", bid(1, 2 + 2 * number, 5, 0).to_bytes(), (*MARKED, ("sort", "device"), ("node", f"n{number}")))
         one.turned()
-    assert len([it for it in one.link.topics if it.startswith("market/n")]) == 4
+    assert len([topic for topic in one.link.topics if topic.startswith("market/n")]) == 4
 
 
 # What the broker retains, again.
@@ -305,8 +305,8 @@ def test_the_offer_of_a_dead_control_does_not_come_back_with_its_node(joined, tm
     one.link.comes("market/house/offer", payload, retained=True)
     one.link.settles()
     one.turned()
-    assert any(it[:1] == Offer((0, 0)).to_bytes()[:1] for it in one.service.read[1:]) == is_offered
-    assert [json.loads(it)["market"] for it in one.control.told] == (["new session"] if session == LATER else [])
+    assert any(frame[:1] == Offer((0, 0)).to_bytes()[:1] for frame in one.service.read[1:]) == is_offered
+    assert [json.loads(message)["market"] for message in one.control.told] == (["new session"] if session == LATER else [])
 
 
 def test_an_offer_holds_as_long_as_it_did_before_a_restart(joined, tmp_path):
@@ -332,7 +332,7 @@ def test_a_device_stores_a_price_once_and_not_if_number_and_step_are_the_same(jo
     one.turned()
     one.writes(device_resume(2, 0, (500, -300)), bid(2, 2, 500, -300))
     saves, save = [], one.node._store.save
-    monkeypatch.setattr(one.node._store, "save", lambda it: (saves.append(it), save(it)))
+    monkeypatch.setattr(one.node._store, "save", lambda stored: (saves.append(stored), save(stored)))
     for index, step, due in ((7, 1, 1), (8, 1, 1), (9, 0, 2), (10, 0, 2)):
         one.writes(Setpoint(2, index, step, (500, -300)[step]), device_resume(2, index, (500, -300)))
         assert len(saves) == due, f"clearing {index}"
@@ -367,16 +367,16 @@ def test_a_topic_has_a_longest_message_and_what_is_no_topic_has_none():
     assert topics.longest("market/basis") == 1_024
     assert topics.longest("market/street/bid/1") == 4_096
     assert topics.longest("market/street/limits/state") == 2_048
-    for it in ("market/street/bid/257", "market/street/x", "other/street/state", "market/a b/state", "market/x/y/z"):
-        assert topics.longest(it) == 0
+    for topic in ("market/street/bid/257", "market/street/x", "other/street/state", "market/a b/state", "market/x/y/z"):
+        assert topics.longest(topic) == 0
 
 
 def test_a_page_keeps_so_many_bytes():
     said = []
     board = Board(said.append, bytes_at_most=10_000)
-    for it in range(100):
-        board.take([Message(f"market/n{it}/state", b"x" * 900)])
-    assert 8_000 < sum(len(it.payload) for it in board.copy()[0].values()) <= 10_000
+    for number in range(100):
+        board.take([Message(f"market/n{number}/state", b"x" * 900)])
+    assert 8_000 < sum(len(message.payload) for message in board.copy()[0].values()) <= 10_000
     assert len(said) == 1
     board.take([Message("market/n0/state", b""), Message("market/n99/state", b"y" * 900)])
     assert board.copy()[0]["market/n99/state"].payload == b"y" * 900
@@ -395,11 +395,11 @@ def test_a_page_reads_a_flood_no_more_for_a_while():
     said, let_go = [], []
     reader = Reader(BrokerSettings(), "page", Board(said.append), said.append)
     client = type("Client", (), {"unsubscribe": lambda _, topic: let_go.append(topic)})()
-    for it in range(1_000):
+    for number in range(1_000):
         reader._on_message(client, Told("market/street/bid/1"))
-        reader._on_message(client, Told(f"market/street/bid/{2 + it % 250}"))
+        reader._on_message(client, Told(f"market/street/bid/{2 + number % 250}"))
     assert let_go == ["market/+/bid/+"]
-    assert [it for it in said if "market/street/bid/1: more than 200 messages a second come" in it] == said
+    assert [line for line in said if "market/street/bid/1: more than 200 messages a second come" in line] == said
 
 
 @pytest.mark.parametrize("user", [None, "auctioneer"])

@@ -203,7 +203,7 @@ class Noted:
 def noted(monkeypatch):
     from cogmaula.live import node
 
-    before = {it: signal.getsignal(it) for it in (signal.SIGTERM, signal.SIGINT)}
+    before = {number: signal.getsignal(number) for number in (signal.SIGTERM, signal.SIGINT)}
     monkeypatch.setattr(node, "make_node", Noted)
     monkeypatch.setattr(Noted, "comes", None)
     yield Noted

@@ -76,7 +76,7 @@ def test_a_device_that_was_let_go_is_silent_until_a_clearing_counts_it():
 
 
 def beat(node):
-    return [json.loads(it)["time"] for it in node.link.of(f"market/{node.node.settings.name}/heartbeat")]
+    return [json.loads(message)["time"] for message in node.link.of(f"market/{node.node.settings.name}/heartbeat")]
 
 
 def passes(one, seconds):
@@ -129,7 +129,7 @@ def test_a_heartbeat_that_is_none_is_told(joined, payload):
     one = joined("relay").begun()
     one.link.comes("market/auctioneer/heartbeat", payload)
     one.turned()
-    assert any("market/auctioneer/heartbeat is not taken" in it for it in one.said)
+    assert any("market/auctioneer/heartbeat is not taken" in line for line in one.said)
     assert beat(one) == []
 
 
@@ -151,15 +151,15 @@ def with_setpoint(joined, **more):
 
 
 def told(one):
-    return [json.loads(it) for it in one.control.told]
+    return [json.loads(message) for message in one.control.told]
 
 
 def test_each_heartbeat_says_anew_until_when_the_setpoint_holds(joined):
     one = with_setpoint(joined)
-    assert [it["until"] for it in told(one)] == [at(100)]
+    assert [message["until"] for message in told(one)] == [at(100)]
     one.link.comes("market/street/heartbeat", json.dumps({"time": at(25)}).encode())
     one.turned()
-    assert [(it["power"], it["clearing"], it["until"]) for it in told(one)] == [(-300, 7, at(100)), (-300, 7, at(125))]
+    assert [(message["power"], message["clearing"], message["until"]) for message in told(one)] == [(-300, 7, at(100)), (-300, 7, at(125))]
     assert one.link.newest["market/house/setpoint"].payload == one.control.told[-1]
 
 
@@ -180,7 +180,7 @@ def test_a_control_is_told_silence_with_its_fallback_once_and_then_that_the_mark
     back, setpoint = told(one)[2:]
     assert back == {"market": "live", "since": at(200)}
     assert (setpoint["power"], setpoint["clearing"], setpoint["until"]) == (-300, 7, at(300))
-    states = [json.loads(it)["silent"] for it in one.link.of("market/house/state")]
+    states = [json.loads(message)["silent"] for message in one.link.of("market/house/state")]
     assert at(0) in states
     assert states[-1] is None
 
@@ -191,7 +191,7 @@ def test_a_price_that_comes_during_silence_is_kept_and_not_told(joined):
     one.link.comes("market/street/price/2", price(2, 2, 8, 0).to_bytes())
     one.turned()
     one.writes(Setpoint(2, 8, 0, 500), device_resume(2, 8, (500, -300)))
-    assert [it.get("market") for it in told(one)] == [None, "silent"]
+    assert [message.get("market") for message in told(one)] == [None, "silent"]
     assert json.loads(one.node._store.newest().setpoint)["clearing"] == 8
 
 
@@ -207,7 +207,7 @@ def test_a_device_renews_its_bid_as_it_is_and_a_gone_one_not(joined):
     passes(one, 26)
     passes(one, 10)
     assert one.link.of("market/street/bid/2") == [bid(2, 2, 500, -300).to_bytes()] * 2
-    properties = [it.properties for it in one.link.sent if it.topic == "market/street/bid/2"]
+    properties = [publication.properties for publication in one.link.sent if publication.topic == "market/street/bid/2"]
     assert properties[0] == properties[1]
     one.writes(resume_gone(4, 7))
     assert dict(properties[0])["valid"] == "125"
@@ -224,7 +224,7 @@ def test_a_first_bid_long_after_the_start_is_no_silence(joined):
     passes(one, 119)
     assert told(one) == []
     passes(one, 2)
-    assert [it["market"] for it in told(one)] == ["silent"]
+    assert [message["market"] for message in told(one)] == ["silent"]
 
 
 def test_a_node_that_waits_for_its_market_is_silent_after_a_while_and_not_before(joined):
@@ -233,7 +233,7 @@ def test_a_node_that_waits_for_its_market_is_silent_after_a_while_and_not_before
     one.turned()
     assert told(one) == []
     passes(one, 121)
-    assert [(it["market"], it["power"]) for it in told(one)] == [("silent", 3)]
+    assert [(message["market"], message["power"]) for message in told(one)] == [("silent", 3)]
 
 
 def test_a_relay_says_that_it_is_silent(joined):
@@ -251,5 +251,5 @@ def test_an_auctioneer_is_never_silent(joined):
 def test_a_device_that_starts_in_a_dead_market_is_told_silence_and_not_its_setpoint(joined, tmp_path):
     saved(tmp_path, "device", "house", device_resume(2, 7, (500, -300)), setpoint='{"power": -300, "bid": 2, "time": "t"}')
     one = joined("device").begun(("market/street/heartbeat", json.dumps({"time": at(-900)}).encode()))
-    assert [it.get("market") for it in told(one)] == ["silent"]
+    assert [message.get("market") for message in told(one)] == ["silent"]
     assert told(one)[0]["since"] == at(-900)

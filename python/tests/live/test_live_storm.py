@@ -66,20 +66,20 @@ def newest_sum(onlooker, parent):
             frame = frame_of(payload, PRICES, STEPS)
             if isinstance(frame, Price):
                 prices[frame.child] = frame
-    newest = max((it.index for it in prices.values()), default=0)
+    newest = max((price.index for price in prices.values()), default=0)
     bids = {}
     for topic, payload, _ in list(onlooker.all):
         below = topic.split("/")
         if below[1:3] == [parent, "bid"] and payload:
             frame = frame_of(payload, BIDS, STEPS)
             bids[frame.child, frame.number] = frame
-    due = {child: it for child, it in prices.items() if it.index == newest}
-    return {child: bids[child, it.number].demands[it.step] for child, it in due.items() if isinstance(bids.get((child, it.number)), Bid)}
+    due = {child: price for child, price in prices.items() if price.index == newest}
+    return {child: bids[child, price.number].demands[price.step] for child, price in due.items() if isinstance(bids.get((child, price.number)), Bid)}
 
 
 def test_after_grace_the_sum_is_that_of_the_living(market, onlooker):
     """Thirty devices below the auctioneer. A third dies for good, and a third for a while that is longer than grace."""
-    names = [f"d{it}" for it in range(1, DEVICES + 1)]
+    names = [f"d{number}" for number in range(1, DEVICES + 1)]
     for number, name in enumerate(names, 1):
         PLACES[name] = ("device", "auctioneer", number)
     try:
@@ -92,7 +92,7 @@ def test_after_grace_the_sum_is_that_of_the_living(market, onlooker):
         living = {number: 100 + number for number in range(21, DEVICES + 1)}
         market.offers(d30=[99] * STEPS)
         living[30] = 99
-        wait_until(lambda: all(onlooker.payload(f"market/auctioneer/lapsed/{it}") for it in range(1, 21)), "the dead are let go", 30)
+        wait_until(lambda: all(onlooker.payload(f"market/auctioneer/lapsed/{child}") for child in range(1, 21)), "the dead are let go", 30)
         wait_until(lambda: newest_sum(onlooker, "auctioneer") == living, "the sum is that of the living", 20)
         market.start(*away)
         back = {number: 100 + number for number in range(11, 21)}
@@ -108,7 +108,7 @@ def test_after_grace_the_sum_is_that_of_the_living(market, onlooker):
             frame = frame_of(payload, BIDS, STEPS)
             assert numbers.setdefault((topic, frame.number), frame) == frame, "a number is of two bids"
     for name in names:
-        indices = [it["clearing"] for it in market.controls[name].setpoints if "clearing" in it]
+        indices = [setpoint["clearing"] for setpoint in market.controls[name].setpoints if "clearing" in setpoint]
         assert indices == sorted(indices), f"{name} went back"
 
 
@@ -121,17 +121,17 @@ def test_a_device_that_was_dropped_and_lives_is_back_within_a_second(market, bro
     begin = time.monotonic()
     assert main(["market", "drop", "street", "2", "--config", str(tmp_path / "operator.toml")]) == 0
     assert "child 2 of street is let go as of number 3: by the word of an operator" in capsys.readouterr().out
-    wait_until(lambda: any("clearing" in it and it["bid"] > 3 for it in market.controls["store"].setpoints), "it is back")
+    wait_until(lambda: any("clearing" in setpoint and setpoint["bid"] > 3 for setpoint in market.controls["store"].setpoints), "it is back")
     seconds = time.monotonic() - begin
     told = market.controls["store"].setpoints
-    silent = next(at for at, it in enumerate(told) if it.get("market") == "silent")
+    silent = next(at for at, message in enumerate(told) if message.get("market") == "silent")
     assert told[silent]["power"] == 0
     assert "street has let it go" in told[silent]["why"]
     # The service leaves and offers anew, which takes the numbers 4 and 6 behind the parent's 3.
     assert told[-1]["bid"] == 6
     assert seconds < SECONDS / 4, "a second, and what the command itself takes on a busy machine"
     wait_until(lambda: onlooker.payload("market/street/lapsed/2") == b"", "the topic is cleared")
-    assert any(isinstance(frame_of(it[1], PRICES, STEPS), Old) for it in onlooker.all if it[0] == "market/street/price/2" and it[1])
+    assert any(isinstance(frame_of(message[1], PRICES, STEPS), Old) for message in onlooker.all if message[0] == "market/street/price/2" and message[1])
     assert main(["market", "drop", "auctioneer", "1", "--config", str(tmp_path / "operator.toml")]) == 1
     assert "is a relay, which counts for all below it" in capsys.readouterr().err
 
@@ -158,7 +158,7 @@ def test_a_bid_beyond_its_bound_does_not_count(market, onlooker):
     market.offers(house=falls_at(8, 200, 100))
     market.settles_at(8, house=100, store=-150)
     assert market.controls["store"].has(bid=2), "the bid before it counts"
-    wait_until(lambda: any("street does not take bid 4" in it for it in market.said["store"]), "the device says so")
+    wait_until(lambda: any("street does not take bid 4" in line for line in market.said["store"]), "the device says so")
     market.offers(store=falls_at(2, 0, -200))
     market.settles_at(2, house=200, store=-200)
     assert onlooker.payload("market/street/refused/2") == b""
@@ -176,8 +176,8 @@ def test_limits_change_and_come_back(market, broker, onlooker, tmp_path, capsys)
     told = json.loads(capsys.readouterr().out.partition(": ")[2])
     assert (told["state"], told["ceiling"], told["reference"]) == ("kept", 50, "order 7")
     market.settles_at(6, house=40)
-    kept = [it for it in market.controls["house"].setpoints if it["clearing"] >= told["clearing"]]
-    assert [it["power"] for it in kept][:1] == [40]
+    kept = [setpoint for setpoint in market.controls["house"].setpoints if setpoint["clearing"] >= told["clearing"]]
+    assert [message["power"] for message in kept][:1] == [40]
     market.settles_at(0, house=100)
     wait_until(lambda: json.loads(onlooker.payload("market/street/limits/state"))["ceiling"] == 1_000_000_000, "it is told")
     onlooker.publish("market/street/limits", b'{"floor": 0, "ceiling": 5, "until": "2026-01-31T06:30:00Z"}')
@@ -217,7 +217,7 @@ class Path:
         return lambda: street._link.__dict__.pop("publish")
 
     def times_of_silence(self):
-        return [len([it for it in told if it.get("market") == "silent"]) for told in (self.house.setpoints, self.mill)]
+        return [len([message for message in told if message.get("market") == "silent"]) for told in (self.house.setpoints, self.mill)]
 
     @property
     def mill(self):
@@ -235,7 +235,7 @@ class Path:
             assert not is_silent(self.mill)
         mend()
         wait_until(lambda: "clearing" in self.house.setpoints[-1], f"the market is back behind the {where}")
-        last_silent = max(at for at, it in enumerate(self.house.setpoints) if it.get("market") == "silent")
+        last_silent = max(at for at, message in enumerate(self.house.setpoints) if message.get("market") == "silent")
         assert self.house.setpoints[last_silent + 1].get("market") == "live", "that it lives is told before a setpoint is"
         assert self.times_of_silence()[0] == before[0] + 1, "it is told once"
 

@@ -55,7 +55,7 @@ def test_a_clock_that_is_set_back_begins_anew():
     one, view = Trend(1000.0), village().view()
     for now in (1015.0, 1030.0, 500.0):
         one.take(now, view)
-    assert [it[0] for it in lines_of(one)["street"]] == [500.0]
+    assert [point[0] for point in lines_of(one)["street"]] == [500.0]
 
 
 def test_a_page_tells_its_lines(monkeypatch):

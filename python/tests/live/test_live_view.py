@@ -16,14 +16,14 @@ from cogmaula.live.view import BidView, PowerView, PriceView
 
 def row(node):
     """A node in short: its name, its depth, the prices that it has and passes, its demand there, and its power with its clearings."""
-    prices = [None if it is None else it.price for it in (node.price, node.passed)]
+    prices = [None if price is None else price.price for price in (node.price, node.passed)]
     power = None if node.power is None else (node.power.power, node.power.by, node.power.first, node.power.last)
     return (node.name, node.depth, *prices, None if node.bid is None else node.bid.demand, power)
 
 
 def test_a_tree_of_three_levels():
     view = village().view()
-    assert [row(it) for it in view.nodes] == [
+    assert [row(node) for node in view.nodes] == [
         ("auctioneer", 0, 2, 2, None, (-110, "sum", 7, 7)),
         ("street", 1, 2, 4, -50, (-50, "sum", 7, 7)),
         ("house", 2, 4, None, 100, (100, "setpoint", 7, 7)),
@@ -133,7 +133,7 @@ def test_above_the_ceiling():
 def test_each_relay_has_the_sum_of_its_own():
     told = village().state("lane", "relay", "auctioneer", 3).bid("auctioneer", 3, 1, *[5] * 10).price("auctioneer", 3, 1, 7, 2)
     told.state("shop", "device", "lane", 1).bid("lane", 1, 1, *[5] * 10).price("lane", 1, 1, 7, 2).setpoint("shop", 5, 1, 7, 2)
-    powers = {it.name: it.power.power for it in told.view().nodes}
+    powers = {node.name: node.power.power for node in told.view().nodes}
     assert powers == {"auctioneer": -105, "street": -50, "house": 100, "store": -150, "mill": -60, "lane": 5, "shop": 5}
 
 
@@ -141,20 +141,20 @@ def test_a_page_of_a_relay_shows_its_children_by_their_numbers():
     told = village().without("house/state", "store/state", "mill/state", "auctioneer/bid/2", "auctioneer/price/2")
     told.without("house/setpoint", "store/setpoint", "mill/setpoint")
     view = told.view("street")
-    assert [row(it) for it in view.nodes] == [
+    assert [row(node) for node in view.nodes] == [
         ("auctioneer", 0, 2, 2, None, None),
         ("street", 1, 2, 4, -50, (-50, "sum", 7, 7)),
         (None, 2, 4, None, 100, (100, "bid", 7, 7)),
         (None, 2, 4, None, -150, (-150, "bid", 7, 7)),
     ]
-    assert [(it.parent, it.child, it.sort, it.state) for it in view.nodes[2:]] == [("street", 1, None, None), ("street", 2, None, None)]
+    assert [(node.parent, node.child, node.sort, node.state) for node in view.nodes[2:]] == [("street", 1, None, None), ("street", 2, None, None)]
 
 
 def test_a_page_of_a_device_adds_up_nothing_of_its_parent():
     told = village().without("store/state", "street/bid/2", "street/price/2", "store/setpoint")
     told.without("auctioneer/state", "auctioneer/bid/1", "auctioneer/price/1", "mill/state", "auctioneer/bid/2", "auctioneer/price/2")
     told.without("mill/setpoint")
-    assert [row(it) for it in told.view("house").nodes] == [
+    assert [row(node) for node in told.view("house").nodes] == [
         ("auctioneer", 0, None, None, None, None),
         ("street", 1, None, 4, None, None),
         ("house", 2, 4, None, 100, (100, "setpoint", 7, 7)),
@@ -180,21 +180,21 @@ BAD = [
 def test_a_bad_message_is_shown_as_such(below, payload, why):
     """An empty payload clears the topic, and is not bad. All other messages are shown as they were."""
     view = village().put(below, payload).view()
-    assert [(it.topic, it.why[: len(why or "")]) for it in view.not_taken] == ([] if why is None else [(f"market/{below}", why)])
-    assert "mill" in [it.name for it in view.nodes]
+    assert [(topic.topic, topic.why[: len(why or "")]) for topic in view.not_taken] == ([] if why is None else [(f"market/{below}", why)])
+    assert "mill" in [node.name for node in view.nodes]
 
 
 def test_a_basis_without_prices_is_refused():
     basis = json.dumps({"min": 0, "max": 9, "steps": 1, "session": SESSION.id, "begun": SESSION.begun}).encode()
     view = village().put("basis", basis).view()
-    assert [it.topic for it in view.not_taken] == ["market/basis"]
+    assert [topic.topic for topic in view.not_taken] == ["market/basis"]
     assert (view.basis, view.session, view.price, view.clearing) == (None, None, None, None)
 
 
 def test_before_the_basis_is_told_only_states_are_known():
     told = village().without("basis")
-    assert {it.state for it in told.view().nodes} == {"up"}
-    assert [it.bid or it.price or it.power for it in told.view().nodes] == [None] * 5
+    assert {node.state for node in told.view().nodes} == {"up"}
+    assert [node.bid or node.price or node.power for node in told.view().nodes] == [None] * 5
     assert told.view().not_taken == ()
 
 
@@ -225,7 +225,7 @@ def test_a_node_of_an_earlier_session_loses_its_place():
 
 def test_of_two_nodes_with_one_child_number_neither_has_the_bid():
     told = village().state("twin", "device", "street", 1)
-    assert [told.node(it).bid for it in ("house", "twin")] == [None, None]
+    assert [told.node(name).bid for name in ("house", "twin")] == [None, None]
     assert told.node("house").notes == ("its child number is also that of twin",)
     assert len(told.view().nodes) == 6
     told.state("third", "device", "street", 1)
@@ -235,15 +235,15 @@ def test_of_two_nodes_with_one_child_number_neither_has_the_bid():
 def test_a_node_of_the_version_before_has_no_place():
     told = village().state("house")
     assert told.node("house").notes == ("its version does not tell its place",)
-    assert [row(it)[:2] for it in told.view().nodes if it.parent == "street"] == [(None, 2), ("store", 2)]
+    assert [row(node)[:2] for node in told.view().nodes if node.parent == "street"] == [(None, 2), ("store", 2)]
 
 
 def test_a_ring_of_parents_ends():
     told = village().state("a", "relay", "b", 1).state("b", "relay", "a", 1).state("self", "relay", "self", 1)
     told.bid("a", 1, 1, *[1] * 10)
-    names = [it.name for it in told.view().nodes]
+    names = [node.name for node in told.view().nodes]
     assert names == ["auctioneer", "street", "house", "store", "mill", "a", "b", "self"]
-    assert [told.node(it).notes for it in ("a", "b", "self")] == [("it is below itself",), (), ("it is below itself",)]
+    assert [told.node(name).notes for name in ("a", "b", "self")] == [("it is below itself",), (), ("it is below itself",)]
 
 
 def test_a_deep_tree():
@@ -256,7 +256,7 @@ def test_a_deep_tree():
 def test_a_market_has_its_prefix_alone():
     told = Told("towns/delft").state("auctioneer", "auctioneer")
     told.messages |= village().messages | Told("towns/delft/old").state("other", "auctioneer").messages
-    assert [it.name for it in told.view().nodes] == ["auctioneer"]
+    assert [node.name for node in told.view().nodes] == ["auctioneer"]
 
 
 def test_the_topics_of_a_market():
@@ -312,4 +312,4 @@ def test_an_alarm_is_shown():
 @pytest.mark.parametrize("below", ["street/lapsed/2", "store/setpoint"])
 def test_a_lapse_or_a_silence_that_is_none_is_told(below):
     told = village().put(below, b'{"market": "silent", "number": "5"}')
-    assert [it.topic for it in told.view().not_taken] == [f"market/{below}"]
+    assert [topic.topic for topic in told.view().not_taken] == [f"market/{below}"]

@@ -15,7 +15,7 @@ from cogmaula.deploy.files import Places
 from cogmaula.deploy.node_files import settings_text, unit_of, unit_text
 
 TOLD = read_tree(TREE)
-WITH_PAGE = replace(TOLD, members=tuple(replace(it, page={"listen": "127.0.0.1:8080", "whole": True}) for it in TOLD.members))
+WITH_PAGE = replace(TOLD, members=tuple(replace(member, page={"listen": "127.0.0.1:8080", "whole": True}) for member in TOLD.members))
 
 
 def unit_and_settings(tree, name):
@@ -25,11 +25,11 @@ def unit_and_settings(tree, name):
 
 
 @pytest.mark.parametrize("tree", [TOLD, WITH_PAGE], ids=["without a page", "with a page"])
-@pytest.mark.parametrize("name", [it.name for it in TOLD.members])
+@pytest.mark.parametrize("name", [member.name for member in TOLD.members])
 def test_a_unit_can_write_and_read_what_its_node_needs(tree, name):
     unit, settings = unit_and_settings(tree, name)
     unit.require(settings)
-    assert ("page" in settings) == any(it.startswith("page:") for it in unit.all("LoadCredential"))
+    assert ("page" in settings) == any(credential.startswith("page:") for credential in unit.all("LoadCredential"))
 
 
 def test_a_unit_can_write_a_recording():

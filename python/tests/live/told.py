@@ -43,15 +43,15 @@ class Told:
         return self.put(f"{name}/setpoint", setpoint_bytes(Setpoint(number, index, step, power), BASIS, MOMENT), **more)
 
     def without(self, *below):
-        for it in below:
-            del self.messages[f"{self.prefix}/{it}"]
+        for name in below:
+            del self.messages[f"{self.prefix}/{name}"]
         return self
 
     def view(self, own=None):
         return view_of(self.prefix, self.messages, own)
 
     def node(self, name, own=None):
-        (found,) = [it for it in self.view(own).nodes if it.name == name]
+        (found,) = [node for node in self.view(own).nodes if node.name == name]
         return found
 
 

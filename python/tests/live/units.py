@@ -12,16 +12,16 @@ class Unit:
     """What a service unit hands to its program, and lets it write, by its text and its name."""
 
     def __init__(self, text, unit):
-        self.lines = [it.split("=", 1) for it in text.splitlines() if re.match("[A-Z]", it)]
-        self.state = [f"/var/lib/{it}" for it in self.all("StateDirectory")]
-        handed = [it.partition(":") for it in self.all("LoadCredential")]
+        self.lines = [line.split("=", 1) for line in text.splitlines() if re.match("[A-Z]", line)]
+        self.state = [f"/var/lib/{folder}" for folder in self.all("StateDirectory")]
+        handed = [credential.partition(":") for credential in self.all("LoadCredential")]
         self.credentials = {f"/run/credentials/{unit}/{name}" for name, _, _ in handed}
         # Files that the unit hands over by an option, which goes before the settings.
         self.options = {path for name, _, path in handed if f"%d/{name}" in self.all("ExecStart")[0]}
         assert self.all("DynamicUser") == ["yes"] and self.all("ProtectSystem") == ["strict"]
 
     def all(self, name):
-        return [it[1] for it in self.lines if it[0] == name]
+        return [line[1] for line in self.lines if line[0] == name]
 
     def require(self, tables):
         """Requires that what is written lies in the unit's own folder, and that each secret comes from there or is handed over."""
@@ -29,7 +29,7 @@ class Unit:
         for table, members in tables.items():
             for member, value in members.items():
                 if member in ("state", "record", "agents"):
-                    assert any(f"{value}/".startswith(f"{it}/") for it in self.state), f"{member} = {value} is not below {self.state}"
+                    assert any(f"{value}/".startswith(f"{folder}/") for folder in self.state), f"{member} = {value} is not below {self.state}"
                     seen += 1
                 elif member in ("password_file", "key"):
                     is_given = value in self.credentials or value in self.options

@@ -41,12 +41,12 @@ def _live_by(done, maker):
         minute += minutes
         if not _is_before_events(done.cluster, end.phase):
             assert life.members == snapshot.members
-            found = {it: round(life.devices[it].state, 3) for it, state in snapshot.states.items() if isinstance(state, int)}
-            assert found == {it: state for it, state in snapshot.states.items() if isinstance(state, int)}
-            bids = maker.demands({it: offer for it, offer in life.offers().items() if offer is not None})
-            groups = {it.name: it.step for it in end.groups}
-            steps = {it: end.step if group is None else groups[group] for it, group in done.cluster.groups().items()}
-            assert {it: bid[steps[it]] for it, bid in bids.items()} == end.powers
+            found = {name: round(life.devices[name].state, 3) for name, state in snapshot.states.items() if isinstance(state, int)}
+            assert found == {name: state for name, state in snapshot.states.items() if isinstance(state, int)}
+            bids = maker.demands({name: offer for name, offer in life.offers().items() if offer is not None})
+            groups = {group.name: group.step for group in end.groups}
+            steps = {name: end.step if group is None else groups[group] for name, group in done.cluster.groups().items()}
+            assert {name: bid[steps[name]] for name, bid in bids.items()} == end.powers
             life.powers.update(end.powers)
 
 
@@ -71,7 +71,7 @@ def test_the_village_lives_and_its_page_says_that_its_devices_are_models(program
     try:
         wait_until(lambda: told, "the page is told")
         port = int(re.fullmatch(r"page: http://127\.0\.0\.1:(\d+)/", told[0])[1])
-        wait_until(lambda: any("phase 5" in it for it in told), f"the phases come: {told} {said}")
+        wait_until(lambda: any("phase 5" in line for line in told), f"the phases come: {told} {said}")
         wait_until(lambda: living.life.minute >= 50, "it lives on")
         view = json.loads(get(port, "/view")[2])
     finally:
@@ -80,14 +80,14 @@ def test_the_village_lives_and_its_page_says_that_its_devices_are_models(program
     assert not thread.is_alive()
     assert told[1] == "00:00 phase 1: freezer1 joins, heat1 joins, bat1 joins, chp1 joins, solar1 joins, load1 joins, flex joins"
     assert "00:00 price 40: 7 devices take 2800 W and give 2800 W" in told
-    assert any(it.startswith("00:15 phase 3: solar1 has 300, goal joins") for it in told)
-    assert any(it.startswith("00:45 phase 5: load1 leaves, goal leaves, flex has another bid") for it in told)
+    assert any(line.startswith("00:15 phase 3: solar1 has 300, goal joins") for line in told)
+    assert any(line.startswith("00:45 phase 5: load1 leaves, goal leaves, flex has another bid") for line in told)
     assert "models" in view["note"] and "no part of the market" in view["note"]
-    nodes = {it["name"]: it for it in view["nodes"]}
-    assert nodes["c2"]["parent"] == "c1" and set(nodes) == {"auctioneer", *(it.name for it in cluster.nodes)}
+    nodes = {node["name"]: node for node in view["nodes"]}
+    assert nodes["c2"]["parent"] == "c1" and set(nodes) == {"auctioneer", *(node.name for node in cluster.nodes)}
     assert nodes["freezer1"]["setpoint"]["power"] in (0, 200)
     assert nodes["load1"]["bid"]["is_gone"] and living.life.powers["load1"] == 0
-    assert [it for it in said if "session" not in it] == []
+    assert [line for line in said if "session" not in line] == []
 
 
 def test_limits_hold_in_a_living_cluster(program, live):
@@ -123,7 +123,7 @@ def test_a_control_offers_what_is_new_and_keeps_what_it_is_told():
     assert control.power == -150
     control.write(b'{"market": "silent", "power": 0, "why": "no heartbeat"}')
     assert control.power == 0
-    assert [json.loads(it) for it in offered] == [{"power": [3, 2]}, {"kind": "load", "state": 7}, {"kind": "load", "state": 10}, {"leave": True}]
+    assert [json.loads(message) for message in offered] == [{"power": [3, 2]}, {"kind": "load", "state": 7}, {"kind": "load", "state": 10}, {"leave": True}]
 
 
 def test_the_command(program, live, capsys, tmp_path):

@@ -48,7 +48,7 @@ def test_a_long_simulation_has_streams_one_behind_another(program, live, monkeyp
 
     def found(groups):
         done = simulate(street(), HUNDRED, ticks=96, start=START, groups=groups, program=program, live=live)
-        return [(it.step, it.powers, it.groups) for it in done.ends]
+        return [(end.step, end.powers, end.groups) for end in done.ends]
 
     whole = [found([]), found(groups)]
     opened = []
@@ -116,7 +116,7 @@ def test_other_things_that_do_not_fit(program):
     with pytest.raises(ValueError, match="one name"):
         Market(TEN, ["a", "a"], program=program)
     with pytest.raises(ValueError, match="256 children"):
-        Market(TEN, [f"d{it}" for it in range(257)], program=program)
+        Market(TEN, [f"d{number}" for number in range(257)], program=program)
     with pytest.raises(ValueError, match="limits 1 to 2"):
         Group("g", 1, 2, ("a",))
     with pytest.raises(ValueError, match="1 or more"):
@@ -138,5 +138,5 @@ def test_moments_pass_in_the_zone_of_the_start(program):
 
     zone = ZoneInfo("Europe/Berlin")
     simulate([Watcher(name="a", power=1)], TEN, ticks=3, minutes=60, start=datetime(2026, 10, 25, 1, tzinfo=zone), program=program)
-    assert [it.hour for it in seen] == [1, 2, 2]
-    assert [it.utcoffset() for it in seen] == [timedelta(hours=2), timedelta(hours=2), timedelta(hours=1)]
+    assert [moment.hour for moment in seen] == [1, 2, 2]
+    assert [moment.utcoffset() for moment in seen] == [timedelta(hours=2), timedelta(hours=2), timedelta(hours=1)]

@@ -66,8 +66,8 @@ def test_bids_by_hand(live, bid, due):
 def test_points_as_the_plain_auction_has_them(live, data):
     basis = data.draw(bases())
     given_bids = data.draw(st.lists(bids(basis), min_size=1, max_size=20))
-    due = [tuple(auction.state_of(it, basis.prices)) for it in given_bids]
-    assert made(live, basis, *(next(iter(it.values())) for it in given_bids)) == due
+    due = [tuple(auction.state_of(bid, basis.prices)) for bid in given_bids]
+    assert made(live, basis, *(next(iter(bid.values())) for bid in given_bids)) == due
 
 
 def test_a_program_makes_what_is_new_alone_and_a_long_stream_is_followed_by_another(live, monkeypatch):
@@ -81,7 +81,7 @@ def test_a_program_makes_what_is_new_alone_and_a_long_stream_is_followed_by_anot
     with BidMaker(TEN, live) as maker:
         assert maker.demands({"load": offer_of(3, TEN, "load")}) == {"load": (3,) * 10} and not opened
         found = maker.demands(offers)
-        assert [it[0] for it in found.values()] == list(range(10, 20)) and {it[5] for it in found.values()} == {0}
+        assert [entry[0] for entry in found.values()] == list(range(10, 20)) and {entry[5] for entry in found.values()} == {0}
         assert maker.demands(offers) == found and asked == [8, 2]
         assert maker.demands({**offers, "d9": offer_of([(0, 5), (5, 0)], TEN, "d")})["d9"] == (5, 4, 3, 2, 1, 0, 0, 0, 0, 0)
     assert (asked, len(opened)) == ([8, 2, 1], 2)
@@ -270,7 +270,7 @@ def test_a_vehicle_at_work_by_day():
 def test_given_powers():
     sun = Held(NOON, 30, [100.4, 200.6])
     roof, load = Solar(name="roof", power=sun), Load(name="house", power=400)
-    assert [roof.bid(NOON + timedelta(minutes=it)) for it in (-1, 0, 29, 30, 90)] == [-100, -100, -100, -201, -201]
+    assert [roof.bid(NOON + timedelta(minutes=minutes)) for minutes in (-1, 0, 29, 30, 90)] == [-100, -100, -100, -201, -201]
     assert (load.bid(NOON), load.state) == (400, 400)
 
 
