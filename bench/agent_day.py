@@ -28,6 +28,7 @@ from pathlib import Path
 TOP = Path(__file__).resolve().parent.parent
 sys.path.insert(0, str(TOP / "python"))
 
+from cogmaula import logs
 from cogmaula.agent import Agent, agent_settings_of
 from cogmaula.cluster import Basis
 from cogmaula.hub import Hub, HubSettings, TokenFile
@@ -58,10 +59,11 @@ def main() -> int:
 
 def day_in(folder: Path, speed: float) -> int:
     """The same with a folder for the hub."""
+    logs.show("agent_day")
     port, tokens = free_port(), TokenFile(folder / "agents")
     house, store = tokens.add("house", 1), tokens.add("store", 2)
     (folder / "store.token").write_text(store)
-    hub = Hub(HubSettings(str(folder / "state"), str(folder / "agents"), Basis(0, 99, 100), live=live_command(), listen_tcp=("127.0.0.1:0",), pause=0.05), print)
+    hub = Hub(HubSettings(str(folder / "state"), str(folder / "agents"), Basis(0, 99, 100), live=live_command(), listen_tcp=("127.0.0.1:0",), pause=0.05))
     working = threading.Thread(target=hub.run)
     working.start()
     words = [sys.executable, str(TOP / "examples/devices/modbus_battery.py"), str(port), "--capacity", str(CAPACITY), "--speed", str(speed)]
@@ -76,7 +78,7 @@ def day_in(folder: Path, speed: float) -> int:
         "limits": {"least": -POWER, "greatest": POWER, "pace": 0},
         "state": {**places, "register": 2, "type": "f32", "unit": "Wh"},
         "setpoint": {**places, "register": 0},
-    }), print)
+    }))
     follows = threading.Thread(target=agent.run)
     follows.start()
     with socket.create_connection((hub.addresses_tcp[0].host, hub.addresses_tcp[0].port)) as one:

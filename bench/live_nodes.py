@@ -16,6 +16,7 @@ from pathlib import Path
 
 sys.path.insert(0, str(Path(__file__).resolve().parent.parent / "python"))
 
+from cogmaula import logs  # noqa: E402
 from cogmaula.live import LiveError, make_node, settings_of  # noqa: E402
 
 LAST_SECONDS = 20
@@ -63,6 +64,7 @@ class Nodes:
 
 
 def main():
+    logs.show("cogmaula node")
     nodes = Nodes(json.loads(sys.stdin.readline()))
     while not nodes.are_up():
         time.sleep(0.1)

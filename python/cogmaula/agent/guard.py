@@ -5,11 +5,11 @@ It looks at no clock of the day: all times are seconds of a clock that only rise
 
 from __future__ import annotations
 
-from collections.abc import Callable
 from dataclasses import dataclass
 
 from ..live.errors import BadSettings
 from ..live.frames import AnyOffer, Offer, Points, Stated
+from ..logs import NodeLog
 
 
 @dataclass(frozen=True)
@@ -43,10 +43,10 @@ class Limits:
 class Guard:
     """What one device is told. Times are seconds of a clock that only rises."""
 
-    def __init__(self, limits: Limits, say: Callable[[str], None], now: float) -> None:
-        """Takes the limits and a call for lines. Nothing is written before the first setpoint, or `silence`."""
+    def __init__(self, limits: Limits, log: NodeLog, now: float) -> None:
+        """Takes the limits and a log. Nothing is written before the first setpoint, or `silence`."""
         self._limits = limits
-        self._say = say
+        self._log = log
         self._heard = now
         self._wanted: int | None = None
         self.is_silent = False
@@ -54,22 +54,22 @@ class Guard:
         self.written: int | None = None
         self._written_at = self._since = -float("inf")
         self._is_lost = False
-        self._said = ""
+        self._warned = ""
 
     def hear(self, power: int, now: float) -> None:
         """Takes a setpoint of the market."""
         self._heard, self._wanted = now, power
         if self.is_silent:
             self.is_silent = False
-            self._say("a setpoint has come: the fallback is over")
+            self._log.info("a setpoint has come: the fallback is over")
         bounded = self._bounded(power)
-        self._say_once("" if bounded == power else f"the setpoint is {power} W, and the device takes {bounded} W: it is within {self._range}")
+        self._warn_once("" if bounded == power else f"the setpoint is {power} W, and the device takes {bounded} W: it is within {self._range}")
 
     def fall_back(self, why: str) -> None:
         """Takes the market's word that it is silent."""
         if not self.is_silent:
             self.is_silent = True
-            self._say(f"{why}: the device takes its fallback, {self._limits.fallback} W")
+            self._log.warning(f"{why}: the device takes its fallback, {self._limits.fallback} W")
 
     def due(self, now: float) -> int | None:
         """The power that has to be written now, in watts, None if nothing has to."""
@@ -124,7 +124,7 @@ class Guard:
     def _range(self) -> str:
         return f"{self._limits.least} to {self._limits.greatest} W"
 
-    def _say_once(self, text: str) -> None:
-        if text and text != self._said:
-            self._say(text)
-        self._said = text
+    def _warn_once(self, text: str) -> None:
+        if text and text != self._warned:
+            self._log.warning(text)
+        self._warned = text

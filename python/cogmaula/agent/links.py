@@ -21,6 +21,7 @@ from ..live.errors import BadMessage
 from ..live.frames import AnyOffer, Leave, Offer, Points, Stated
 from ..live.messages import members_of, object_of
 from ..live.sessions import time_of
+from ..logs import NodeLog
 from .mqtt import BrokerPlace, Client
 
 # The seconds between tries to connect, those within which something is written, and those of silence after which a connection counts as
@@ -49,7 +50,7 @@ Word = Setpoint | Silent | Basis
 class Link(Protocol):
     """What joins an agent to its market."""
 
-    def start(self, take: Callable[[Word], None], say: Callable[[str], None]) -> None:
+    def start(self, take: Callable[[Word], None], log: NodeLog) -> None:
         """Calls `take` with each word of the market from now on, from any thread; first of all with the basis."""
 
     def offer(self, offer: AnyOffer | None) -> None:
@@ -88,9 +89,9 @@ class HubLink:
         self._wakes, self._woken = socket.socketpair()
         self._woken.setblocking(False)
 
-    def start(self, take: Callable[[Word], None], say: Callable[[str], None]) -> None:
+    def start(self, take: Callable[[Word], None], log: NodeLog) -> None:
         """See Link."""
-        self._take, self._say = take, say
+        self._take, self._log = take, log
         self._thread = threading.Thread(target=self._work, daemon=True)
         self._thread.start()
 
@@ -118,7 +119,7 @@ class HubLink:
                 why = str(error)
             if why != said and not self._is_closed:
                 said = why
-                self._say(f"{self._place.hub}: {why}. It is tried again each {AGAIN:g} s")
+                self._log.warning(f"{self._place.hub}: {why}. It is tried again each {AGAIN:g} s")
             end = time.monotonic() + AGAIN
             while not self._is_closed and (left := end - time.monotonic()) > 0:
                 self._waits([], left)
@@ -193,7 +194,7 @@ class HubLink:
         elif isinstance(market, dict) and market.get("market") == "silent":
             self._take(Silent(f"the market is silent ({market.get('why', 'no word why')})"))
         elif "error" in told:
-            self._say(f"{self._place.hub}: {told['error']}")
+            self._log.warning(f"{self._place.hub}: {told['error']}")
 
 
 def _read(one: socket.socket) -> bytes | None:
@@ -234,9 +235,9 @@ class NodeLink:
         self._newest: queue.Queue[str | None] = queue.Queue()
         self._sending: threading.Thread | None = None
 
-    def start(self, take: Callable[[Word], None], say: Callable[[str], None]) -> None:
+    def start(self, take: Callable[[Word], None], log: NodeLog) -> None:
         """See Link."""
-        self._take, self._say = take, say
+        self._take, self._log = take, log
         self._client = Client(self._place, [self._topics["basis"], self._topics["setpoint"]], self._hear)
         self._sending = threading.Thread(target=self._send_all, daemon=True)
         self._sending.start()
@@ -262,7 +263,7 @@ class NodeLink:
                 # One that the broker has kept may be of a node that has died since.
                 self._take(Setpoint(int(told["power"]), int(told["price"])))
         except (BadMessage, KeyError, TypeError, ValueError) as error:
-            self._say(f"{topic} is not taken: {error}")
+            self._log.warning(f"{topic} is not taken: {error}")
 
     def close(self) -> None:
         """See Link."""

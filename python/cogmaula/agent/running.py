@@ -2,14 +2,15 @@
 
 from __future__ import annotations
 
+import logging
 import queue
 import threading
 import time
-from collections.abc import Callable
 from datetime import datetime
 
 from ..cluster import Basis
 from ..live.frames import AnyOffer
+from ..logs import NodeLog
 from ..simulation.device import BadBid, offer_of
 from .guard import Guard
 from .links import Setpoint, Silent, Word
@@ -23,14 +24,14 @@ LEAST_LOOK, MOST_LOOK, AGAIN = 0.02, 0.5, 1.0
 class Agent:
     """An agent, from its start to its end. `run` does the work, and `stop` ends it from anywhere."""
 
-    def __init__(self, settings: AgentSettings, say: Callable[[str], None]) -> None:
-        """Takes the settings, and a call for lines. Raises NoPackage, and OSError if a password cannot be read."""
+    def __init__(self, settings: AgentSettings, log: NodeLog | None = None) -> None:
+        """Takes the settings, and a log, by default that of this module. Raises NoPackage, and OSError if a password cannot be read."""
         self._settings = settings
-        self._say = say
+        self._log = log or NodeLog(logging.getLogger(__name__))
         self._source: Access | None = None if settings.state is None else settings.access(settings.state)
         self._sink: Access = settings.access(settings.setpoint)
         self._link = settings.link()
-        self._guard = Guard(settings.limits, say, time.monotonic())
+        self._guard = Guard(settings.limits, self._log, time.monotonic())
         self._words: queue.SimpleQueue[Word | None] = queue.SimpleQueue()
         self._is_over = threading.Event()
         self._said: dict[str, str] = {}
@@ -45,7 +46,7 @@ class Agent:
         """Works until `stop` is called. At the end the device leaves the market, and takes its fallback."""
         reads = threading.Thread(target=self._read_all, args=(self._source,), daemon=True)
         reads.start()
-        self._link.start(self._words.put, self._say)
+        self._link.start(self._words.put, self._log)
         look = min(max(self._settings.times.every / 10, LEAST_LOOK), MOST_LOOK)
         try:
             while not self._is_over.is_set():
@@ -82,9 +83,9 @@ class Agent:
                 found = self._settings.state.value_of(source.read(), self._settings.capacity)
                 with self._lock:
                     self._reading = found, begun
-                self._say_once("state", "")
+                self._log_change("state", "")
             except NoReading as error:
-                self._say_once("state", f"the state is not read: {error}")
+                self._log_change("state", f"the state is not read: {error}")
             self._is_over.wait(max(0.0, begun + self._settings.times.every - time.monotonic()))
 
     def _state(self, now: float) -> float | None:
@@ -126,7 +127,7 @@ class Agent:
         if state is None:
             self._guard.lose()
             if self._offered is not None:
-                self._say("the state is too old: the device leaves the market until there is a newer one")
+                self._log.warning("the state is too old: the device leaves the market until there is a newer one")
                 self._offered = None
                 self._link.offer(None)
             return
@@ -141,14 +142,14 @@ class Agent:
             setattr(device, settings.member, state)
         fixed = self._guard.fixed(now)
         told = "" if fixed is None else f"it may not yet {'stop' if fixed else 'start'}: it offers {fixed} W at every price until then"
-        self._say_once("fixed", told)
+        self._log_change("fixed", told)
         try:
             own = device.bid(datetime.now().astimezone())
             found = self._guard.bounded(offer_of(own if fixed is None else fixed, basis, device.name))
         except BadBid as error:
-            self._say_once("bid", f"the bid is not offered: {error}")
+            self._log_change("bid", f"the bid is not offered: {error}")
             return None
-        self._say_once("bid", "")
+        self._log_change("bid", "")
         return found
 
     # The device's power.
@@ -163,16 +164,17 @@ class Agent:
         except NotWritten as error:
             self._tried = now
             self._guard.lose()
-            self._say_once("write", f"{power} W are not written: {error}. It is tried again each {AGAIN:g} s")
+            self._log_change("write", f"{power} W are not written: {error}. It is tried again each {AGAIN:g} s")
             return
         self._tried = -float("inf")
         self._guard.wrote(power, now)
-        self._say_once("write", "")
+        self._log_change("write", "")
 
-    def _say_once(self, subject: str, text: str) -> None:
-        """Says a line, unless it is the one that was said last of the subject."""
+    def _log_change(self, subject: str, text: str) -> None:
+        """Warns of what is wrong with a subject, unless the warning before was the same; says that it is over."""
         if text and self._said.get(subject, "") != text:
-            self._say(text)
+            self._log.warning(text)
         elif not text and self._said.get(subject):
-            self._say(f"{'the state is read' if subject == 'state' else 'it works'} again") if subject != "fixed" else None
+            if subject != "fixed":
+                self._log.info(f"{'the state is read' if subject == 'state' else 'it works'} again")
         self._said[subject] = text

@@ -6,7 +6,7 @@ import argparse
 import signal
 import sys
 
-from .. import cli
+from .. import cli, logs
 from ..live.errors import BadSettings
 
 CALLS_PROGRAM = False
@@ -26,8 +26,9 @@ def main(arguments: argparse.Namespace) -> int:
     """Runs the agent until a signal ends it."""
     from ..agent import Agent, read_agent_toml
 
+    logs.show("cogmaula agent")
     try:
-        agent = Agent(read_agent_toml(arguments.file), _say)
+        agent = Agent(read_agent_toml(arguments.file))
     except BadSettings as error:
         print(f"cogmaula: {error}", file=sys.stderr)
         return cli.MISUSED
@@ -35,7 +36,3 @@ def main(arguments: argparse.Namespace) -> int:
         signal.signal(number, lambda *_: agent.stop())
     agent.run()
     return 0
-
-
-def _say(line: str) -> None:
-    print(f"cogmaula agent: {line}", file=sys.stderr, flush=True)

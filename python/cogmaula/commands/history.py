@@ -10,7 +10,7 @@ import sys
 from datetime import datetime, timedelta
 from typing import cast
 
-from .. import cli
+from .. import cli, logs
 from ..history import Database, Keeper, open_database
 from ..history.days import span_of
 from ..live.errors import BadSettings
@@ -60,7 +60,8 @@ def main(arguments: argparse.Namespace) -> int:
     except BadSettings as error:
         print(f"cogmaula: {error}", file=sys.stderr)
         return 2
-    keeper = Keeper(broker, database, lambda text: print(f"cogmaula history: {text}", file=sys.stderr, flush=True))
+    logs.show("cogmaula history")
+    keeper = Keeper(broker, database)
     for number in (signal.SIGTERM, signal.SIGINT):
         signal.signal(number, lambda *_: keeper.stop())
     notifier = Notifier(os.environ)

@@ -11,7 +11,7 @@ from collections.abc import Mapping
 from pathlib import Path
 from typing import Any
 
-from .. import cli
+from .. import cli, logs
 from ..hub.settings import HubSettings, hub_settings_of, read_hub_toml
 from ..hub.tokens import TokenFile, child_of, children_in, write_token
 from ..live.errors import BadSettings, NodeRefused
@@ -137,6 +137,7 @@ def _run(settings: HubSettings) -> int:
     from ..hub.hub import Hub
     from ..live.notifying import Notifier
 
+    logs.show("cogmaula hub", settings.name)
     allow_files()
     notifier = Notifier(os.environ)
     hub = Hub(settings, turns=notifier.turns)

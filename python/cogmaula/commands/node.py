@@ -8,7 +8,7 @@ import signal
 import sys
 from typing import Any
 
-from .. import cli
+from .. import cli, logs
 from ..live.errors import BadSettings, NodeRefused, OtherTerms
 from ..live.frames import SORTS
 from ..live.settings import PASSWORD_VARIABLE, read_toml, settings_of
@@ -110,6 +110,7 @@ def main(arguments: argparse.Namespace) -> int:
     except BadSettings as error:
         print(f"cogmaula: {error}", file=sys.stderr)
         return 2
+    logs.show(f"cogmaula node {settings.name}", settings.name)
     try:
         node = make_node(settings, turns=notifier.turns)
         for number in (signal.SIGTERM, signal.SIGINT):

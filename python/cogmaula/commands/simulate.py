@@ -6,7 +6,7 @@ import argparse
 import signal
 import sys
 
-from .. import cli
+from .. import cli, logs
 from ..cluster import Cluster, bytes_of
 from ..live.errors import BadSettings
 from ..live.page_settings import PageSettings
@@ -50,9 +50,10 @@ def main(arguments: argparse.Namespace) -> int:
     data = bytes_of(cli.source_of(arguments.file))
     cluster = Cluster.from_json(data)
     cluster.check(cli.program_of(arguments))
+    logs.show("cogmaula simulate")
     try:
         page = None if arguments.page is None else PageSettings(arguments.page)
-        living = LivingCluster(cluster, arguments.live or live_command(), speed=arguments.speed, page=page, tell=_tell, say=_say)
+        living = LivingCluster(cluster, arguments.live or live_command(), speed=arguments.speed, page=page, tell=_tell)
     except BadSettings as error:
         print(f"cogmaula: {error}", file=sys.stderr)
         return cli.MISUSED
@@ -65,7 +66,3 @@ def main(arguments: argparse.Namespace) -> int:
 
 def _tell(line: str) -> None:
     print(line, flush=True)
-
-
-def _say(line: str) -> None:
-    print(f"cogmaula simulate: {line}", file=sys.stderr, flush=True)

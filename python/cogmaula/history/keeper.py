@@ -6,8 +6,8 @@ it did not confirm; and what it is told again has its row already.
 
 from __future__ import annotations
 
+import logging
 import threading
-from collections.abc import Callable
 from typing import Any
 
 from ..live.broker import Message
@@ -27,6 +27,7 @@ from ..live.errors import BadMessage
 from ..live.rights import KEPT
 from ..live.settings import BrokerSettings
 from ..live.topics import Topics
+from ..logs import NodeLog
 from .database import Database, DatabaseLost
 from .rows import rows_of
 
@@ -42,16 +43,16 @@ class Keeper:
         self,
         settings: BrokerSettings,
         database: Database,
-        say: Callable[[str], None],
+        log: NodeLog | None = None,
         pauses: tuple[float, float] = (FIRST_PAUSE, LONGEST_PAUSE),
     ) -> None:
-        """Takes the broker with a login that reads, an open database, and a call for lines. Raises NoPackage if paho is missing."""
+        """Takes the broker with a login that reads, an open database, and a log, by default that of this module. Raises NoPackage if paho is missing."""
         self._options = paho().SubscribeOptions(qos=1)
         self._settings = settings
         self._topics = Topics(settings.prefix)
         self._database = database
-        self._say = say
-        self._said: set[str] = set()
+        self._log = log or NodeLog(logging.getLogger(__name__))
+        self._warned: set[str] = set()
         self._pauses = pauses
         self._closing = threading.Event()
         self._is_there = self._is_lost = False
@@ -60,7 +61,7 @@ class Keeper:
 
     def run(self) -> None:
         """Keeps all that comes, over lost connections, until `stop` is called."""
-        keep_connected(self._connection, self._closing, self._say, self._settings.address, self._pauses)
+        keep_connected(self._connection, self._closing, self._log, self._settings.address, self._pauses)
         self._database.close()
 
     def stop(self) -> None:
@@ -111,7 +112,7 @@ class Keeper:
         try:
             rows = rows_of(self._topics, told)
         except BadMessage as error:
-            self._say_once(f"{message.topic} is not kept: {error}")
+            self._warn_once(f"{message.topic} is not kept: {error}")
             return
         try:
             self._database.put(rows)
@@ -121,7 +122,7 @@ class Keeper:
             raise
         self.kept += 1
 
-    def _say_once(self, text: str) -> None:
-        if text not in self._said and len(self._said) < 1_000:
-            self._said.add(text)
-            self._say(text)
+    def _warn_once(self, text: str) -> None:
+        if text not in self._warned and len(self._warned) < 1_000:
+            self._warned.add(text)
+            self._log.warning(text)

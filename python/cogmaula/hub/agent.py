@@ -10,6 +10,7 @@ import threading
 from collections.abc import Callable
 from typing import Protocol
 
+from ..logs import NodeLog
 from .running import Running
 from .words import LEAVE_OFFER, update_of
 
@@ -45,7 +46,7 @@ class Agent:
 
     # The calls of a Control.
 
-    def start(self, notify: Callable[[bytes], None], _say: Callable[[str], None]) -> None:
+    def start(self, notify: Callable[[bytes], None], _log: NodeLog) -> None:
         """See Control."""
         with self._lock:
             self._notify = notify

@@ -3,13 +3,13 @@
 from __future__ import annotations
 
 import asyncio
-from collections.abc import Callable
 
 from ..live.broker import Message
 from ..live.errors import BadMessage, BadSettings, LiveError, NodeRefused
 from ..live.frames import RESUMES, AuctioneerResume, frame_of
 from ..live.node import Node
 from ..live.sessions import Session
+from ..logs import NodeLog
 from .agent import Agent
 from .exchange import Exchange
 from .places import Place, keep_place, places_in, require_places
@@ -34,20 +34,20 @@ class Agents:
         exchange: Exchange,
         session: Session,
         loop: asyncio.AbstractEventLoop,
-        say: Callable[[str], None],
+        log: NodeLog,
     ) -> None:
-        """Takes what the hub has. `say` takes lines."""
+        """Takes what the hub has. `log` takes lines."""
         self._settings = settings
         self._exchange = exchange
         self._session = session
         self._loop = loop
-        self._say = say
+        self._log = log
         self._file = TokenFile(settings.agents)
         self._entries: Entries = {}
         self._places: dict[str, Place] = {}
         self._agents: dict[str, Agent] = {}
         self._failed = FailedLogins()
-        self._said = ""
+        self._wrong = ""
         # An agent that is not known takes as long as one whose token is wrong.
         self._nobody = Entry("", 0, hash_of(""))
 
@@ -97,11 +97,11 @@ class Agents:
                 return
             entries = self._right(found)
         except (BadSettings, OSError) as error:
-            self._say_once(f"the file of tokens is not taken, and the agents are those of before: {error}")
+            self._error_once(f"the file of tokens is not taken, and the agents are those of before: {error}")
             return
-        self._said = ""
+        self._wrong = ""
         before, self._entries = self._entries, entries
-        self._say(f"{self._settings.agents} has changed: {len(entries)} agents may log in")
+        self._log.info(f"{self._settings.agents} has changed: {len(entries)} agents may log in")
         for name in [name for name in before if entries.get(name) != before[name]]:
             self._bar(name, "has another token: log in with the new one" if name in entries else "is barred")
 
@@ -120,10 +120,10 @@ class Agents:
         require_places(entries, self._places)
         return entries
 
-    def _say_once(self, text: str) -> None:
-        if text != self._said:
-            self._said = text
-            self._say(text)
+    def _error_once(self, text: str) -> None:
+        if text != self._wrong:
+            self._wrong = text
+            self._log.error(text)
 
     # Logins.
 
@@ -194,9 +194,9 @@ class Agents:
                 self._require_unused(agent)
                 keep_place(self._settings.folder_of_agents / agent.name, place)
                 self._places[agent.name] = place
-            node = Node(settings, agent, lambda text: self._say(f"{agent.name}: {text}"), self._exchange.link, TICK)
+            node = Node(settings, agent, self._log.of_node(agent.name), self._exchange.link, TICK)
         except (LiveError, OSError) as error:
-            self._say(f"{agent.name}: {error}")
+            self._log.of_node(agent.name).error(str(error))
             return
         agent.running = Running(node, lambda running: self._loop.call_soon_threadsafe(self._ended, agent, running))
 
@@ -214,7 +214,7 @@ class Agents:
 
     def _ended(self, agent: Agent, running: Running) -> None:
         if running.error is not None:
-            self._say(f"{agent.name}: its node has ended, {running.error}")
+            self._log.of_node(agent.name).error(f"its node has ended, {running.error}")
         if agent.running is running:
             agent.lose_node()
             agent.end(f"the node of {agent.name} has ended: log in again")

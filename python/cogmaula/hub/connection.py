@@ -3,6 +3,7 @@
 from __future__ import annotations
 
 import asyncio
+import logging
 from collections import deque
 from collections.abc import Callable
 from typing import Protocol
@@ -85,7 +86,7 @@ class Connection:
                 task.cancel()
             for found in await asyncio.gather(reading, sending, return_exceptions=True):
                 if isinstance(found, Exception) and not isinstance(found, OSError):
-                    self._log.say_seldom(type(found), f"{self._name}: the connection failed, {found!r}")
+                    self._log.log_seldom(logging.ERROR, type(found), f"{self._name}: the connection failed, {found!r}")
             await self._channel.close()
 
     @property
@@ -146,7 +147,7 @@ class Connection:
     # What the agent is told.
 
     def _tell_error(self, text: str, kind: object) -> None:
-        self._log.say_seldom((kind, "" if self._agent is None else self._agent.name), f"{self._name}: {text}")
+        self._log.log_seldom(logging.WARNING, (kind, "" if self._agent is None else self._agent.name), f"{self._name}: {text}")
         self._lines.append(error_line(text))
         self._news.set()
 

@@ -1,7 +1,7 @@
 """What carries the messages of nodes that run in one process: what a broker is for nodes on different machines.
 
     exchange = Exchange()
-    Node(settings, control, say, exchange.link)
+    Node(settings, control, log, exchange.link)
 
 Everything is retained, and the newest message of a topic alone counts. All calls may come from any thread. A publication is
 confirmed as soon as `publish` returns: then the exchange has it, and each reader finds it at its next look. What is in the
@@ -14,6 +14,7 @@ import threading
 from collections.abc import Callable, Iterable, Sequence
 
 from ..live.broker import Arrived, Event, Message, Publication, Settled
+from ..logs import NodeLog
 
 # Takes each message that is published, in the thread that publishes it. Messages of one topic come in their order.
 Watch = Callable[[Message], None]
@@ -45,7 +46,7 @@ class Exchange:
         with self._lock:
             self._watches = [*self._watches, take]
 
-    def link(self, notify: Callable[[Event], None], _say: Callable[[str], None]) -> ExchangeLink:
+    def link(self, notify: Callable[[Event], None], _log: NodeLog) -> ExchangeLink:
         """A node's connection, as `make_link` of Node."""
         return ExchangeLink(self, notify)
 

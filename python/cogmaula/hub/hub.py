@@ -7,8 +7,8 @@ its own process of `live` and its own folder. So a proved service numbers each b
 from __future__ import annotations
 
 import asyncio
+import logging
 import math
-import sys
 from collections.abc import Callable
 from typing import Any
 
@@ -19,6 +19,7 @@ from ..live.node import Node
 from ..live.page import MOST_CONNECTIONS as CONNECTIONS_OF_PAGE
 from ..live.page import PATIENCE_OF_LOOP
 from ..live.sessions import Session, now_text
+from ..logs import NodeLog
 from .admission import Admission, Guest, files_allowed
 from .agent import Agent
 from .agents import Agents
@@ -40,9 +41,9 @@ class Hub:
     """A hub, from its start to its end. `run` does the work, and `stop` ends it from anywhere."""
 
     def __init__(
-        self, settings: HubSettings, say: Callable[[str], None] | None = None, turns: Callable[[], None] = lambda: None
+        self, settings: HubSettings, log: NodeLog | None = None, turns: Callable[[], None] = lambda: None
     ) -> None:
-        """Takes the settings, and a call for lines about what is wrong, by default to standard error.
+        """Takes the settings, and a log, by default that of this module.
 
         turns: is called about each second, as long as the hub and its auctioneer's node do their work
 
@@ -51,12 +52,12 @@ class Hub:
         self.settings = settings
         self._turns = turns
         self.exchange = Exchange()
-        self._lines = Lines(say or self._say_at_standard_error)
-        self._say = self._lines.say
+        self._lines = Lines(log or NodeLog(logging.getLogger(__name__)))
+        self._log = self._lines.log
         self._admission = Admission(files_allowed() - (0 if settings.page is None else CONNECTIONS_OF_PAGE))
         self._memory = Memory()
         self._server = Server(settings, self._serve, self._admission, self._lines)
-        self.showing = Showing(settings.page, settings.topics.prefix, self.exchange, self._say, self.facts)
+        self.showing = Showing(settings.page, settings.topics.prefix, self.exchange, self._log, self.facts)
         self._connections: dict[Connection, asyncio.Task[Any] | None] = {}
         self._loop: asyncio.AbstractEventLoop | None = None
         self._stopping: asyncio.Event | None = None
@@ -66,11 +67,6 @@ class Hub:
         self._session: Session | None = None
         # Whether agents can connect.
         self.is_up = False
-
-    def _say_at_standard_error(self, text: str) -> None:
-        # In one piece, since lines come from many threads.
-        sys.stderr.write(f"cogmaula hub: {text}\n")
-        sys.stderr.flush()
 
     def facts(self) -> list[NodeFacts]:
         """What the nodes of the hub tell of themselves, the auctioneer's first. It may be called from any thread."""
@@ -105,12 +101,12 @@ class Hub:
 
     async def _run(self) -> None:
         loop = self._loop = asyncio.get_running_loop()
-        loop.set_exception_handler(self._say_error)
+        loop.set_exception_handler(self._log_error)
         stopping = self._stopping = asyncio.Event()
         if self._is_stopped:
             return
         self.showing.start()
-        node = Node(self.settings.of_auctioneer(), None, self._say, self.exchange.link)
+        node = Node(self.settings.of_auctioneer(), None, self._log.of_node(self.settings.name), self.exchange.link)
         auctioneer = self._auctioneer = Running(node, lambda _: loop.call_soon_threadsafe(stopping.set))
         try:
             await self._begin(auctioneer, stopping)
@@ -133,16 +129,16 @@ class Hub:
             if stopping.is_set():
                 return
         self._session = BasisMessage.of(basis.payload).session
-        self._agents = Agents(self.settings, self.exchange, self._session, loop, self._say)
+        self._agents = Agents(self.settings, self.exchange, self._session, loop, self._log)
         self._agents.begin()
         lacking = self._admission.files_lacking(self._agents.allowed)
         if lacking:
-            self._say(f"{self._agents.allowed} agents may log in, and {lacking} files are lacking for them: raise LimitNOFILE of the hub's unit")
+            self._log.error(f"{self._agents.allowed} agents may log in, and {lacking} files are lacking for them: raise LimitNOFILE of the hub's unit")
         self._admission.agents = self._agents.with_node
         await self._server.start()
         for how, found in (("WebSocket", self.addresses), ("TCP", self.addresses_tcp)):
             for address in found:
-                self._say(f"listens at {address} for {how}{' by TLS' if self.settings.certificate else ''}")
+                self._log.info(f"listens at {address} for {how}{' by TLS' if self.settings.certificate else ''}")
         self.is_up = True
 
     def _look(self) -> None:
@@ -196,10 +192,10 @@ class Hub:
         assert self._session is not None
         return welcome(agent.name, self.settings.cluster, self.settings.basis, self._session.id, now_text())
 
-    def _say_error(self, _loop: asyncio.AbstractEventLoop, told: dict[str, Any]) -> None:
-        """Says what the loop finds wrong."""
+    def _log_error(self, _loop: asyncio.AbstractEventLoop, told: dict[str, Any]) -> None:
+        """Logs what the loop finds wrong."""
         error = told.get("exception")
-        self._lines.say_seldom(type(error), f"{told.get('message', 'a connection failed')}{'' if error is None else f': {error}'}")
+        self._lines.log_seldom(logging.ERROR, type(error), f"{told.get('message', 'a connection failed')}{'' if error is None else f': {error}'}")
 
 
 async def _wait(event: asyncio.Event, seconds: float) -> None:

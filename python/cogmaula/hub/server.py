@@ -7,6 +7,7 @@ from __future__ import annotations
 
 import asyncio
 import errno
+import logging
 import os
 import socket
 import ssl
@@ -104,9 +105,9 @@ class Server:
         """Reads the certificate again if it has changed."""
         try:
             if self._certificate is not None and self._certificate.look():
-                self._lines.say("the certificate has changed: new connections have the new one")
+                self._lines.log.info("the certificate has changed: new connections have the new one")
         except BadSettings as error:
-            self._lines.say(f"{error}: connections have the one of before")
+            self._lines.log.error(f"{error}: connections have the one of before")
 
     def _listen(self, address: Address, carry: _Carry, found: list[Address]) -> None:
         try:
@@ -136,7 +137,7 @@ class Server:
                 pass
             except OSError as error:
                 do = ": raise LimitNOFILE of the hub's unit" if error.errno in NO_FILES else ""
-                self._lines.say_seldom("no connection", f"no connection is accepted, {error.strerror}{do}")
+                self._lines.log_seldom(logging.ERROR, "no connection", f"no connection is accepted, {error.strerror}{do}")
                 await asyncio.sleep(PAUSE)
             await asyncio.sleep(0)
 
@@ -147,7 +148,7 @@ class Server:
         visit.task = self._start(self._work(visit, carry))
         visit.task.add_done_callback(lambda task: self._ended(visit, task))
         if self._admission.enter(guest):
-            self._lines.say_seldom("too many", f"too many connections wait for a login, many of {guest.network}: the oldest of these ends")
+            self._lines.log_seldom(logging.WARNING, "too many", f"too many connections wait for a login, many of {guest.network}: the oldest of these ends")
 
     async def _work(self, visit: _Visit, carry: _Carry) -> None:
         """Works one connection."""
@@ -158,13 +159,13 @@ class Server:
                 channel = await carry(visit)
             await self._serve(channel, visit.guest)
         except TimeoutError:
-            self._lines.say_seldom("no handshake", f"{visit.peer}: no handshake came for {LOGIN_SECONDS:g} s: the connection ends")
+            self._lines.log_seldom(logging.WARNING, "no handshake", f"{visit.peer}: no handshake came for {LOGIN_SECONDS:g} s: the connection ends")
         except ssl.SSLError as error:
             why = error.reason or error
             told = f"{visit.peer}: a handshake of TLS fails ({why}): does the agent connect by TLS, and trust the certificate?"
-            self._lines.say_seldom("TLS", told)
+            self._lines.log_seldom(logging.WARNING, "TLS", told)
         except NoHandshake as error:
-            self._lines.say_seldom(NoHandshake, f"{visit.peer}: {error}")
+            self._lines.log_seldom(logging.WARNING, NoHandshake, f"{visit.peer}: {error}")
         except OSError:
             # The other side has gone.
             pass
@@ -175,7 +176,7 @@ class Server:
         visit.abort()
         error = None if task.cancelled() else task.exception()
         if error is not None:
-            self._lines.say_seldom(type(error), f"{visit.peer}: the connection failed, {error!r}")
+            self._lines.log_seldom(logging.ERROR, type(error), f"{visit.peer}: the connection failed, {error!r}")
 
     async def _tcp(self, visit: _Visit) -> Channel:
         reader, writer = await visit.open(self._certificate)

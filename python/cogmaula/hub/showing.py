@@ -9,6 +9,7 @@ from ..live.board import Board
 from ..live.counting import NodeFacts
 from ..live.page import Page
 from ..live.page_settings import PageSettings
+from ..logs import NodeLog
 from .exchange import Exchange
 
 # The seconds in which the page has to end.
@@ -23,11 +24,11 @@ class Showing:
         settings: PageSettings | None,
         prefix: str,
         exchange: Exchange,
-        say: Callable[[str], None],
+        log: NodeLog,
         facts: Callable[[], list[NodeFacts]],
         note: str = "",
     ) -> None:
-        """Takes the settings, the prefix of the market's topics, the exchange, a call for lines, and what the nodes tell of themselves.
+        """Takes the settings, the prefix of the market's topics, the exchange, a log, and what the nodes tell of themselves.
 
         note: what the page has to say of the market. Without settings there is no page.
         """
@@ -35,11 +36,11 @@ class Showing:
         self._page: Page | None = None
         if settings is None:
             return
-        self._board = Board(lambda text: say(f"page: {text}"))
+        self._board = Board(log := log.of_part("page"))
         try:
-            self._page = Page(settings, prefix, self._board, lambda text: say(f"page: {text}"), facts=facts, note=note)
+            self._page = Page(settings, prefix, self._board, log, facts=facts, note=note)
         except NoPackage as error:
-            say(f"page: {error}")
+            log.error(str(error))
 
     def start(self) -> None:
         """Serves from now on, if there is a page. To be called before the first message."""

@@ -3,9 +3,10 @@
 from __future__ import annotations
 
 import json
-from collections.abc import Callable, Mapping
+from collections.abc import Mapping
 from dataclasses import dataclass, replace
 
+from ..logs import NodeLog
 from .broker import Message
 from .children import BIDS_OF_SUM, FORM, RELAYS, SESSION, TIME
 from .errors import BadFrame, BadMessage, NodeRefused, OtherTerms
@@ -30,13 +31,13 @@ class Beginning:
     """Finds what a node begins with.
 
     seen: the newest message of each topic that the node reads
-    say:  takes a line
+    log:  takes a line if it is not the one before
     """
 
     settings: Settings
     store: Store
     seen: Mapping[str, Message]
-    say: Callable[[str], None]
+    log: NodeLog
 
     def basis(self) -> BasisMessage | None:
         """The basis that the broker retains, or None."""
@@ -44,7 +45,7 @@ class Beginning:
         try:
             return BasisMessage.of(message.payload) if message is not None and message.payload else None
         except BadMessage as error:
-            self.say(f"{self.settings.topics.basis} is not taken: {error}")
+            self.log.warning(f"{self.settings.topics.basis} is not taken: {error}")
             return None
 
     def of_auctioneer(self) -> Stored:
@@ -68,7 +69,7 @@ class Beginning:
         if found is not None:
             self._require_terms(found)
         if found is None:
-            self.say(f"no Resume of session {newest.id} is on disk or at the broker: a new session begins")
+            self.log.warning(f"no Resume of session {newest.id} is on disk or at the broker: a new session begins")
             return self._new(newest)
         if found.basis != self.settings.basis or (told is not None and told.session == newest and told.basis != found.basis):
             raise NodeRefused(
@@ -81,10 +82,10 @@ class Beginning:
         told = self.basis()
         if told is None:
             topic = self.settings.topics.basis
-            self.say(f"waits for the basis at {topic}: is the auctioneer up, and may this node read that topic?")
+            self.log.warning(f"waits for the basis at {topic}: is the auctioneer up, and may this node read that topic?")
             return None
         if told.version != VERSION:
-            self.say(
+            self.log.warning(
                 f"waits: session {told.session.id} is of version {told.version}, and this node of {VERSION}. Install this version at the "
                 "auctioneer, and begin a new session there by --new-session"
             )
@@ -92,7 +93,7 @@ class Beginning:
         self.require_basis(told)
         newest = self.store.newest()
         if newest is not None and newest.session.order > told.session.order:
-            self.say(f"waits: the broker tells of session {told.session.id}, older than {newest.session.id} on disk")
+            self.log.warning(f"waits: the broker tells of session {told.session.id}, older than {newest.session.id} on disk")
             return None
         found = self._newer(told.session, self.store.load(told.session))
         if found is None:
@@ -181,7 +182,7 @@ class Beginning:
 
     def _new(self, before: Session | None) -> Stored:
         session = new_session(before)
-        self.say(f"session {session.id} begins: all nodes count from 1 in it")
+        self.log.info(f"session {session.id} begins: all nodes count from 1 in it")
         return Stored(session, self.settings.basis, b"", now_text())
 
     def _resume_at_broker(self, session: Session) -> tuple[Message, Resume] | None:
@@ -195,7 +196,7 @@ class Beginning:
         try:
             resume = resume_of(self.settings, message.payload)
         except BadFrame as error:
-            self.say(f"{topic} is not taken: {error}")
+            self.log.warning(f"{topic} is not taken: {error}")
             return None
         return None if resume is None else (message, resume)
 
@@ -218,7 +219,7 @@ class Beginning:
             raise NodeRefused(f"{self.store.path(session)} has no Resume of this node: {error}") from None
         if stored is not None and before is not None and before.last >= resume.last:
             return stored
-        self.say(f"goes on from the broker's Resume with number {resume.last}, which is newer than the one on disk")
+        self.log.info(f"goes on from the broker's Resume with number {resume.last}, which is newer than the one on disk")
         setpoint = self._setpoint(session) if isinstance(resume, DeviceResume) else ""
         time = message.properties.get(TIME, now_text())
         # Who is a relay is told with the Resume. What the disk has of children that were let go, and of limits, is not older than it.

@@ -5,6 +5,7 @@ from __future__ import annotations
 import threading
 from collections.abc import Callable, Iterable
 
+from ..logs import NodeLog
 from .broker import Message
 from .sessions import now_text
 
@@ -18,9 +19,9 @@ class Board:
     After a connection was lost, what is there stays. Once the broker has told all that it retains, what it no longer has goes.
     """
 
-    def __init__(self, say: Callable[[str], None], most: int = MOST_TOPICS, bytes_at_most: int = MOST_BYTES) -> None:
-        """Takes a call for lines, the most topics that are kept, and the most bytes."""
-        self._say = say
+    def __init__(self, log: NodeLog, most: int = MOST_TOPICS, bytes_at_most: int = MOST_BYTES) -> None:
+        """Takes a log, the most topics that are kept, and the most bytes."""
+        self._log = log
         self._most = most
         self._bytes_at_most = bytes_at_most
         self._bytes = 0
@@ -50,7 +51,7 @@ class Board:
                     is_full = True
             is_news, self._is_full_told = is_full and not self._is_full_told, is_full or self._is_full_told
         if is_news:
-            self._say(f"the page keeps {self._most} topics and {self._bytes_at_most} bytes, and shows no further ones")
+            self._log.warning(f"the page keeps {self._most} topics and {self._bytes_at_most} bytes, and shows no further ones")
         self.on_change()
 
     def lost(self) -> None:

@@ -13,6 +13,7 @@ from collections.abc import Callable, Iterable, Sequence
 from dataclasses import dataclass, field
 from typing import Any, Protocol
 
+from ..logs import NodeLog
 from .connection import (
     FIRST_PAUSE,
     LONGEST_PAUSE,
@@ -140,7 +141,7 @@ class Broker:
         settings: BrokerSettings,
         client_id: str,
         notify: Callable[[Event], None],
-        say: Callable[[str], None],
+        log: NodeLog,
         pauses: tuple[float, float] = (FIRST_PAUSE, LONGEST_PAUSE),
         patience: float = PATIENCE,
     ) -> None:
@@ -149,7 +150,7 @@ class Broker:
         self.settings = settings
         self._client_id = client_id
         self._notify = notify
-        self._say = say
+        self._log = log
         self._pauses = pauses
         self._patience = patience
         self._closing = threading.Event()
@@ -309,7 +310,7 @@ class Broker:
                 self._counts[topic] = 0
         for topic, (_, sender) in rested.items():
             if now > self._floods.get(topic, -CALM) + CALM:
-                self._say(f"{topic}: more than {FLOOD} messages a second come{sender and f' from {sender}'}: it is read once a second")
+                self._log.warning(f"{topic}: more than {FLOOD} messages a second come{sender and f' from {sender}'}: it is read once a second")
             self._floods[topic] = now
         if due and self._settled is not None:
             self._subscribe(self._settled, due)
@@ -376,14 +377,14 @@ class Broker:
         if topic not in self._told:
             self._told.add(topic)
             user = self.settings.user or "a node without a user"
-            self._say(
+            self._log.warning(
                 f"{self.settings.address} does not give {topic} back: let {user} write and read this topic, in the broker's list of rights"
             )
 
     # One connection after the other, in a thread of its own.
 
     def _run(self) -> None:
-        keep_connected(self._connection, self._closing, self._say, self.settings.address, self._pauses)
+        keep_connected(self._connection, self._closing, self._log, self.settings.address, self._pauses)
 
     def _connection(self) -> tuple[bool, str]:
         """Makes one connection, and waits for its end: whether it was there, and why it ended."""
@@ -438,7 +439,7 @@ class Broker:
             topics = self._asked.pop((client, mid), [])
         for topic, code in zip(topics, codes, strict=False):
             if code.value >= REFUSED:
-                self._say(f"{self.settings.address} does not let {self.settings.user or 'this node'} read {topic} ({code})")
+                self._log.warning(f"{self.settings.address} does not let {self.settings.user or 'this node'} read {topic} ({code})")
 
     def _on_message(self, client: Any, message: Any) -> None:
         if len(message.payload) > self._topics_of_market.longest(message.topic):
@@ -451,7 +452,7 @@ class Broker:
             self._settled = client
             if self._was_lost:
                 self._was_lost = False
-                self._say(f"{self.settings.address}: connected{' again' if self._was_settled else ''}")
+                self._log.info(f"{self.settings.address}: connected{' again' if self._was_settled else ''}")
             self._was_settled = True
             self._notify(Settled())
             return
@@ -471,7 +472,7 @@ class Broker:
         """Says once that a message of a topic is none of a market."""
         if topic not in self._wrong and len(self._wrong) < WRONG:
             self._wrong.add(topic)
-            self._say(f"{topic[:200]}: a message of {count} bytes is not taken: it is no topic of a market, or too long for it")
+            self._log.warning(f"{topic[:200]}: a message of {count} bytes is not taken: it is no topic of a market, or too long for it")
 
     def _on_publish(self, client: Any, mid: int) -> None:
         with self._lock:

@@ -3,10 +3,11 @@
 from __future__ import annotations
 
 import hashlib
-from collections.abc import Callable, Collection, Iterable
+from collections.abc import Collection, Iterable
 from dataclasses import dataclass, field
 from functools import cached_property
 
+from ..logs import NodeLog
 from .broker import Link, Message, Publication
 from .errors import BadFrame
 from .frames import BIDS, PRICES, Bid, Gone, Old, Price, frame_of
@@ -44,13 +45,13 @@ class Heard:
 class Children:
     """The children of one node in one session."""
 
-    def __init__(self, node: str, topics: Topics, steps: int, link: Link, say: Callable[[str], None]) -> None:
+    def __init__(self, node: str, topics: Topics, steps: int, link: Link, log: NodeLog) -> None:
         """Takes the node's name, its topics, the steps of the market, its connection, and a call for lines."""
         self._node = node
         self._topics = topics
         self._steps = steps
         self._link = link
-        self._say = say
+        self._log = log
         self._session = ""
         self._newest: dict[int, Heard] = {}
         # Of each child the one before, which counts again if the newest is too much.
@@ -115,20 +116,20 @@ class Children:
             return None
         session = message.properties.get(SESSION, "")
         if session != self._session:
-            self._say_once(child, "session", f"is of session {session or '(none)'} and not {self._session}: it is not taken")
+            self._warn_once(child, "session", f"is of session {session or '(none)'} and not {self._session}: it is not taken")
             return None
         if message.properties.get(FORM) != str(VERSION):
-            self._say_once(child, "version", "comes from a node of another version: it is not taken. Install this version there")
+            self._warn_once(child, "version", "comes from a node of another version: it is not taken. Install this version there")
             return None
         try:
             frame = frame_of(message.payload, BIDS, self._steps)
         except BadFrame as error:
-            self._say_once(child, "frame", f"is no bid, and is not taken: {error}")
+            self._warn_once(child, "frame", f"is no bid, and is not taken: {error}")
             return None
         if not isinstance(frame, Bid | Gone):
             return None
         if frame.child != child:
-            self._say_once(child, "child", f"names child {frame.child}, and is not taken")
+            self._warn_once(child, "child", f"names child {frame.child}, and is not taken")
             return None
         return self._numbered(child, frame, message)
 
@@ -138,10 +139,10 @@ class Children:
         newest, digest = self._known.get(child, (0, "")) if last is None else (last.number, "")
         if frame.number < newest:
             told = f"has number {frame.number}, below its last, {newest}: the child came back with an older Resume"
-            self._say_once(child, "below", told)
+            self._warn_once(child, "below", told)
             return None
         if frame.number == newest and (frame != last if last is not None else digest_of(frame) != digest):
-            self._say_once(child, "again", f"has number {frame.number} once more with another bid: it is not taken, and the first counts")
+            self._warn_once(child, "again", f"has number {frame.number} once more with another bid: it is not taken, and the first counts")
             return None
         heard = Heard(frame, *_sender(message), is_new=frame != last)
         if heard.is_new:
@@ -209,11 +210,11 @@ class Children:
         if kept is None or kept.payload:
             self._link.publish(Publication(topic, b""))
 
-    def _say_once(self, child: int, cause: str, why: str) -> None:
-        """Says what is wrong with a child's message, once in a session for each cause."""
+    def _warn_once(self, child: int, cause: str, why: str) -> None:
+        """Warns of what is wrong with a child's message, once in a session for each cause."""
         if (child, cause) not in self._told:
             self._told.add((child, cause))
-            self._say(f"{self._topics.bid(self._node, child)} {why}")
+            self._log.warning(f"{self._topics.bid(self._node, child)} {why}")
 
 
 def digest_of(frame: Bid | Gone) -> str:

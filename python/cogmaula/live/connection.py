@@ -10,6 +10,7 @@ from collections.abc import Callable
 from typing import Any
 
 from ..errors import NoPackage
+from ..logs import NodeLog
 from .settings import BrokerSettings
 
 # The pauses between tries in seconds: the first, and the longest; each is twice the one before.
@@ -105,7 +106,7 @@ def _ending(loop: Callable[..., Any], settings: BrokerSettings, ended: threading
 def keep_connected(
     connection: Callable[[], tuple[bool, str]],
     closing: threading.Event,
-    say: Callable[[str], None],
+    log: NodeLog,
     address: str,
     pauses: tuple[float, float],
 ) -> None:
@@ -120,7 +121,7 @@ def keep_connected(
         if closing.is_set():
             return
         pause = pauses[0] if was_there else pause
-        say(f"{address}: {why}. The next try is in {pause:g} s")
+        log.warning(f"{address}: {why}. The next try is in {pause:g} s")
         closing.wait(pause)
         pause = min(2 * pause, pauses[1])
 

@@ -8,6 +8,8 @@ import threading
 from collections.abc import Callable
 from typing import Protocol
 
+from ..logs import NodeLog
+
 # The longest line taken, in bytes, and the most lines that wait to be written.
 LONGEST, WAITING = 32_768, 1_000
 PIECE = 65_536
@@ -16,8 +18,8 @@ PIECE = 65_536
 class Control(Protocol):
     """What offers powers for a device and is told its setpoints."""
 
-    def start(self, notify: Callable[[bytes], None], say: Callable[[str], None]) -> None:
-        """Calls `notify` with each offer from now on, from any thread, and `say` with a line about what is wrong."""
+    def start(self, notify: Callable[[bytes], None], log: NodeLog) -> None:
+        """Calls `notify` with each offer from now on, from any thread, and tells the log what is wrong."""
 
     def write(self, setpoint: bytes) -> None:
         """Takes a setpoint, and does not wait."""
@@ -32,9 +34,9 @@ class StandardControl:
         self._writes = writes
         self._lines: queue.Queue[bytes] = queue.Queue(WAITING)
 
-    def start(self, notify: Callable[[bytes], None], say: Callable[[str], None]) -> None:
+    def start(self, notify: Callable[[bytes], None], log: NodeLog) -> None:
         """See Control."""
-        self._notify, self._say = notify, say
+        self._notify, self._log = notify, log
         for work in (self._read_all, self._write_all):
             threading.Thread(target=work, daemon=True).start()
 
@@ -43,7 +45,7 @@ class StandardControl:
         try:
             self._lines.put_nowait(setpoint)
         except queue.Full:
-            self._say(f"a setpoint is not written: {WAITING} wait, since nobody reads standard output")
+            self._log.warning(f"a setpoint is not written: {WAITING} wait, since nobody reads standard output")
 
     def _read_all(self) -> None:
         kept = b""
@@ -55,10 +57,10 @@ class StandardControl:
                     if line.strip():
                         self._notify(line)
                 if len(kept) > LONGEST:
-                    self._say(f"a line of standard input is above {LONGEST} bytes, and is dropped")
+                    self._log.warning(f"a line of standard input is above {LONGEST} bytes, and is dropped")
                     kept = b""
         except OSError as error:
-            self._say(f"standard input cannot be read: {error.strerror}")
+            self._log.warning(f"standard input cannot be read: {error.strerror}")
         if kept.strip():
             self._notify(kept)
 
@@ -69,4 +71,4 @@ class StandardControl:
                 while line:
                     line = line[os.write(self._writes, line) :]
         except OSError as error:
-            self._say(f"standard output cannot be written, {error.strerror}: setpoints go to the topic alone")
+            self._log.warning(f"standard output cannot be written, {error.strerror}: setpoints go to the topic alone")

@@ -2,8 +2,8 @@
 
 from __future__ import annotations
 
-from collections.abc import Callable
 
+from ..logs import NodeLog
 from .control import Control
 from .frames import Setpoint
 from .keeping import Keeping
@@ -24,7 +24,7 @@ class Controlling:
         offers: Offers,
         silence: Silence,
         control: Control | None,
-        say: Callable[[str], None],
+        log: NodeLog,
     ) -> None:
         """Takes what the node has."""
         self._settings = settings
@@ -32,7 +32,7 @@ class Controlling:
         self._offers = offers
         self._silence = silence
         self._control = control
-        self._say = say
+        self._log = log
         # The stored setpoint and the heartbeat that the control was told last.
         self._told: tuple[str, str] | None = None
         self.is_silent = False
@@ -80,7 +80,7 @@ class Controlling:
             return
         if self.is_silent:
             self.is_silent, self._told = False, None
-            self._say("the market is back")
+            self._log.info("the market is back")
             self._write(back_bytes(self._silence.newest or now_text()))
         stored = self._keeping.stored
         if stored is None or not stored.setpoint:
@@ -94,7 +94,7 @@ class Controlling:
 
     def _tell_silence(self) -> None:
         silence = self._silence
-        self._say(f"the market is silent: {silence.why}. The control is told its fallback, {self._settings.fallback} W")
+        self._log.warning(f"the market is silent: {silence.why}. The control is told its fallback, {self._settings.fallback} W")
         told = SilentMessage(silence.since, self._settings.fallback, silence.why).to_bytes()
         self._write(told)
         self._keeping.publish(self._settings.own_topic("setpoint"), told, now_text())

@@ -5,6 +5,7 @@ from __future__ import annotations
 import json
 from collections.abc import Callable, Iterable
 
+from ..logs import NodeLog
 from .broker import Link, Message
 from .children import Children, Heard
 from .errors import BadMessage, BadSettings
@@ -30,7 +31,7 @@ class Letting:
         keeping: Keeping,
         link: Link,
         children: Children,
-        say: Callable[[str], None],
+        log: NodeLog,
         feed: Callable[[bytes], None],
         has_news: Callable[[], None],
     ) -> None:
@@ -39,7 +40,7 @@ class Letting:
         self._keeping = keeping
         self._link = link
         self._children = children
-        self._say = say
+        self._log = log
         self._feed = feed
         self._has_news = has_news
         self.lapses = Lapses()
@@ -93,7 +94,7 @@ class Letting:
     def take_bid(self, child: int, message: Message, now: float) -> None:
         """Takes a message on the topic of a child's bids. One that renews a bid is not fed, unless the child was let go."""
         if child == self._settings.place_of_limits:
-            self._say(f"{message.topic} is not taken: child {child} is the place in which limits are given")
+            self._log.warning(f"{message.topic} is not taken: child {child} is the place in which limits are given")
             return
         if now < self._not_before.get(child, now):
             self._waiting[child] = message
@@ -138,7 +139,7 @@ class Letting:
         try:
             self._link.also_read(self._settings.topics.of(require_name(heard.node, "node"), "state"))
         except BadSettings:
-            self._say(f"child {child} does not say a name: its last will is not seen")
+            self._log.warning(f"child {child} does not say a name: its last will is not seen")
 
     def _clear(self, what: str, child: int) -> None:
         """Clears a topic of a child, if something was published there."""
@@ -157,7 +158,7 @@ class Letting:
             why = f"outside {bound.least} to {bound.greatest} watts"
         else:
             why = "too much"
-        self._say(f"bid {frame.number} of child {frame.child} is {why}: it does not count, and the one before does")
+        self._log.warning(f"bid {frame.number} of child {frame.child} is {why}: it does not count, and the one before does")
         topic = self._settings.topics.at(self._settings.name, "refused", frame.child)
         self._keeping.publish(topic, json.dumps({**told, "why": why}).encode(), now_text())
 
@@ -168,7 +169,7 @@ class Letting:
         try:
             told = StateMessage.of(message.payload) if message.payload else None
         except BadMessage as error:
-            self._say(f"{message.topic} is not taken: {error}")
+            self._log.warning(f"{message.topic} is not taken: {error}")
             return
         if told is not None and told.parent == self._settings.name and told.child is not None:
             self.lapses.state(message.topic.split("/")[-2], told.child, told.state == "up", now)
@@ -176,11 +177,11 @@ class Letting:
     def drop(self, child: int) -> None:
         """Lets a child go by the word of an operator, if it is a device that bids."""
         if not self._is_device(child):
-            self._say(f"child {child} is not let go: it is a relay, or the place in which limits are given")
+            self._log.warning(f"child {child} is not let go: it is a relay, or the place in which limits are given")
         elif child in self._lapsed:
             self._tell_lapse(child, "it was let go before")
         elif not self._number(child):
-            self._say(f"child {child} is not let go: it has not bid in this session")
+            self._log.warning(f"child {child} is not let go: it has not bid in this session")
         else:
             self._let_go(child, "by the word of an operator")
 
@@ -208,7 +209,7 @@ class Letting:
         self._keeping.change(lapsed={**self._lapsed, child: self._number(child) | 1})
         self.lapses.forget(child)
         self._children.clear(child)
-        self._say(f"child {child} is let go, {why}: its bid does not count any more")
+        self._log.warning(f"child {child} is let go, {why}: its bid does not count any more")
         self._tell_lapse(child, why)
         self._has_news()
         self._feed(Expire(child).to_bytes())
@@ -218,7 +219,7 @@ class Letting:
         self._keeping.publish(self._settings.topics.at(self._settings.name, "lapsed", child), told.to_bytes(), told.time)
 
     def _comes_back(self, child: int) -> None:
-        self._say(f"child {child} is back")
+        self._log.info(f"child {child} is back")
         self._keeping.change(lapsed={lapsed_child: number for lapsed_child, number in self._lapsed.items() if lapsed_child != child})
         self._keeping.clear(self._settings.topics.at(self._settings.name, "lapsed", child))
 

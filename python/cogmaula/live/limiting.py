@@ -4,6 +4,7 @@ from __future__ import annotations
 
 from collections.abc import Callable
 
+from ..logs import NodeLog
 from .errors import BadMessage
 from .frames import Limits, OutOfLimits, RelayResume
 from .given import GivenLimits
@@ -23,14 +24,14 @@ class Limiting:
         self,
         settings: Settings,
         keeping: Keeping,
-        say: Callable[[str], None],
+        log: NodeLog,
         feed: Callable[[bytes], None],
         has_news: Callable[[], None],
     ) -> None:
         """Takes what the node has. `feed` takes frames for the service, and `has_news` notes that it has to be asked."""
         self._settings = settings
         self._keeping = keeping
-        self._say = say
+        self._log = log
         self._feed = feed
         self._has_news = has_news
         self.given = GivenLimits(settings.floor, settings.ceiling, settings.place_of_limits)
@@ -63,7 +64,7 @@ class Limiting:
         try:
             self._give(self.given.taken(data))
         except BadMessage as error:
-            self._say(f"limits are not taken: {error}")
+            self._log.warning(f"limits are not taken: {error}")
             self.given.refuse(str(error))
         self._tell()
 
@@ -73,7 +74,7 @@ class Limiting:
             return
         self._keeping.change(given=given)
         self.given.gives(given)
-        self._say(f"the limits are {given.floor} to {given.ceiling} W from the next bid on")
+        self._log.info(f"the limits are {given.floor} to {given.ceiling} W from the next bid on")
         self._has_news()
         self._feed(Limits(given.number, given.floor, given.ceiling).to_bytes())
 
@@ -88,7 +89,7 @@ class Limiting:
         if self._within_at is not None and now >= self._within_at:
             self._within_at = None
             self.given.is_kept = True
-            self._say("the limits are kept again")
+            self._log.info("the limits are kept again")
             self._tell()
 
     def bids(self, number: int, now: float) -> None:
@@ -101,7 +102,7 @@ class Limiting:
         self._out, self._within_at = frame.number, None
         if self.given.is_kept:
             self.given.is_kept = False
-            self._say(f"ALARM: {self.alarm}, in bid {frame.number}")
+            self._log.error(f"ALARM: {self.alarm}, in bid {frame.number}")
             self._tell()
 
     def resumed(self, resume: RelayResume) -> None:

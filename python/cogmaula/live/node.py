@@ -6,13 +6,14 @@ One thread does all the work, event by event. This file has the node's connectio
 from __future__ import annotations
 
 import hashlib
+import logging
 import queue
 import secrets
-import sys
 import time
 from collections.abc import Callable
 from typing import Literal
 
+from ..logs import NodeLog
 from .beginning import Beginning, resume_of
 from .broker import Arrived, Broker, Confirmed, Event, Link, Message, Publication, Settled
 from .children import SESSION, TIME
@@ -47,7 +48,7 @@ class _Offered:
 
 
 # Makes a connection that calls its first argument for events, and the second for lines.
-MakeLink = Callable[[Callable[[Event], None], Callable[[str], None]], Link]
+MakeLink = Callable[[Callable[[Event], None], NodeLog], Link]
 
 
 class Node:
@@ -57,7 +58,7 @@ class Node:
         self,
         settings: Settings,
         control: Control | None = None,
-        say: Callable[[str], None] | None = None,
+        log: NodeLog | None = None,
         make_link: MakeLink | None = None,
         tick: float = TICK,
         turns: Callable[[], None] = lambda: None,
@@ -70,12 +71,13 @@ class Node:
         self.settings = settings
         self._tick = tick
         self._turns = turns
-        self._say = say or self._say_at_standard_error
+        self._log = log or NodeLog(logging.getLogger(__name__), settings.name)
+        self._log_of_changes = self._log.of_changes()
         self._events: queue.SimpleQueue[Event | Came | Ended | _Offered | _Stop] = queue.SimpleQueue()
         self._run_id, self._started = secrets.token_hex(8), now_text()
         self._seen: dict[str, Message] = {}
         self.session: Session | None = None
-        self._state_told = self._said = self._parent_state = ""
+        self._state_told = self._parent_state = ""
         self._begun = ""
         # When the node looked last, and when it reads again what the broker retains.
         self._looked = time.monotonic()
@@ -85,18 +87,15 @@ class Node:
         if control is None and settings.sort == "device" and not settings.leave:
             control = StandardControl()
         self._control = control
-        self._link: Link = (make_link or self._broker)(self._events.put, self._say)
+        self._link: Link = (make_link or self._broker)(self._events.put, self._log)
         self._store = Store(settings.state, settings.name, settings.sort)
         self._starts, self._is_first = self._store.next_start(), True
-        self.showing = Showing(settings, self._say, lambda: [self.facts()])
-        self.serving = Serving(settings, self._store, self._link, control, self._say, self._events.put)
+        self.showing = Showing(settings, self._log, lambda: [self.facts()])
+        self.serving = Serving(settings, self._store, self._link, control, self._log, self._events.put)
 
-    def _broker(self, notify: Callable[[Event], None], say: Callable[[str], None]) -> Link:
+    def _broker(self, notify: Callable[[Event], None], log: NodeLog) -> Link:
         client_id = f"cogmaula.{self.settings.broker.prefix.replace('/', '.')}.{self.settings.name}"
-        return Broker(self.settings.broker, client_id, notify, say)
-
-    def _say_at_standard_error(self, text: str) -> None:
-        print(f"cogmaula node {self.settings.name}: {text}", file=sys.stderr, flush=True)
+        return Broker(self.settings.broker, client_id, notify, log)
 
     # The work, and its end.
 
@@ -110,7 +109,7 @@ class Node:
             self._link.start(self._subscriptions(), lambda: self._state("down", LOST), self._marker, self._written())
             self.showing.start()
             if self._control is not None:
-                self._control.start(lambda data: self._events.put(_Offered(data)), self._say)
+                self._control.start(lambda data: self._events.put(_Offered(data)), self._log)
             while not (self.settings.leave and self.serving.has_left):
                 self.serving.counts.turned = time.monotonic()
                 self._turns()
@@ -126,7 +125,7 @@ class Node:
             why = "stopped"
             if self.settings.leave and self.serving.has_left:
                 why = f"it has left: child {self.settings.child} of {self.settings.parent} is gone as of number {self.serving.last}"
-                self._say(why)
+                self._log.info(why)
         except (LiveError, OSError) as error:
             why = str(error)
             raise
@@ -302,7 +301,7 @@ class Node:
             if price.child != self.settings.child:
                 raise BadFrame(f"it names child {price.child}")
         except BadFrame as error:
-            self._say(f"{message.topic} is not taken: {error}")
+            self._log.warning(f"{message.topic} is not taken: {error}")
             return
         if isinstance(price, Old):
             self.serving.hear_old(price)
@@ -317,7 +316,7 @@ class Node:
             try:
                 self.serving.beating.hear(message.payload, time.monotonic(), message.retained)
             except BadMessage as error:
-                self._say(f"{message.topic} is not taken: {error}")
+                self._log.warning(f"{message.topic} is not taken: {error}")
 
     def _take_word(self, message: Message, is_lapse: bool) -> None:
         """Takes what the parent says of this child: it has let it go, or its bid is too much."""
@@ -326,13 +325,13 @@ class Node:
         try:
             told = object_of(message.payload, "the word of the parent")
         except BadMessage as error:
-            self._say(f"{message.topic} is not taken: {error}")
+            self._log.warning(f"{message.topic} is not taken: {error}")
             return
         number, why = told.get("number"), str(told.get("why", ""))[:200]
         if is_lapse and type(number) is int:
             self.serving.hear_lapse(number, why, time.monotonic())
         elif not is_lapse:
-            self._say(f"{self.settings.parent} does not take bid {number}: it is {why}. The one before counts")
+            self._log.warning(f"{self.settings.parent} does not take bid {number}: it is {why}. The one before counts")
 
     def _take_offer(self, message: Message) -> None:
         """Takes an offer of the topic. One that was known before, and that the broker kept, does not say that the control lives."""
@@ -349,25 +348,22 @@ class Node:
         try:
             told = StateMessage.of(message.payload) if message.payload else None
         except BadMessage as error:
-            self._say(f"{message.topic} is not taken: {error}")
+            self._log.warning(f"{message.topic} is not taken: {error}")
             return
         if told is not None and told.version != VERSION:
-            self._say_once(f"{self.settings.parent} is of version {told.version}, and this node of {VERSION}: install this version there")
+            self._log_of_changes.error(f"{self.settings.parent} is of version {told.version}, and this node of {VERSION}: install this version there")
         if told is not None and told.state != (self._parent_state or "up"):
-            self._say(f"{self.settings.parent} is {'up again' if told.state == 'up' else f'down: {told.why}'}")
+            if told.state == "up":
+                self._log.info(f"{self.settings.parent} is up again")
+            else:
+                self._log.warning(f"{self.settings.parent} is down: {told.why}")
         self._parent_state = "" if told is None else told.state
 
     # Sessions.
 
     @property
     def _beginning(self) -> Beginning:
-        return Beginning(self.settings, self._store, self._seen, self._say_once)
-
-    def _say_once(self, text: str) -> None:
-        """Says a line, unless it is the one that was said last."""
-        if text != self._said:
-            self._said = text
-            self._say(text)
+        return Beginning(self.settings, self._store, self._seen, self._log_of_changes)
 
     def _settle(self) -> None:
         """Begins, or goes on after a connection was lost."""
@@ -445,7 +441,7 @@ class Node:
         elif self.settings.sort == "auctioneer":
             raise NodeRefused(f"another auctioneer has begun session {told.session.id}: end one of the two")
         else:
-            self._say(f"session {self.session.id} is over: session {told.session.id} has begun")
+            self._log.info(f"session {self.session.id} is over: session {told.session.id} has begun")
             self.session = None
             self.serving.end("it waits for its session")
             self._begin()
@@ -460,15 +456,15 @@ class Node:
 def make_node(
     settings: Settings,
     control: Control | None = None,
-    say: Callable[[str], None] | None = None,
+    log: NodeLog | None = None,
     turns: Callable[[], None] = lambda: None,
 ) -> Node:
     """A node of the live market, to be worked by `run`.
 
     control: of a device, by default standard input and output
-    say:     takes each line about what is wrong, by default to standard error
+    log:     takes the lines, by default the logger of this module, with the name of the node
     turns:   is called at each turn of the node's loop
 
     Raises BadStore if another process has the folder of its state, NoPackage if paho is missing, and OSError.
     """
-    return Node(settings, control, say, turns=turns)
+    return Node(settings, control, log, turns=turns)

@@ -6,6 +6,7 @@ from collections.abc import Callable, Mapping
 from datetime import datetime, timedelta, timezone
 
 from ..cluster import Basis
+from ..logs import NodeLog
 from .errors import BadMessage
 from .frames import DeviceResume, Leave, Offer, Points, ResumeGone, Stated, Wanted
 from .kinds import DeviceKind
@@ -23,7 +24,7 @@ class Offers:
         self,
         basis: Basis,
         validity: float | None,
-        say: Callable[[str], None],
+        log: NodeLog,
         kind: DeviceKind | None = None,
         answer: Callable[[str], None] = lambda why: None,
     ) -> None:
@@ -35,7 +36,7 @@ class Offers:
         """
         self._basis = basis
         self._validity = validity
-        self._say = say
+        self._log = log
         self._kind = kind
         self._answer = answer
         # The digest of the newest offer at the topic, and what the control offered last, with its reference.
@@ -139,7 +140,7 @@ class Offers:
             self._drop("it was known before, and its validity has ended")
 
     def _drop(self, why: str) -> None:
-        self._say(f"an offer is not taken: {why}")
+        self._log.warning(f"an offer is not taken: {why}")
         self._answer(why)
 
     def _want_offer(self, frame: Wanted, reference: int | None) -> None:
@@ -181,7 +182,7 @@ class Offers:
     def due(self, now: float) -> Wanted | None:
         """What to ask the agent for now, or None. It counts as asked."""
         if self._until is not None and now > self._until and self.current is not None and not isinstance(self._wanted, Leave):
-            self._say("the control was silent for longer than the validity of its offer: the device leaves")
+            self._log.warning("the control was silent for longer than the validity of its offer: the device leaves")
             self._wanted, self._offered = Leave(), None
         if self._wanted is None or self._asked is not None or now < self._not_before:
             return None

@@ -21,6 +21,7 @@ from typing import Any
 from urllib.parse import urlsplit
 
 from ..errors import NoPackage
+from ..logs import NodeLog
 from .board import Board
 from .counting import NodeFacts
 from .metrics import metrics_bytes
@@ -85,7 +86,7 @@ class Page:
         settings: PageSettings,
         prefix: str,
         board: Board,
-        say: Callable[[str], None],
+        log: NodeLog,
         own: str | None = None,
         facts: Callable[[], list[NodeFacts]] = list,
         pause: float = PAUSE,
@@ -102,8 +103,8 @@ class Page:
         self.settings = settings
         self._prefix, self._own, self._facts, self._note = prefix, own, facts, note
         self._board = board
-        self._say = say
-        self._said: set[str] = set()
+        self._log = log
+        self._warned: set[str] = set()
         self._pause = pause
         self._html = page_bytes()
         self._policy = policy_of(self._html)
@@ -148,10 +149,10 @@ class Page:
             with contextlib.suppress(RuntimeError):
                 loop.call_soon_threadsafe(work)
 
-    def _say_once(self, text: str) -> None:
-        if text not in self._said:
-            self._said.add(text)
-            self._say(text)
+    def _warn_once(self, text: str) -> None:
+        if text not in self._warned:
+            self._warned.add(text)
+            self._log.warning(text)
 
     # The thread.
 
@@ -162,9 +163,9 @@ class Page:
                 asyncio.run(self._serve())
             except OSError as error:
                 why = os.strerror(error.errno) if error.errno else str(error)
-                self._say_once(f"the page cannot be served at {self.settings.listen} ({why}): it is tried again each {self._pause:g} s")
+                self._warn_once(f"the page cannot be served at {self.settings.listen} ({why}): it is tried again each {self._pause:g} s")
             except Exception as error:
-                self._say_once(f"the page has failed ({error!r}): it is tried again each {self._pause:g} s")
+                self._warn_once(f"the page has failed ({error!r}): it is tried again each {self._pause:g} s")
             self._loop = None
             self._closing.wait(self._pause)
 
@@ -207,7 +208,7 @@ class Page:
             self._trend.take(time.time(), view)
             return json.dumps({**told, **view.to_json()})
         except Exception as error:
-            self._say_once(f"the page cannot show the market: {error!r}")
+            self._warn_once(f"the page cannot show the market: {error!r}")
             return json.dumps({**told, "fault": repr(error)})
 
     async def _tell_news(self) -> None:

@@ -4,9 +4,9 @@ from __future__ import annotations
 
 import threading
 import time
-from collections.abc import Callable
 from typing import Any
 
+from ..logs import NodeLog
 from .board import Board
 from .broker import FLOOD, Message
 from .connection import (
@@ -41,7 +41,7 @@ class Reader:
         settings: BrokerSettings,
         client_id: str,
         board: Board,
-        say: Callable[[str], None],
+        log: NodeLog,
         pauses: tuple[float, float] = (FIRST_PAUSE, LONGEST_PAUSE),
     ) -> None:
         """Takes the settings with the login that reads, the board, and a call for lines. Raises NoPackage if paho is missing."""
@@ -50,7 +50,7 @@ class Reader:
         self._topics_of_market = Topics(settings.prefix)
         self._client_id = client_id
         self._board = board
-        self._say = say
+        self._log = log
         self._pauses = pauses
         self._closing = threading.Event()
         self._is_there = False
@@ -75,7 +75,7 @@ class Reader:
         return [f"{self.settings.prefix}/{kind}" for kind in SHOWN]
 
     def _run(self) -> None:
-        keep_connected(self._connection, self._closing, self._say, self.settings.address, self._pauses)
+        keep_connected(self._connection, self._closing, self._log, self.settings.address, self._pauses)
 
     def _connection(self) -> tuple[bool, str]:
         """Makes one connection, and waits for its end: whether it was there, and why it ended."""
@@ -128,7 +128,7 @@ class Reader:
         self._came_at = time.monotonic()
         for code in codes:
             if code.value >= REFUSED:
-                self._say(f"{self.settings.address} does not let {self.settings.user or 'the page'} read {self.settings.prefix}/# ({code})")
+                self._log.warning(f"{self.settings.address} does not let {self.settings.user or 'the page'} read {self.settings.prefix}/# ({code})")
 
     def _on_message(self, client: Any, message: Any) -> None:
         if message.retain:
@@ -150,7 +150,7 @@ class Reader:
         word = f"{self.settings.prefix}/+/{parts[1]}" + ("" if parts[2] is None else "/+")
         if word not in self._rested:
             self._rested[word] = now
-            self._say(f"{topic}: more than {FLOOD} messages a second come: {word} is not read for {REST:g} s")
+            self._log.warning(f"{topic}: more than {FLOOD} messages a second come: {word} is not read for {REST:g} s")
             client.unsubscribe(word)
 
     def _on_disconnect(self, code: Any, ended: threading.Event, words: list[str]) -> None:

@@ -13,6 +13,7 @@ from collections import deque
 from collections.abc import Callable, Collection
 from dataclasses import replace
 
+from ..logs import NodeLog
 from .asking import Asking
 from .beating import Beating
 from .bids import BidLog
@@ -76,24 +77,24 @@ class Serving:
         store: Store,
         link: Link,
         control: Control | None,
-        say: Callable[[str], None],
+        log: NodeLog,
         notify: Callable[[Came | Ended], None],
     ) -> None:
         """Takes what the node has. `notify` is called from other threads with what the service does, to come back by `take`."""
         self._settings = settings
         self._link = link
-        self._say = say
+        self._log = log
         self._notify = notify
-        self.children = Children(settings.name, settings.topics, settings.basis.steps, link, say)
-        self.offers = Offers(settings.basis, settings.offer_validity, say, settings.device, self._answer)
+        self.children = Children(settings.name, settings.topics, settings.basis.steps, link, log)
+        self.offers = Offers(settings.basis, settings.offer_validity, log, settings.device, self._answer)
         self._asking = Asking(settings.period, settings.pause)
         self._recording = Recording(settings)
         self.keeping = Keeping(store, link)
         self._bids = BidLog(store.folder, settings.basis.steps)
         self.beating = Beating(settings, self.keeping, link)
-        self.controlling = Controlling(settings, self.keeping, self.offers, self.beating.silence, control, say)
-        self.letting = Letting(settings, self.keeping, link, self.children, say, self._feed, self._asking.has_news)
-        self.limiting = Limiting(settings, self.keeping, say, self._feed, self._asking.has_news)
+        self.controlling = Controlling(settings, self.keeping, self.offers, self.beating.silence, control, log)
+        self.letting = Letting(settings, self.keeping, link, self.children, log, self._feed, self._asking.has_news)
+        self.limiting = Limiting(settings, self.keeping, log, self._feed, self._asking.has_news)
         self.counts = Counts()
         self.service: Service | None = None
         self.resume: Resume | None = None
@@ -280,7 +281,7 @@ class Serving:
             self._feed((Clear() if self._settings.sort == "auctioneer" else Send()).to_bytes())
         since = self.offers.since if self._settings.sort == "device" else self._asking.since
         if since is not None and now > max(since, self._came_at) + PATIENCE and not self._pending:
-            self._say(f"the service has not answered for {PATIENCE:g} s: it is ended")
+            self._log.warning(f"the service has not answered for {PATIENCE:g} s: it is ended")
             self._came_at = now
             self.service.kill()
 
@@ -351,7 +352,7 @@ class Serving:
         self._pause = 0.0 if now > self._born + LIVED else min(max(FIRST_PAUSE, 2 * self._pause), LONGEST_PAUSE)
         self._restart_at = now + self._pause
         self.why_down = f"the service has ended, {why}"
-        self._say(f"{self.why_down}; it starts anew from its newest Resume in {self._pause:g} s")
+        self._log.warning(f"{self.why_down}; it starts anew from its newest Resume in {self._pause:g} s")
 
     # The frames of the service.
 
@@ -394,7 +395,7 @@ class Serving:
                 self.limiting.out_of_limits(frame)
             case OtherBasis():
                 self.other_basis += 1
-                self._say(f"the price of clearing {frame.index} is of another basis, and is not taken: give {self._settings.parent} this basis")
+                self._log.warning(f"the price of clearing {frame.index} is of another basis, and is not taken: give {self._settings.parent} this basis")
             case NotChanged():
                 self._asking.answered()
                 self._lacking = []
@@ -408,9 +409,9 @@ class Serving:
             case OutOfNumbers():
                 self._asking.answered()
                 self.offers.ended()
-                self._say("no number is left: begin a new session at the auctioneer")
+                self._log.error("no number is left: begin a new session at the auctioneer")
             case Fault():
-                self._say(f"the service refused the frame at byte {frame.offset}")
+                self._log.error(f"the service refused the frame at byte {frame.offset}")
                 if frame.offset == size_of(Hello, 0) and self.stored is not None and self.stored.frame:
                     raise OtherTerms(
                         f"the service refuses the Resume of session {self.stored.session.id}: give this node the limits and the program "
@@ -485,7 +486,7 @@ class Serving:
         self._lacking = self.children.lacking(self.resume.numbers)
         if now >= self._lines_from:
             self._lines_from = now + BETWEEN_LINES
-            self._say(f"{self._words_of_lacking}: are their nodes up?")
+            self._log.warning(f"{self._words_of_lacking}: are their nodes up?")
 
 
 def is_of_another_price(before: DeviceResume, now: DeviceResume) -> bool:

@@ -6,6 +6,7 @@ from collections.abc import Callable, Iterable
 from dataclasses import replace
 
 from ..errors import MarketError
+from ..logs import NodeLog
 from .board import Board
 from .broker import Message
 from .counting import NodeFacts
@@ -23,10 +24,10 @@ def reading_settings(page: PageSettings, broker: BrokerSettings) -> BrokerSettin
 class Showing:
     """The page of a node. No call raises or waits for long: what is wrong with the page is a line."""
 
-    def __init__(self, settings: Settings, say: Callable[[str], None], facts: Callable[[], list[NodeFacts]] = list) -> None:
-        """Takes the settings of the node, a call for lines, and what the node tells of itself. Without a page in them there is none."""
-        self._say = say
-        self._board = Board(say)
+    def __init__(self, settings: Settings, log: NodeLog, facts: Callable[[], list[NodeFacts]] = list) -> None:
+        """Takes the settings of the node, a log, and what the node tells of itself. Without a page in them there is none."""
+        log_of_page = log.of_part("page")
+        self._board = Board(log)
         self._page: Page | None = None
         self._reader: Reader | None = None
         page, broker = settings.page, settings.broker
@@ -34,16 +35,13 @@ class Showing:
             return
         try:
             own = None if page.whole else settings.name
-            self._page = Page(page, broker.prefix, self._board, self._say_of_page, own, facts)
+            self._page = Page(page, broker.prefix, self._board, log_of_page, own, facts)
             if page.whole:
                 client_id = f"cogmaula.{broker.prefix.replace('/', '.')}.{settings.name}.page"
-                self._reader = Reader(reading_settings(page, broker), client_id, self._board, self._say_of_page)
+                self._reader = Reader(reading_settings(page, broker), client_id, self._board, log_of_page)
         except (MarketError, OSError) as error:
             self._page = None
-            self._say_of_page(str(error))
-
-    def _say_of_page(self, text: str) -> None:
-        self._say(f"page: {text}")
+            log_of_page.error(str(error))
 
     def start(self) -> None:
         """Serves from now on, if there is a page."""

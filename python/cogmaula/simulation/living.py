@@ -7,6 +7,7 @@ a limited one keeps its limits. What the devices are is a model, and no part of 
 from __future__ import annotations
 
 import json
+import logging
 import shutil
 import tempfile
 import threading
@@ -27,6 +28,7 @@ from ..live.messages import StateMessage, members_of
 from ..live.node import Node
 from ..live.page_settings import PageSettings
 from ..live.settings import Settings
+from ..logs import NodeLog
 from ..nodes import AUCTIONEER, Limited
 from ..program import LIVE_VARIABLE
 from .life import Life
@@ -55,7 +57,7 @@ class ModelControl:
         self.power = 0
         self.is_told = False
 
-    def start(self, notify: Callable[[bytes], None], _say: Callable[[str], None]) -> None:
+    def start(self, notify: Callable[[bytes], None], _log: NodeLog) -> None:
         """See Control."""
         with self._lock:
             self._notify = notify
@@ -91,14 +93,15 @@ class LivingCluster:
         speed: float = 60.0,
         page: PageSettings | None = None,
         tell: Callable[[str], None] = print,
-        say: Callable[[str], None] = print,
+        log: NodeLog | None = None,
     ) -> None:
         """Takes a cluster that the program takes.
 
         live:  the program `live`
         speed: how many seconds of the devices pass in a second
         page:  where a page of the market is served, None for no page
-        tell:  takes a line for each phase and each new price; `say` one for what is wrong
+        tell:  takes a line for each phase and each new price
+        log:   takes what is wrong, by default the logger of this module
 
         Raises BadSettings for a name or limits that no node of a living market has, and NoProgram if there is no program `live`.
         """
@@ -108,7 +111,7 @@ class LivingCluster:
         self._live = live
         self._speed = speed
         self._tell = tell
-        self._say = say
+        self._log = log or NodeLog(logging.getLogger(__name__))
         self.life = Life(cluster)
         self.exchange = Exchange()
         self.controls = {name: ModelControl() for name in self.life.devices}
@@ -117,7 +120,7 @@ class LivingCluster:
         self.topics = self._settings[0].topics
         self._page = page
         self._running: list[Running] = []
-        self._showing = Showing(page, self.topics.prefix, self.exchange, say, self.facts, NOTE)
+        self._showing = Showing(page, self.topics.prefix, self.exchange, self._log, self.facts, NOTE)
         self._stopping = threading.Event()
         self._newest: Price | None = None
 
@@ -174,14 +177,10 @@ class LivingCluster:
         for settings in self._settings:
             control = self.controls.get(settings.name)
             tick = TICK if settings.sort == "device" else EVERY / 10
-            node = Node(settings, control, self._saying(settings.name), self.exchange.link, tick)
+            node = Node(settings, control, self._log.of_node(settings.name), self.exchange.link, tick)
             self._running.append(Running(node, lambda _: None))
             if settings.sort != "device":
                 self._wait_for(settings.name)
-
-    def _saying(self, name: str) -> Callable[[str], None]:
-        """What takes the lines of a node."""
-        return lambda text: self._say(f"{name}: {text}")
 
     def _wait_for(self, name: str) -> None:
         """Waits until a node is in its session. Raises LiveError if it does not come."""
@@ -262,7 +261,7 @@ class LivingCluster:
         try:
             found = frame_of(message.payload, PRICES, self._cluster.basis.steps)
         except LiveError as error:
-            self._say(f"{message.topic}: {error}")
+            self._log.warning(f"{message.topic}: {error}")
             return
         if isinstance(found, Price) and (self._newest is None or found.index > self._newest.index):
             self._newest = found

@@ -16,6 +16,7 @@ from pathlib import Path
 import pytest
 from brokers import SECONDS, TOP, Certificates, Mosquitto, free_port, require_broker, wait_until
 from hubs import HubInThread
+from logged import log_to
 
 from cogmaula.agent import Agent, agent_settings_of, running
 from cogmaula.agent.modbus import Modbus, ModbusPlace
@@ -79,7 +80,7 @@ class Working:
 
     def __init__(self, tables, folder=Path()):
         self.said = []
-        self.agent = Agent(agent_settings_of(tables, folder), self.said.append)
+        self.agent = Agent(agent_settings_of(tables, folder), log_to(self.said.append))
         self.thread = threading.Thread(target=self.agent.run)
 
     def __enter__(self):

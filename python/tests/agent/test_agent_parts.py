@@ -8,6 +8,7 @@ import threading
 from datetime import datetime
 
 import pytest
+from logged import log_to
 
 from cogmaula.agent import Guard, Limits, agent_settings_of
 from cogmaula.agent.modbus import ModbusPlace
@@ -24,7 +25,7 @@ from cogmaula.simulation import Battery, HeatPump
 def told(limits, *events):
     """What is written over time. Events are (second, power) for a setpoint, (second, None) for a look alone. Gives (second, watts), and the lines."""
     said, found = [], []
-    guard = Guard(limits, said.append, 0.0)
+    guard = Guard(limits, log_to(said.append), 0.0)
     for second, power in events:
         if power is not None:
             guard.hear(power, second)

@@ -19,6 +19,7 @@ from pathlib import Path
 
 import pytest
 from brokers import SECONDS, TOP, free_port, wait_until
+from logged import log_to
 
 from cogmaula.cluster import Basis
 from cogmaula.hub import Hub, HubSettings, TokenFile
@@ -66,7 +67,7 @@ class HubInThread:
         self.settings = HubSettings(**{**common, **more})
 
     def start(self):
-        self.hub = Hub(self.settings, self.said.append)
+        self.hub = Hub(self.settings, log_to(self.said.append, self.settings.name))
         self.thread = threading.Thread(target=self._run)
         self.thread.start()
         wait_until(lambda: self.hub.is_up or not self.thread.is_alive(), f"the hub is up: {self.said}")

@@ -2,9 +2,12 @@
 
 from __future__ import annotations
 
+import logging
+
 import pytest
 from brokers import Certificates, wait_until
 from hubs import CONSTANT, HubProcess, silent_connections
+from logged import QUIET
 
 from cogmaula.hub.admission import FILES_OF_AGENT, OWN_FILES, WAITING, WAITING_OF_ADDRESS, Admission, Guest, network_of
 from cogmaula.hub.lines import KINDS, WHILE, Lines
@@ -115,20 +118,19 @@ def test_what_counts_as_one_address(host, network):
 # The lines.
 
 
-def test_of_lines_of_a_kind_the_first_is_said_and_the_rest_are_counted():
-    said = []
-    lines = Lines(said.append)
+def test_of_lines_of_a_kind_the_first_is_written_and_the_rest_are_counted(caplog):
+    lines = Lines(QUIET)
     for number in range(1_000):
-        lines.say_seldom("a", f"a {number}", 10.0 + number / 100)
-    lines.say_seldom("b", "b", 11.0)
-    assert said == ["a 0", "b"]
+        lines.log_seldom(logging.WARNING, "a", f"a {number}", 10.0 + number / 100)
+    lines.log_seldom(logging.ERROR, "b", "b", 11.0)
+    assert [(record.levelname, record.message) for record in caplog.records] == [("WARNING", "a 0"), ("ERROR", "b")]
     lines.tick(10.0 + WHILE - 1)
-    assert len(said) == 2
+    assert len(caplog.messages) == 2
     lines.tick(10.0 + WHILE)
-    assert said[2:] == ["a 999 (the last of 999 such lines since the one before)"]
+    assert caplog.messages[2:] == ["a 999 (the last of 999 such lines since the one before)"]
     lines.tick(10.0 + 3 * WHILE)
-    lines.say_seldom("a", "a again", 10.0 + 3 * WHILE)
-    assert said[3:] == ["a again"]
+    lines.log_seldom(logging.WARNING, "a", "a again", 10.0 + 3 * WHILE)
+    assert caplog.messages[3:] == ["a again"]
     for kind in range(10_000):
-        lines.say_seldom(kind, "many", 500.0)
-    assert len(said) < KINDS + 5
+        lines.log_seldom(logging.WARNING, kind, "many", 500.0)
+    assert len(caplog.messages) < KINDS + 5

@@ -6,6 +6,7 @@ import asyncio
 import json
 
 import pytest
+from logged import log_to
 
 from cogmaula.cluster import Basis
 from cogmaula.hub import connection as module
@@ -59,7 +60,7 @@ class Table:
 
     def connect(self):
         channel = PretendedChannel()
-        one = Connection(channel, self.login, lambda agent: json.dumps({"welcome": agent.name}).encode(), BASIS, Lines(self.said.append))
+        one = Connection(channel, self.login, lambda agent: json.dumps({"welcome": agent.name}).encode(), BASIS, Lines(log_to(self.said.append)))
         channel.work = asyncio.create_task(one.run())
         channel.connection = one
         return channel

@@ -9,6 +9,7 @@ import time
 
 import pytest
 from brokers import TOP
+from logged import QUIET
 
 from cogmaula.cluster import Basis
 from cogmaula.errors import NoPackage
@@ -38,8 +39,8 @@ def test_the_example_ends_once_a_part_has_ended(tmp_path):
 def test_a_package_that_is_missing_is_told_with_the_python_that_lacks_it(monkeypatch, tmp_path):
     monkeypatch.setitem(sys.modules, "websockets", None)
     told = {"state": str(tmp_path), "agents": str(tmp_path / "tokens"), "basis": Basis(0, 9, 10)}
-    Hub(HubSettings(**told, listen_tcp=("127.0.0.1:0",)), lambda _: None)
+    Hub(HubSettings(**told, listen_tcp=("127.0.0.1:0",)), QUIET)
     with pytest.raises(NoPackage) as found:
-        Hub(HubSettings(**told, listen=("127.0.0.1:0",)), lambda _: None)
+        Hub(HubSettings(**told, listen=("127.0.0.1:0",)), QUIET)
     lacks = f"the package websockets, which {sys.executable} does not have. Debian's python3-websockets is for /usr/bin/python3"
     assert str(found.value) == f"listen, other than listen_tcp, needs {lacks}"

@@ -6,6 +6,7 @@ import json
 import threading
 
 import pytest
+from logged import QUIET
 
 from cogmaula.hub import Exchange
 from cogmaula.live.broker import Arrived, Message, Publication, Settled
@@ -16,7 +17,7 @@ class Reader:
 
     def __init__(self, exchange, *topics, marker=Publication("market/one/state", b"up")):
         self.events, self.marker = [], marker
-        self.link = exchange.link(self.events.append, lambda _: None)
+        self.link = exchange.link(self.events.append, QUIET)
         self.topics = topics
 
     def start(self):
@@ -144,7 +145,7 @@ def test_a_market_of_four_nodes_over_an_exchange(exchange, live, tmp_path):
     for name in ("auctioneer", "street", "house", "store"):
         sort, parent, child = PLACES[name]
         settings = Settings(sort, name, str(tmp_path / name), BASIS, live, parent, child, pause=0.05)
-        nodes[name] = Node(settings, controls.get(name), lambda _: None, exchange.link)
+        nodes[name] = Node(settings, controls.get(name), QUIET, exchange.link)
         threads.append(threading.Thread(target=nodes[name].run))
     for thread in threads:
         thread.start()

@@ -10,6 +10,7 @@ import time
 import pytest
 from brokers import Certificates, wait_until
 from hubs import CONSTANT, STEPS, HubInThread, HubProcess, TcpAgent, WebSocketAgent, clearing_step, falls_at, tokens_in
+from logged import QUIET
 
 from cogmaula.hub import Hub
 from cogmaula.live import BadStore
@@ -281,7 +282,7 @@ def test_two_hubs_side_by_side(hub, live, tmp_path):
 
 def test_a_state_is_of_one_hub_alone(hub, live, tmp_path):
     with pytest.raises(BadStore, match="is in use by another process: end it first"):
-        Hub(hub.settings, lambda _: None).run()
+        Hub(hub.settings, QUIET).run()
 
 
 def test_an_address_that_is_in_use(hub, live, tmp_path):

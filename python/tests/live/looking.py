@@ -11,6 +11,7 @@ import subprocess
 
 import pytest
 from brokers import SECONDS, wait_until
+from logged import log_to
 
 from cogmaula.live.board import Board
 from cogmaula.live.page_settings import PageSettings
@@ -37,9 +38,9 @@ class Served:
         from cogmaula.live.page import Page
 
         self.said = []
-        self.board = Board(self.said.append)
+        self.board = Board(log_to(self.said.append))
         settings = {"listen": "127.0.0.1:0", **settings}
-        self.page = Page(PageSettings(**settings), "market", self.board, self.said.append, own, facts, pause=0.1)
+        self.page = Page(PageSettings(**settings), "market", self.board, log_to(self.said.append), own, facts, pause=0.1)
         if told is not None:
             self.board.take(told.messages.values())
             self.board.settled()

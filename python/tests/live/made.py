@@ -7,6 +7,7 @@ import threading
 from dataclasses import replace
 
 from brokers import MOSQUITTO, TOP, free_port, wait_until
+from logged import log_to
 from markets import Control
 
 from cogmaula.deploy import init_market, read_tree
@@ -61,7 +62,7 @@ class MadeMarket:
         settings = replace(settings, live=live, pause=0.05, children=children, **more)
         control = self.controls[name] = Control() if sort == "device" else None
         said = self.said[name] = []
-        node = self.nodes[name] = make_node(settings, control, said.append)
+        node = self.nodes[name] = make_node(settings, control, log_to(said.append))
         self.threads[name] = threading.Thread(target=self._run, args=(name, node), daemon=True)
         self.threads[name].start()
         wait_until(lambda: node.serving.service is not None or name in self.raised, f"{name} is up: {said}")

@@ -11,6 +11,7 @@ import threading
 import time
 
 from brokers import SECONDS, TOP, wait_until
+from logged import log_to
 from pretended import PretendedControl
 
 from cogmaula.cluster import Basis
@@ -72,7 +73,7 @@ class Market:
             said = self.said.setdefault(name, [])
             self.controls[name] = Control() if PLACES[name][0] == "device" else None
             settings = self.settings(name, **more)
-            node = self.nodes[name] = make_node(settings, None if settings.leave else self.controls[name], said.append)
+            node = self.nodes[name] = make_node(settings, None if settings.leave else self.controls[name], log_to(said.append))
             self.threads[name] = threading.Thread(target=self._run, args=(name, node))
             self.threads[name].start()
         wait_until(lambda: all(self._is_up(name) or not self.threads[name].is_alive() for name in names), f"{names} are up: {self.said}")

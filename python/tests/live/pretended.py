@@ -4,6 +4,8 @@ from __future__ import annotations
 
 import time
 
+from logged import log_to
+
 from cogmaula.cluster import Basis
 from cogmaula.live import messages
 from cogmaula.live.broker import Arrived, Confirmed, Message, Settled
@@ -36,8 +38,8 @@ def settings(sort, folder, **more):
 class PretendedLink:
     """A connection that the test settles, loses and lets messages come by. `sent` has all publications in their order."""
 
-    def __init__(self, notify, say):
-        self.notify, self.say = notify, say
+    def __init__(self, notify, log):
+        self.notify, self.log = notify, log
         self.sent, self.newest, self.held, self.inbox = [], {}, set(), {}
         self.is_settled = self.confirms = self.has_lost = False
         self.readings = 0
@@ -132,7 +134,7 @@ class PretendedControl:
     def __init__(self):
         self.told = []
 
-    def start(self, notify, say):
+    def start(self, notify, log):
         self.offer = notify
 
     def write(self, setpoint):
@@ -145,13 +147,13 @@ class Joined:
     def __init__(self, sort, folder, **more):
         self.said = []
         self.control = PretendedControl() if sort == "device" else None
-        self.node = Node(settings(sort, folder, **more), self.control, self.said.append, self._linked)
+        self.node = Node(settings(sort, folder, **more), self.control, log_to(self.said.append), self._linked)
         self.link.start(self.node._subscriptions(), None, self.node._marker, self.node._written())
         if self.control is not None:
-            self.control.start(lambda data: self.node.serving.offers.take(data, time.monotonic()), self.said.append)
+            self.control.start(lambda data: self.node.serving.offers.take(data, time.monotonic()), log_to(self.said.append))
 
-    def _linked(self, notify, say):
-        self.link = PretendedLink(notify, say)
+    def _linked(self, notify, log):
+        self.link = PretendedLink(notify, log)
         return self.link
 
     def begun(self, *retained):

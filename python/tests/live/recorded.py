@@ -9,6 +9,7 @@ import time
 from pathlib import Path
 
 from brokers import wait_until
+from logged import log_to
 from markets import BASIS, PLACES, STEPS, Control
 from pretended import PretendedLink, turn
 
@@ -47,8 +48,8 @@ class Post:
 class PostLink(PretendedLink):
     """A node's connection to the post. All that it publishes is confirmed at once."""
 
-    def __init__(self, post, notify, say):
-        super().__init__(notify, say)
+    def __init__(self, post, notify, log):
+        super().__init__(notify, log)
         self.post, self.confirms = post, True
 
     def publish(self, publication):
@@ -78,10 +79,10 @@ class RecordedMarket:
             control = self.controls[name] = Control() if sort == "device" else None
             links = []
             make_link = lambda *arguments, made=links: made.append(PostLink(self.post, *arguments)) or made[0]  # noqa: E731
-            node = self.nodes[name] = Node(settings, control, self.said.append, make_link)
+            node = self.nodes[name] = Node(settings, control, log_to(self.said.append), make_link)
             links[0].start(node._subscriptions(), None, node._marker)
             if control is not None:
-                control.start(lambda data, node=node: node.serving.offers.take(data, time.monotonic()), self.said.append)
+                control.start(lambda data, node=node: node.serving.offers.take(data, time.monotonic()), log_to(self.said.append))
             links[0].connects()
         return self
 

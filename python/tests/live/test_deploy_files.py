@@ -120,7 +120,7 @@ def test_each_node_may_read_what_it_subscribes_to_and_write_its_will(tmp_path):
     told = tree_here(8883)
     for member in told.members:
         settings = settings_of(member.sort, tables_of(told, member, Places(tmp_path, True)))
-        node = Node(settings, None, lambda _: None, lambda *_: None)
+        node = Node(settings, None, None, lambda *_: None)
         rights = told.rights()[member.name]
         numbers = [str(child.child) for child in told.children(member.name)]
         for topic in {topic.replace("+", number) for topic in [*node._subscriptions(), *node._written()] for number in numbers or ["+"]}:

@@ -8,6 +8,7 @@ from datetime import datetime, timedelta, timezone
 
 import pytest
 from brokers import live_program, require_broker, wait_until
+from logged import log_to
 from made import MadeMarket
 from markets import STEPS, falls_at
 
@@ -114,7 +115,7 @@ def test_an_agent_has_the_login_of_a_control(made):
         made.start(name, live)
     table = read_toml(made.out / "house.control" / "house.control.toml")["broker"]
     link = NodeLink(BrokerPlace(**{word: table[word] for word in ("host", "port", "user", "password_file", "ca")}), "market", "house")
-    link.start(heard.append, said.append)
+    link.start(heard.append, log_to(said.append))
     link.offer(Offer((100,) * STEPS))
     wait_until(lambda: any(isinstance(setpoint, Setpoint) and setpoint.power == 100 for setpoint in heard), f"its setpoint: {heard} {said}")
     assert Basis(0, 9, STEPS) in heard and said == [] and "Denied" not in made.log

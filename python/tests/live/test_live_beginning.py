@@ -480,11 +480,11 @@ def test_a_device_reads_what_is_for_it_and_its_own_topics(joined):
 def test_run_ends_with_the_state_down_and_why(tmp_path, how):
     links = []
 
-    def linked(notify, say):
-        links.append(PretendedLink(notify, say))
+    def linked(notify, log):
+        links.append(PretendedLink(notify, log))
         return links[0]
 
-    node = Node(settings("device", tmp_path), PretendedControl(), lambda _: None, linked)
+    node = Node(settings("device", tmp_path), PretendedControl(), None, linked)
     raised = []
 
     def work():
@@ -511,8 +511,10 @@ def test_run_ends_with_the_state_down_and_why(tmp_path, how):
     Store(tmp_path, "house", "device").close()
 
 
-def test_lines_go_to_standard_error(tmp_path, capsys):
+def test_what_a_node_logs_has_its_name(tmp_path, caplog):
     node = Node(settings("auctioneer", tmp_path), make_link=PretendedLink)
-    node._say("hello")
-    assert capsys.readouterr().err == "cogmaula node auctioneer: hello\n"
+    node._log.warning("hello")
+    assert [(record.name, record.node, record.levelname, record.message) for record in caplog.records] == [
+        ("cogmaula.live.node", "auctioneer", "WARNING", "hello")
+    ]
     node._store.close()

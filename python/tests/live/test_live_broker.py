@@ -8,6 +8,7 @@ import time
 
 import pytest
 from brokers import SECONDS, Certificates, Mosquitto, Onlooker, free_port, passwords, require_broker, wait_until
+from logged import QUIET, log_to
 
 from cogmaula.live.broker import Broker, Confirmed, Message, Publication, Settled
 from cogmaula.live.connection import words_of, words_of_end
@@ -28,7 +29,7 @@ class Connected:
     def __init__(self, port, topics=TOPICS, written=(), **more):
         self.events, self.said, self.marks = queue.Queue(), [], 0
         settings = BrokerSettings(port=port, **more)
-        self.broker = Broker(settings, "cogmaula.market.house", self.events.put, self.said.append, pauses=(0.1, 0.4), patience=0.5)
+        self.broker = Broker(settings, "cogmaula.market.house", self.events.put, log_to(self.said.append), pauses=(0.1, 0.4), patience=0.5)
         self.broker.start(topics, lambda: WILL, self.mark, written)
 
     def mark(self):
@@ -94,7 +95,7 @@ class Numbering:
 def test_many_confirmations_wake_the_node_once():
     """None is lost: one that comes after the node has looked wakes it anew."""
     events, topics = [], [f"market/street/price/{child}" for child in range(1, 4)]
-    broker = Broker(BrokerSettings(), "cogmaula.market.street", events.append, print)
+    broker = Broker(BrokerSettings(), "cogmaula.market.street", events.append, QUIET)
     broker._settled = client = Numbering()
     for topic in topics:
         broker.publish(Publication(topic, b"5"))
@@ -108,7 +109,7 @@ def test_many_confirmations_wake_the_node_once():
 
 
 def test_the_confirmation_of_an_older_message_or_connection_does_not_count():
-    broker = Broker(BrokerSettings(), "cogmaula.market.street", lambda _: None, print)
+    broker = Broker(BrokerSettings(), "cogmaula.market.street", lambda _: None, QUIET)
     topic = "market/street/price/1"
     broker._settled = before = Numbering()
     broker.publish(Publication(topic, b"5"))
@@ -155,7 +156,7 @@ def test_what_a_node_alone_writes_comes_back_until_one_message_shows_its_rights(
 
 def test_each_connection_has_to_show_the_rights_anew():
     """Of prices that wait to come back none is missed once one came."""
-    broker = Broker(BrokerSettings(), "cogmaula.market.street", lambda _: None, print)
+    broker = Broker(BrokerSettings(), "cogmaula.market.street", lambda _: None, QUIET)
     broker._written = PRICES
     for client in (Numbering(), Numbering()):
         broker._settled = client
@@ -342,7 +343,7 @@ class Code:
 def test_other_reasons_have_their_lines():
     """Those that mosquitto gives no cause for: a busy server, a topic that may not be read, an end with a reason."""
     said = []
-    broker = Broker(BrokerSettings(), "nobody", lambda _: None, said.append)
+    broker = Broker(BrokerSettings(), "nobody", lambda _: None, log_to(said.append))
     broker._asked = {(None, 7): ["market/basis", "market/x"]}
     words = []
     broker._on_connect(None, Code(137), words)

@@ -154,18 +154,19 @@ def test_a_relay_that_goes_on_from_the_broker_counts_on_from_its_resume(joined):
     assert fed(one)[-1] == Limits(10, 0, 2).to_bytes()
 
 
-def test_limits_that_cannot_be_kept_raise_an_alarm_until_a_later_bid_keeps_them(joined):
+def test_limits_that_cannot_be_kept_raise_an_alarm_until_a_later_bid_keeps_them(joined, caplog):
     one = takes(begun(joined), given(0, 3))
     one.writes(relay_resume(1, 0, 0, numbers((1, 2), (256, 2)), TERMS, (0, 3)), Bid(3, 1, (9, 8)), OutOfLimits(1))
     told = json.loads(one.link.of("market/street/state")[-1])
     assert told["alarm"] == "no price brings the power within 0 to 3 W"
     assert state(one)["state"] == "not kept"
-    assert any(line.startswith("ALARM: no price brings") for line in one.said)
+    assert [record.levelname for record in caplog.records if record.message.startswith("ALARM: no price brings")] == ["ERROR"]
     one.writes(relay_resume(2, 0, 0, numbers((1, 4), (256, 2)), TERMS, (0, 3)), Bid(3, 2, (9, 8)), OutOfLimits(2))
     assert len([line for line in one.said if line.startswith("ALARM")]) == 1
     one.writes(relay_resume(3, 0, 0, numbers((1, 6), (256, 2)), TERMS, (0, 3)), Bid(3, 3, (3, 2)))
     one.node.serving.limiting._within_at = 0.0
     one.turned()
     assert json.loads(one.link.of("market/street/state")[-1])["alarm"] == ""
+    assert [record.levelname for record in caplog.records if record.message == "the limits are kept again"] == ["INFO"]
     assert state(one)["state"] == "waits"
     assert Send().to_bytes() in one.service.read

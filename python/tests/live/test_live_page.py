@@ -12,6 +12,7 @@ import time
 
 import pytest
 from brokers import SECONDS, wait_until
+from logged import QUIET
 from looking import Served, cells_of, dom_of, get, require_browser, require_page
 from pretended import MOMENT, settings
 from told import Told, village
@@ -285,29 +286,27 @@ def test_a_view_that_fails_is_a_line_and_says_so(served, monkeypatch):
     assert len(served.said) == 1
 
 
-def test_a_page_that_fails_leaves_the_node_alone(tmp_path, monkeypatch):
-    said = []
+def test_a_page_that_fails_leaves_the_node_alone(tmp_path, monkeypatch, caplog):
     monkeypatch.setattr(page_file.Page, "_serve", lambda _: 1 // 0)
-    showing = Showing(settings("relay", tmp_path, page=PageSettings("127.0.0.1:0")), said.append)
+    showing = Showing(settings("relay", tmp_path, page=PageSettings("127.0.0.1:0")), QUIET)
     showing.start()
-    wait_until(lambda: said, "the line")
+    wait_until(lambda: caplog.messages, "the line")
     showing.take([])
     showing.tick(True)
     showing.close(1)
-    assert said == ["page: the page has failed (ZeroDivisionError('integer division or modulo by zero')): it is tried again each 10 s"]
+    assert caplog.messages == ["page: the page has failed (ZeroDivisionError('integer division or modulo by zero')): it is tried again each 10 s"]
 
 
-def test_without_websockets_the_node_goes_on_with_a_line(tmp_path, monkeypatch):
+def test_without_websockets_the_node_goes_on_with_a_line(tmp_path, monkeypatch, caplog):
     import sys
 
-    said = []
     monkeypatch.setitem(sys.modules, "websockets", None)
-    showing = Showing(settings("relay", tmp_path, page=PageSettings("127.0.0.1:0")), said.append)
+    showing = Showing(settings("relay", tmp_path, page=PageSettings("127.0.0.1:0")), QUIET)
     showing.start()
     showing.tick(True)
     showing.close(1)
     lacks = f"a page needs the package websockets, which {sys.executable} does not have"
-    assert said == [f"page: {lacks}. Debian's python3-websockets is for /usr/bin/python3"]
+    assert caplog.messages == [f"page: {lacks}. Debian's python3-websockets is for /usr/bin/python3"]
 
 
 def test_a_node_shows_what_it_hears(joined):
@@ -323,9 +322,9 @@ def test_a_node_shows_what_it_hears(joined):
 # The board.
 
 
-def test_what_the_broker_no_longer_has_goes_with_the_next_connection():
-    changes, said = [], []
-    board = Board(said.append, most=4)
+def test_what_the_broker_no_longer_has_goes_with_the_next_connection(caplog):
+    changes = []
+    board = Board(QUIET, most=4)
     board.on_change = lambda: changes.append(board.copy()[1])
     told = Told(basis=None).put("a/state", b"1").put("b/state", b"2").put("c/state", b"3")
     board.take(told.messages.values())
@@ -344,7 +343,7 @@ def test_what_the_broker_no_longer_has_goes_with_the_next_connection():
     assert len(changes) == 6
     board.take(Told(basis=None).put("d/state", b"1").put("e/state", b"1").put("f/state", b"1").put("g/state", b"1").messages.values())
     assert len(board.copy()[0]) == 4
-    assert said == ["the page keeps 4 topics and 67108864 bytes, and shows no further ones"]
+    assert caplog.messages == ["the page keeps 4 topics and 67108864 bytes, and shows no further ones"]
 
 
 # Settings.

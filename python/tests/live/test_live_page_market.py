@@ -7,6 +7,7 @@ import subprocess
 
 import pytest
 from brokers import Mosquitto, Onlooker, live_program, passwords, require_broker, wait_until
+from logged import log_to
 from looking import cells_of, dom_of, get, require_browser, require_page
 from markets import STEPS, Market, falls_at
 
@@ -140,9 +141,9 @@ class Reading:
 
     def __init__(self, port, **more):
         self.said = []
-        self.board = Board(self.said.append)
+        self.board = Board(log_to(self.said.append))
         settings = BrokerSettings(port=port, **more)
-        self.reader = Reader(settings, "cogmaula.market.auctioneer.page", self.board, self.said.append, pauses=(0.1, 0.4))
+        self.reader = Reader(settings, "cogmaula.market.auctioneer.page", self.board, log_to(self.said.append), pauses=(0.1, 0.4))
 
     def has(self, *topics):
         """Waits until the broker has told all that it retains, and the board has these topics."""

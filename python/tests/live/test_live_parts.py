@@ -10,6 +10,7 @@ from datetime import datetime, timedelta, timezone
 
 import pytest
 from brokers import SECONDS
+from logged import log_to
 from pretended import BASIS, LATER, MOMENT, SESSION, device_resume, resume_gone
 
 from cogmaula.live.asking import Asking
@@ -77,7 +78,7 @@ def test_a_service_that_starts_anew_is_asked_again():
 
 def offers(validity=None, kind=None):
     said = []
-    one = Offers(BASIS, validity, said.append, kind)
+    one = Offers(BASIS, validity, log_to(said.append), kind)
     one.begin(None, 0)
     return one, said
 
@@ -380,7 +381,7 @@ class Ends:
         self.out_of, self.writes = os.pipe()
         self.offered, self.said = queue.Queue(), queue.Queue()
         self.control = StandardControl(self.reads, self.writes)
-        self.control.start(self.offered.put, self.said.put)
+        self.control.start(self.offered.put, log_to(self.said.put))
 
 
 def test_lines_come_in_and_go_out():
@@ -423,5 +424,5 @@ def test_a_reader_that_does_not_read_holds_nobody_up():
 def test_an_input_that_cannot_be_read_is_told():
     reads = os.open(os.curdir, os.O_RDONLY)
     said = queue.Queue()
-    StandardControl(reads, 1).start(lambda _: None, said.put)
+    StandardControl(reads, 1).start(lambda _: None, log_to(said.put))
     assert "standard input cannot be read" in said.get(timeout=SECONDS)

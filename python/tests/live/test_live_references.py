@@ -7,6 +7,7 @@ import json
 import shutil
 
 import pytest
+from logged import QUIET
 from pretended import BASIS, Joined, device_resume, resume_gone
 
 from cogmaula.live import BadMessage
@@ -50,7 +51,7 @@ class Made:
     """Offers of a market of two steps, which the test asks and answers."""
 
     def __init__(self):
-        self.offers = Offers(BASIS, None, lambda _: None)
+        self.offers = Offers(BASIS, None, QUIET)
         self.offers.begin(None, 0.0)
 
     def takes(self, demands, reference=None):

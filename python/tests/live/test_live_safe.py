@@ -10,6 +10,7 @@ import time
 from datetime import datetime, timedelta, timezone
 
 import pytest
+from logged import QUIET
 from pretended import (
     BASIS_TOPIC,
     LATER,
@@ -371,13 +372,12 @@ def test_a_topic_has_a_longest_message_and_what_is_no_topic_has_none():
         assert topics.longest(topic) == 0
 
 
-def test_a_page_keeps_so_many_bytes():
-    said = []
-    board = Board(said.append, bytes_at_most=10_000)
+def test_a_page_keeps_so_many_bytes(caplog):
+    board = Board(QUIET, bytes_at_most=10_000)
     for number in range(100):
         board.take([Message(f"market/n{number}/state", b"x" * 900)])
     assert 8_000 < sum(len(message.payload) for message in board.copy()[0].values()) <= 10_000
-    assert len(said) == 1
+    assert len(caplog.messages) == 1
     board.take([Message("market/n0/state", b""), Message("market/n99/state", b"y" * 900)])
     assert board.copy()[0]["market/n99/state"].payload == b"y" * 900
 
@@ -391,15 +391,16 @@ class Told:
         self.topic = topic
 
 
-def test_a_page_reads_a_flood_no_more_for_a_while():
-    said, let_go = [], []
-    reader = Reader(BrokerSettings(), "page", Board(said.append), said.append)
+def test_a_page_reads_a_flood_no_more_for_a_while(caplog):
+    let_go = []
+    reader = Reader(BrokerSettings(), "page", Board(QUIET), QUIET)
     client = type("Client", (), {"unsubscribe": lambda _, topic: let_go.append(topic)})()
     for number in range(1_000):
         reader._on_message(client, Told("market/street/bid/1"))
         reader._on_message(client, Told(f"market/street/bid/{2 + number % 250}"))
     assert let_go == ["market/+/bid/+"]
-    assert [line for line in said if "market/street/bid/1: more than 200 messages a second come" in line] == said
+    told = "market/street/bid/1: more than 200 messages a second come: market/+/bid/+ is not read for"
+    assert len(caplog.messages) == 1 and caplog.messages[0].startswith(told)
 
 
 @pytest.mark.parametrize("user", [None, "auctioneer"])

@@ -8,6 +8,7 @@ import threading
 
 import pytest
 from brokers import TOP, wait_until
+from logged import QUIET, log_to
 from looking import get, require_page
 
 from cogmaula import Basis, Battery, Cluster, Concentrator, Limited, Load, Solar, run
@@ -65,7 +66,7 @@ def test_the_village_lives_and_its_page_says_that_its_devices_are_models(program
     """Its first price is that of docs/CLUSTER_FILE.md, worked out there by hand: 40. Its phases of events come by the clock."""
     require_page()
     cluster, told, said = Cluster.load(EXAMPLES / "village.json"), [], []
-    living = LivingCluster(cluster, live, speed=600, page=PageSettings("127.0.0.1:0"), tell=told.append, say=said.append)
+    living = LivingCluster(cluster, live, speed=600, page=PageSettings("127.0.0.1:0"), tell=told.append, log=log_to(said.append))
     thread = threading.Thread(target=living.run)
     thread.start()
     try:
@@ -102,7 +103,7 @@ def test_limits_hold_in_a_living_cluster(program, live):
     cluster = Cluster(Basis(0, 9, 10), nodes)
     told = []
     cluster = cluster.with_phases(cluster.join_all())
-    living = LivingCluster(cluster, live, tell=told.append, say=lambda _: None)
+    living = LivingCluster(cluster, live, tell=told.append, log=QUIET)
     living.run(1)
     assert living.life.minute == 1 and living.life.devices["store"].state == 0
     assert told[-1] == "00:01 price 0: 3 devices take 500 W and give 3000 W" or told[-1].startswith("00:00 price 0: 3 devices take 500 W")
@@ -112,7 +113,7 @@ def test_a_control_offers_what_is_new_and_keeps_what_it_is_told():
     control, offered = ModelControl(), []
     control.offer(None, 1)
     control.offer(Offer((3, 2)), 1)
-    control.start(offered.append, print)
+    control.start(offered.append, QUIET)
     control.offer(Offer((3, 2)), 1)
     for second, state in ((1, 7), (1.5, 8), (2.9, 9), (3, 10)):
         control.offer(Stated(DeviceKind("load"), state), second)
