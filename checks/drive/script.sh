@@ -541,6 +541,9 @@ live device 2: input" "" "$alone"' for words in run trace bill free check ask se
 is "the version, prebuilt" 0 "market 1.2.3
 a prebuilt program is at hand, proved by the gate elsewhere on $today with kit-1
 a prebuilt program live is at hand, proved by the gate elsewhere on $today with kit-1" "" "$alone"' ./market version'
+is "the version, prebuilt, for programs" 0 "market	elsewhere	$place/market	a prebuilt program is at hand, proved by the gate elsewhere on $today with kit-1
+live	elsewhere	$place/live	a prebuilt program live is at hand, proved by the gate elsewhere on $today with kit-1" "" \
+    "$alone"' ./market version --porcelain | sed "s|$top/||g"'
 is "the help, prebuilt" 0 "Program: proved by the gate elsewhere on $today with kit-1" "" './market help | tail -n 1'
 is "nothing is read again" 0 "proved run: input" "" 'sleep 0.06; ./market demo 1 2 >/dev/null; rm "$folder/tools/cut"; ./market run'
 ln -s "$(PATH="$kept" command -v cut)" "$folder/tools/cut"
@@ -550,6 +553,8 @@ is "nor is the program of the nodes" 1 "" "market: device needs the proved progr
     './market --proved device 2'
 is "another source" 0 "tried run: input" "$first $none" 'echo more >>crates/low/src/lib.rt; ./market run'
 is "another source, serve" 1 "" "market: serve needs the proved program, since it reads a stream: $none" './market serve'
+is "another source, for programs" 0 "market	nowhere		${none/market: /}
+live	nowhere		$none_live" "" './market version --porcelain'
 is "another source, without rt" 1 "" \
     "market: there is no proved program to run, and no rt to try the sources: install the kit that kit.txt names" "$alone"' ./market run'
 is "the source put back" 0 "proved run: input" "" 'echo "a source" >crates/low/src/lib.rt; ./market run'

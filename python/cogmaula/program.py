@@ -19,8 +19,8 @@ from typing import NoReturn
 from .errors import Invalid, MarketError, NoProgram, OutOfMemory, Place, ProgramFault, Refused, TooLong, What
 
 VARIABLE, LIVE_VARIABLE = "COGMAULA_MARKET", "COGMAULA_LIVE"
-# Where a checkout has its program, by the words with which its script says that the program is at hand.
-PLACES = {"a proved program": "crates/{0}/out/{0}", "a prebuilt program": "prebuilt/x86_64-linux/{0}"}
+# Where a checkout has its program: proved here, or prebuilt.
+PLACES = ("crates/{0}/out/{0}", "prebuilt/x86_64-linux/{0}")
 REFUSED = re.compile(rb"refused (\d+) (document|basis|node|phase|event|line)((?: \d+)*?)(?: item (\d+))?\n")
 TOO_LONG = re.compile(rb"too long, more than (\d+) bytes\n")
 INVALID = re.compile(rb"invalid line (\d+)\n")
@@ -161,7 +161,7 @@ def _named(path: Path) -> Program:
     real = path.resolve()
     if _is_checkout(real.parent) and real.name == "market":
         return _of_checkout(real.parent)
-    for place in PLACES.values():
+    for place in PLACES:
         inner = Path(place.format("market"))
         above = real.parents[len(inner.parts) - 1] if len(real.parts) > len(inner.parts) else None
         if above is not None and real == above / inner and _is_checkout(above):
@@ -170,17 +170,16 @@ def _named(path: Path) -> Program:
 
 
 def _of_checkout(folder: Path, name: str = "market") -> Program:
-    """The program of a checkout, which says itself whether it was proved from the sources of today."""
-    told = subprocess.run([str(folder / "market"), "version"], capture_output=True, text=True, check=False).stdout
-    named = "" if name == "market" else f" {name}"
-    lines = told.splitlines()[1:]
-    for words, place in PLACES.items():
-        for line in lines:
-            if line.startswith(f"{words}{named} is at hand, "):
-                return _made(folder / place.format(name), f"the checkout {folder}: {line}")
-    start = f"no proved program{named} is at hand: "
-    why = next((line.removeprefix(start) for line in lines if line.startswith(start)), "its script market does not answer")
-    raise NoProgram(f"{folder}: {why}")
+    """The program of a checkout, which says itself whether it was proved from the sources of today, and where it is."""
+    told = subprocess.run([str(folder / "market"), "version", "--porcelain"], capture_output=True, text=True, check=False).stdout
+    for line in told.splitlines():
+        if line.count("\t") == 3:
+            its_name, _, place, words = line.split("\t")
+            if its_name == name and place:
+                return _made(Path(place), f"the checkout {folder}: {words}")
+            if its_name == name:
+                raise NoProgram(f"{folder}: {words}")
+    raise NoProgram(f"{folder}: its script market does not answer")
 
 
 def _installed(script: Path) -> Program | None:

@@ -9,5 +9,9 @@ class RecipeFault(MarketError):
     """Why a recipe cannot be used, with its file in front."""
 
 
+class WordsFault(RecipeFault):
+    """A table of a recipe lacks a word, or has one that is not known. The table is the subject of the message: `has no file`."""
+
+
 class TableFault(MarketError):
     """Why a table cannot be used, with its file, line and column in front."""

@@ -13,7 +13,7 @@ from typing import Any, TypeVar
 from zoneinfo import ZoneInfo
 
 from ..moments import zone_of
-from .faults import RecipeFault
+from .faults import RecipeFault, WordsFault
 
 T = TypeVar("T")
 KINDS = ("load", "solar")
@@ -224,9 +224,10 @@ def at_place(place: str, make: Callable[[], T]) -> T:
     """What is made, with the place in front of a fault."""
     try:
         return make()
+    except WordsFault as fault:
+        raise RecipeFault(f"{place} {fault}") from None
     except RecipeFault as fault:
-        between = " " if str(fault).startswith("has ") else ": "
-        raise RecipeFault(f"{place}{between}{fault}") from None
+        raise RecipeFault(f"{place}: {fault}") from None
 
 
 def table_of(path: Path, told: Mapping[str, Any]) -> Table:
@@ -340,6 +341,6 @@ def maps_of(told: Mapping[str, Any], word: str) -> list[dict[str, Any]]:
 def refuse_words(told: Mapping[str, Any], known: set[str], due: set[str]) -> None:
     """Raises RecipeFault if a word is missing or unknown."""
     for word in sorted(due - set(told)):
-        raise RecipeFault(f"has no {word}")
+        raise WordsFault(f"has no {word}")
     for word in sorted(set(told) - known):
-        raise RecipeFault(f"has {word!r}, which is unknown: {', '.join(sorted(known))} are known")
+        raise WordsFault(f"has {word!r}, which is unknown: {', '.join(sorted(known))} are known")

@@ -5,6 +5,7 @@ from __future__ import annotations
 import hashlib
 from collections.abc import Collection, Iterable
 from dataclasses import dataclass, field
+from enum import Enum, auto
 from functools import cached_property
 
 from ..logs import NodeLog
@@ -42,11 +43,22 @@ class Heard:
         return digest_of(self.frame)
 
 
+class BidFault(Enum):
+    """Why a message of a child is not taken."""
+
+    OTHER_SESSION = auto()
+    OTHER_VERSION = auto()
+    NO_FRAME = auto()
+    OTHER_CHILD = auto()
+    OLDER_NUMBER = auto()
+    NUMBER_AGAIN = auto()
+
+
 class Children:
     """The children of one node in one session."""
 
     def __init__(self, node: str, topics: Topics, steps: int, link: Link, log: NodeLog) -> None:
-        """Takes the node's name, its topics, the steps of the market, its connection, and a call for lines."""
+        """Takes the node's name, its topics, the steps of the market, its connection, and a log."""
         self._node = node
         self._topics = topics
         self._steps = steps
@@ -62,7 +74,7 @@ class Children:
         self.asked: dict[int, Heard] = {}
         # The topics of the prices for the children that were heard: they are looked at after each confirmation.
         self._price_topics: dict[int, str] = {}
-        self._told: set[tuple[int, str]] = set()
+        self._told: set[tuple[int, BidFault]] = set()
         # Of each child the number and the digest of the bid that was in the newest sum, if the broker alone has it.
         self._known: dict[int, tuple[int, str]] = {}
 
@@ -116,20 +128,20 @@ class Children:
             return None
         session = message.properties.get(SESSION, "")
         if session != self._session:
-            self._warn_once(child, "session", f"is of session {session or '(none)'} and not {self._session}: it is not taken")
+            self._warn_once(child, BidFault.OTHER_SESSION, f"is of session {session or '(none)'} and not {self._session}: it is not taken")
             return None
         if message.properties.get(FORM) != str(VERSION):
-            self._warn_once(child, "version", "comes from a node of another version: it is not taken. Install this version there")
+            self._warn_once(child, BidFault.OTHER_VERSION, "comes from a node of another version: it is not taken. Install this version there")
             return None
         try:
             frame = frame_of(message.payload, BIDS, self._steps)
         except BadFrame as error:
-            self._warn_once(child, "frame", f"is no bid, and is not taken: {error}")
+            self._warn_once(child, BidFault.NO_FRAME, f"is no bid, and is not taken: {error}")
             return None
         if not isinstance(frame, Bid | Gone):
             return None
         if frame.child != child:
-            self._warn_once(child, "child", f"names child {frame.child}, and is not taken")
+            self._warn_once(child, BidFault.OTHER_CHILD, f"names child {frame.child}, and is not taken")
             return None
         return self._numbered(child, frame, message)
 
@@ -139,10 +151,10 @@ class Children:
         newest, digest = self._known.get(child, (0, "")) if last is None else (last.number, "")
         if frame.number < newest:
             told = f"has number {frame.number}, below its last, {newest}: the child came back with an older Resume"
-            self._warn_once(child, "below", told)
+            self._warn_once(child, BidFault.OLDER_NUMBER, told)
             return None
         if frame.number == newest and (frame != last if last is not None else digest_of(frame) != digest):
-            self._warn_once(child, "again", f"has number {frame.number} once more with another bid: it is not taken, and the first counts")
+            self._warn_once(child, BidFault.NUMBER_AGAIN, f"has number {frame.number} once more with another bid: it is not taken, and the first counts")
             return None
         heard = Heard(frame, *_sender(message), is_new=frame != last)
         if heard.is_new:
@@ -210,7 +222,7 @@ class Children:
         if kept is None or kept.payload:
             self._link.publish(Publication(topic, b""))
 
-    def _warn_once(self, child: int, cause: str, why: str) -> None:
+    def _warn_once(self, child: int, cause: BidFault, why: str) -> None:
         """Warns of what is wrong with a child's message, once in a session for each cause."""
         if (child, cause) not in self._told:
             self._told.add((child, cause))

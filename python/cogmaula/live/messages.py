@@ -117,6 +117,7 @@ class StateMessage:
     alarm:   in words, what is wrong with a relay's limits, "" if there is nothing
     silent:  since when the node hears no heartbeat (RFC 3339), None if it does
     version: of the form of what the node writes
+    lost:    whether the broker told it by the last will: only the connection was lost, and the process may live
     """
 
     state: Literal["up", "down"]
@@ -134,11 +135,12 @@ class StateMessage:
     silent: str | None = None
     starts: int = 0
     version: int = VERSION
+    lost: bool = False
 
     @property
     def may_live(self) -> bool:
         """Whether the process may be there: it is up, or only its connection was lost."""
-        return self.state == "up" or self.why == LOST
+        return self.state == "up" or self.lost
 
     def to_bytes(self) -> bytes:
         """The message."""
@@ -164,7 +166,7 @@ class StateMessage:
         alarm = _text(told, "alarm", what) if "alarm" in told else ""
         silent = None if told.get("silent") is None else _text(told, "silent", what)
         starts = _whole(told, "starts", what) if "starts" in told else 0
-        more = (sort, parent, child, floor, ceiling, alarm, silent, starts, version_of(told))
+        more = (sort, parent, child, floor, ceiling, alarm, silent, starts, version_of(told), told.get("lost") is True)
         return StateMessage(told["state"], run, started, session, time, why, *more)
 
 

@@ -106,7 +106,7 @@ class Node:
         """
         why = "it failed"
         try:
-            self._link.start(self._subscriptions(), lambda: self._state("down", LOST), self._marker, self._written())
+            self._link.start(self._subscriptions(), lambda: self._state("down", LOST, lost=True), self._marker, self._written())
             self.showing.start()
             if self._control is not None:
                 self._control.start(lambda data: self._events.put(_Offered(data)), self._log)
@@ -216,14 +216,14 @@ class Node:
 
     # The node's state.
 
-    def _state(self, state: Literal["up", "down"], why: str) -> Publication:
+    def _state(self, state: Literal["up", "down"], why: str, lost: bool = False) -> Publication:
         settings = self.settings
         session = "" if self.session is None else self.session.id
         floor, ceiling = self.serving.limiting.given.newest
         limits = (floor if floor > -MOST else None, ceiling if ceiling < MOST else None)
         life = (self.serving.alarm, self.serving.silent_since(time.monotonic()))
         more = (settings.sort, settings.parent, settings.child, *limits, *life)
-        message = StateMessage(state, self._run_id, self._started, session, now_text(), why, *more, starts=self._starts)
+        message = StateMessage(state, self._run_id, self._started, session, now_text(), why, *more, starts=self._starts, lost=lost)
         return Publication(settings.own_topic("state"), message.to_bytes())
 
     def _marker(self) -> Publication:

@@ -33,7 +33,7 @@ from pretended import (
 from cogmaula.cluster import Basis
 from cogmaula.live import BadStore, NodeRefused, OtherTerms
 from cogmaula.live.frames import Fault
-from cogmaula.live.messages import LOST, BasisMessage
+from cogmaula.live.messages import BasisMessage
 from cogmaula.live.node import Node
 from cogmaula.live.store import Store
 
@@ -432,7 +432,7 @@ def test_after_a_lost_connection_the_newest_of_all_is_published_again(joined):
 
 TAKEN_OVER = [
     ("market/house/state", state_payload("b" * 16, MOMENT, starts=2), "another process runs as house since 2026"),
-    ("market/house/state", state_payload("b" * 16, MOMENT, "down", LOST, starts=2), "another process runs as house"),
+    ("market/house/state", state_payload("b" * 16, MOMENT, "down", "in any words", starts=2, lost=True), "another process runs as house"),
     ("market/house/resume", device_resume(6, 2, OFFER).to_bytes(), "house has given number 6, and the newest Resume here has 4"),
     ("market/street/bid/2", gone(2, 6).to_bytes(), "house has given number 6"),
 ]
@@ -507,7 +507,9 @@ def test_run_ends_with_the_state_down_and_why(tmp_path, how):
     told = json.loads(links[0].closed.payload)
     assert told["state"] == "down"
     assert told["why"] == ("stopped" if how == "stopped" else str(raised[0]))
-    assert json.loads(links[0].will().payload)["why"] == "the connection was lost"
+    assert told["lost"] is False
+    will = json.loads(links[0].will().payload)
+    assert (will["why"], will["lost"]) == ("the connection was lost", True)
     Store(tmp_path, "house", "device").close()
 
 

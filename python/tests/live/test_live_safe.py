@@ -226,14 +226,14 @@ def test_after_a_pause_all_is_read_again_and_it_is_no_news(joined):
 # Clocks.
 
 
-@pytest.mark.parametrize("why", [LOST, "stopped"])
+@pytest.mark.parametrize(("why", "lost"), [(LOST, True), ("stopped", False)])
 @pytest.mark.parametrize("has_disk", [True, False])
-def test_a_clock_that_is_behind_at_boot_stops_no_node(joined, tmp_path, why, has_disk):
+def test_a_clock_that_is_behind_at_boot_stops_no_node(joined, tmp_path, why, lost, has_disk):
     """The process before started tomorrow, by the clock of then. Its state is retained, and maybe its disk is there."""
     if has_disk:
         saved(tmp_path, "device", "house", device_resume(4, 2, (5, -3)))
         (tmp_path / "device" / "starts").write_text("7")
-    before = state_payload("b" * 16, "2126-01-31T06:30:00.000Z", "down", why, starts=7)
+    before = state_payload("b" * 16, "2126-01-31T06:30:00.000Z", "down", why, starts=7, lost=lost)
     one = joined("device").begun(("market/house/state", before), ("market/house/resume", device_resume(4, 2, (5, -3)).to_bytes()))
     assert one.service is not None
     assert json.loads(one.link.of("market/house/state")[-1])["starts"] == 8
