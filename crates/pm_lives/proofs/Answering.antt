@@ -43,12 +43,13 @@ use Rattle.pm_services.specs.RootAnswers.{OpenRoot, stored_root, clearing_bytes,
 use Rattle.pm_services.specs.DeviceAnswers as device
 use Rattle.pm_system.specs.Calls.{bid_kept}
 use Rattle.pm_lives.specs.Outputs.{Output, Keeps, Says, up_bytes, outputs_bytes}
-use Rattle.pm_lives.specs.RelayWrites.{receipt_outs, downs, bid_outs, again_outs, drop_outs, price_outs, WritesWaiting, WritesBid, WritesLimits, WritesPrice}
+use Rattle.pm_lives.specs.RelayWrites.{receipt_outs, downs, bid_outs, bid_again_outs, drop_outs, price_outs}
+use Rattle.pm_lives.specs.RelayWrites.{WritesWaiting, WritesBid, WritesLimits, WritesPrice}
 use Rattle.pm_lives.specs.RelayWrites.{WritesSend, WritesExpire, WritesGiven, WritesRelay}
 use Rattle.pm_lives.specs.RootWrites.{clearing_outs, WritesRootBid, WritesRoot}
 use Rattle.pm_lives.specs.DeviceWrites.{made_outs, told_outs, device_outs, agent_after}
 use Rattle.pm_lives.specs.Answering.{IsOfBasis, IsOfOtherBasis, SaysOtherBasis}
-use Rattle.pm_lives.specs.Answering.{IsNoResume, IsNoRootResume, IsNoDeviceResume, AnswersInFrames, RootAnswersInFrames}
+use Rattle.pm_lives.specs.Answering.{IsNoRelayResume, IsNoRootResume, IsNoDeviceResume, AnswersInFrames, RootAnswersInFrames}
 use Rattle.pm_lives.proofs.Downs.{written_then, downs_written}
 use Rattle.pm_lives.proofs.AgentFacts.{AreWithin, pushed_demand}
 
@@ -115,12 +116,12 @@ module _ (own : RelaySetup) where
       let w = waited old.waiting a.learnt new a.waiting_reply a.tries in
       let kept : ℕ = kept_number old.relay.gathered.cache (sender_place sender) in
       let test : Bool = eqb old.relay.gathered.window.last 0 && not (eqb a.learnt.gathered.window.last 0) in (
-        receipt_outs kept sender number ++ (again_outs old.relay a.learnt ++ w.outs),
+        receipt_outs kept sender number ++ (bid_again_outs old.relay a.learnt ++ w.outs),
         record { learnt = a.learnt; looks = a.looks; waiting_reply = w.outs; tries = w.writes; replied = refl },
-        a.replied ∙ written_then relay_resume_bytes own.basis own.child (receipt_outs kept sender number) (again_outs old.relay a.learnt ++ w.outs)
+        a.replied ∙ written_then relay_resume_bytes own.basis own.child (receipt_outs kept sender number) (bid_again_outs old.relay a.learnt ++ w.outs)
             (receipt_bytes kept sender number) (bid_again own old.relay a.learnt ++ a.waiting_reply)
             (says_written relay_resume_bytes own.basis own.child (leb number kept) (answer_bytes (reply_kind.TheVariants.Old sender kept)))
-            (written_then relay_resume_bytes own.basis own.child (again_outs old.relay a.learnt) w.outs (bid_again own old.relay a.learnt) a.waiting_reply
+            (written_then relay_resume_bytes own.basis own.child (bid_again_outs old.relay a.learnt) w.outs (bid_again own old.relay a.learnt) a.waiting_reply
             (again_written test a.learnt) w.written),
       )
 
@@ -132,12 +133,12 @@ module _ (own : RelaySetup) where
       let w = waited old.waiting a.learnt new a.waiting_reply a.tries in
       let kept : ℕ = kept_number old.relay.gathered.cache (sender_place sender) in
       let test : Bool = eqb old.relay.gathered.window.last 0 && not (eqb a.learnt.gathered.window.last 0) in (
-        receipt_outs kept sender number ++ (again_outs old.relay a.learnt ++ w.outs),
+        receipt_outs kept sender number ++ (bid_again_outs old.relay a.learnt ++ w.outs),
         record { learnt = a.learnt; looks = a.looks; waiting_reply = w.outs; tries = w.writes; replied = refl },
-        a.replied ∙ written_then relay_resume_bytes own.basis own.child (receipt_outs kept sender number) (again_outs old.relay a.learnt ++ w.outs)
+        a.replied ∙ written_then relay_resume_bytes own.basis own.child (receipt_outs kept sender number) (bid_again_outs old.relay a.learnt ++ w.outs)
             (receipt_bytes kept sender number) (bid_again own old.relay a.learnt ++ a.waiting_reply)
             (says_written relay_resume_bytes own.basis own.child (leb number kept) (answer_bytes (reply_kind.TheVariants.Old sender kept)))
-            (written_then relay_resume_bytes own.basis own.child (again_outs old.relay a.learnt) w.outs (bid_again own old.relay a.learnt) a.waiting_reply
+            (written_then relay_resume_bytes own.basis own.child (bid_again_outs old.relay a.learnt) w.outs (bid_again own old.relay a.learnt) a.waiting_reply
             (again_written test a.learnt) w.written),
       )
 
@@ -174,9 +175,9 @@ module _ (own : RelaySetup) where
   expire_answer old sender new reply a =
       let w = waited old.waiting a.learnt new a.waiting_reply a.tries in
       let test : Bool = eqb old.relay.gathered.window.last 0 && not (eqb a.learnt.gathered.window.last 0) in (
-        again_outs old.relay a.learnt ++ w.outs,
+        bid_again_outs old.relay a.learnt ++ w.outs,
         record { learnt = a.learnt; looks = a.looks; waiting_reply = w.outs; tries = w.writes; replied = refl },
-        a.replied ∙ written_then relay_resume_bytes own.basis own.child (again_outs old.relay a.learnt) w.outs (bid_again own old.relay a.learnt)
+        a.replied ∙ written_then relay_resume_bytes own.basis own.child (bid_again_outs old.relay a.learnt) w.outs (bid_again own old.relay a.learnt)
             a.waiting_reply (again_written test a.learnt) w.written,
       )
 
@@ -221,7 +222,7 @@ given_frames (Some giver) old number limits new reply is did =
     (subst (λ (g : Option ℕ). WritesGiven g old.setup old.held number limits did.0 w.0) (sym is) w.1) w.2
 
 -- what the service of a relay answers to a frame is frames that a relay writes
-pub relay_answers_frames : (old : OpenRelay) (frame : RelayFrame) (new : OpenRelay) (reply : List ℕ) → IsNoResume frame →
+pub relay_answers_frames : (old : OpenRelay) (frame : RelayFrame) (new : OpenRelay) (reply : List ℕ) → IsNoRelayResume frame →
     AnswersRelayFrame old frame new reply → AnswersInFrames old frame new reply
 relay_answers_frames old (Child (Hello basis)) new reply other did = left_frames old new (Child (Hello basis)) reply did.0 [] (refl, refl) did.1
 relay_answers_frames old (Child (Bid sender number demand)) new reply other (inl kept) =

@@ -12,7 +12,7 @@ use Rattle.pm_net.specs.Agents.{DeviceAgent}
 use Rattle.pm_net.proofs.Messages.{past}
 use Rattle.pm_net_plan.specs.Places.{Numbering}
 use Rattle.pm_control.specs.Control.{newest_demand, agent_stored, demand_of_kept}
-use Rattle.pm_relay.specs.Relays.{RelayValue, newest_bid_number, ComesBack}
+use Rattle.pm_relay.specs.Relays.{RelayValue, newest_bid_number, RelayComesBack}
 use Rattle.pm_relay.specs.Roots.{RootValue, RootComesBack}
 use Rattle.pm_frames.specs.Stored.{StoredRelay, StoredRoot}
 use Rattle.pm_frames.specs.declared.stored.StoredAgent.{StoredAgent}
@@ -24,7 +24,7 @@ use Rattle.pm_system.specs.Market.{RunsTheMarket}
 use Rattle.pm_system.proofs.Moving.{new_in}
 use Rattle.pm_lives.specs.Outputs.{Output, Up, WereSent}
 use Rattle.pm_lives.specs.Moves.{OnlyMoves}
-use Rattle.pm_lives.specs.RelayLife.{IsOfPrice, RelayStands, IsKept, numbers_in_places}
+use Rattle.pm_lives.specs.RelayLife.{IsOfPrice, RelayStands, IsRelayKept, numbers_in_places}
 use Rattle.pm_lives.specs.RootLife.{IsRootKept}
 use Rattle.pm_lives.specs.DeviceLife.{IsIndexOfSent, AgentStands, IsAgentKept}
 use Rattle.pm_lives.specs.Lives.{restart_outs}
@@ -111,19 +111,19 @@ module _ (lists : Lists) (p : Pricing) (numbering : Numbering) where
   -- a relay
   pub relay_begins : IsTreeMarket lists p numbering → (before : List NodeCall) (sys : System) → RunsTheMarket lists p numbering before sys → (c : ℕ) →
       IsConcentrator lists c → (limits : Limits) → p.limits c no_changes ≡ Some limits → (stored : StoredRelay) →
-      IsKept p numbering sys c stored → (relay : RelayValue) →
-      ComesBack p.steps limits stored.last stored.answered stored.index stored.numbers stored.limits relay →
+      IsRelayKept p numbering sys c stored → (relay : RelayValue) →
+      RelayComesBack p.steps limits stored.last stored.answered stored.index stored.numbers stored.limits relay →
       Began {K = StoredRelay} lists p numbering (λ t. RelayStands t c (record { relay = relay; waiting = None }))
-      (λ t. IsKept p numbering t c stored) sys c []
+      (λ t. IsRelayKept p numbering t c stored) sys c []
   relay_begins market before sys has c conc limits limited stored kept relay back =
       let r : RelayValue = sys.relays c in
       let new : System = with_relay sys c relay in
       let is : new.relays c ≡ relay = updated_same sys.relays c relay in
       let at = stored_whole sys c r.answered r.index stored.answered stored.index kept.price kept.older in
       let now = price_stored sys c at.place r.answered r.index in
-      let Back : ℕ → ℕ → Type 0 = λ n i. ComesBack p.steps limits (newest_bid_number r) n i r.recorded stored.limits relay in
+      let Back : ℕ → ℕ → Type 0 = λ n i. RelayComesBack p.steps limits (newest_bid_number r) n i r.recorded stored.limits relay in
       let mine : Back stored.answered stored.index =
-      subst₂ (λ (n : ℕ) (l : List ℕ). ComesBack p.steps limits n stored.answered stored.index l stored.limits relay) kept.last kept.numbers back in
+      subst₂ (λ (n : ℕ) (l : List ℕ). RelayComesBack p.steps limits n stored.answered stored.index l stored.limits relay) kept.last kept.numbers back in
       record {
         calls = call.Restarts c at.place ∷ [];
         up = λ x ne. (λ e. ne (sym e), tt);

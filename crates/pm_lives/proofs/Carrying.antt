@@ -36,7 +36,7 @@ use Rattle.pm_frames.specs.declared.place.RelayPlace.{RelayPlace}
 use Rattle.pm_services.specs.Bounds.{no_bounds}
 use Rattle.pm_services.specs.Receipts.{sender_place}
 use Rattle.pm_services.specs.RelaySetups.{RelaySetup}
-use Rattle.pm_services.specs.RelayAnswers.{WaitingRelay, OpenRelay, RelayServiceValue, ComesUp, with_held, AnswersKeptIn, AnswersGivenIn}
+use Rattle.pm_services.specs.RelayAnswers.{WaitingRelay, OpenRelay, RelayServiceValue, RelayComesUp, with_held, AnswersKeptIn, AnswersGivenIn}
 use Rattle.pm_services.specs.RelayAnswers.{AnswersRelay, AnswersNow}
 use Rattle.pm_lives.specs.RelayWrites.{WritesLimits, WritesKept}
 use Rattle.pm_lives.specs.Outputs.{Output}
@@ -44,7 +44,7 @@ use Rattle.pm_lives.specs.Carrying.{setup_for}
 use Rattle.pm_lives.proofs.Answering.{limits_written}
 use Rattle.pm_system.specs.System.{System}
 use Rattle.pm_lives.specs.Outputs.{Up, outputs_bytes, PriceWasSent, BidWasSent, up_bytes, down_frame_bytes}
-use Rattle.pm_lives.specs.RelayLife.{CarriesBid, CarriesLimits, RelayMayRead, nothing_stored}
+use Rattle.pm_lives.specs.RelayLife.{CarriesBid, CarriesLimits, RelayMayRead, no_relay_stored}
 use Rattle.pm_lives.specs.RootLife.{RootMayRead}
 use Rattle.pm_lives.specs.DeviceLife.{DeviceMayRead}
 use Rattle.pm_net.specs.Agents.{new_agent}
@@ -171,11 +171,11 @@ module _ (lists : Lists) (p : Pricing) (numbering : Numbering) (sys : System) (x
 
 relay_hello : (old : RelayServiceValue) (basis : Basis) (after : RelayServiceValue) (reply : List ℕ) → old.relay ≡ None →
     AnswersRelay old (relay_frame.Child (Hello basis)) after reply →
-    ComesUp (setup_for old basis) after.relay × (reply ≡ [])
+    RelayComesUp (setup_for old basis) after.relay × (reply ≡ [])
 relay_hello old basis after reply closed did =
     subst (λ (o : Option OpenRelay). AnswersNow old.child old.terms o (relay_frame.Child (Hello basis)) after.relay reply) closed did.answers
 
-nothing_learnt : (giver : Option ℕ) (own : RelaySetup) (held : WaitingRelay) → WritesKept giver own held (nothing_stored own) held []
+nothing_learnt : (giver : Option ℕ) (own : RelaySetup) (held : WaitingRelay) → WritesKept giver own held (no_relay_stored own) held []
 nothing_learnt None own held = (refl, refl)
 nothing_learnt (Some giver) own held = inl (no_number (sender_place giver), (refl, refl))
   where
@@ -222,7 +222,7 @@ relay_is_back old basis after _ _ closed (hello reply did) =
       bounds = _;
       relay_is = up.0.opened;
       outs = [];
-      learns = subst (λ (h : WaitingRelay). WritesKept old.terms.giver (setup_for old basis) h (nothing_stored (setup_for old basis)) held [])
+      learns = subst (λ (h : WaitingRelay). WritesKept old.terms.giver (setup_for old basis) h (no_relay_stored (setup_for old basis)) held [])
           (sym (waiting_is held up.0.opens.waiting)) (nothing_learnt old.terms.giver (setup_for old basis) held);
       written = up.1;
     }

@@ -42,7 +42,7 @@ use Rattle.pm_system.specs.Market.{RunsTheMarket, KeepsTheLaw}
 use Rattle.pm_system.proofs.Moving.{relay_no_leaf, relay_no_root}
 use Rattle.pm_lives.specs.Outputs.{Output, WereSent, PriceWasSent}
 use Rattle.pm_lives.specs.Moves.{OnlyMoves}
-use Rattle.pm_lives.specs.RelayLife.{UpdateWasSent, RelayStands, IsKept, numbers_in_places, CarriesBid, CarriesLimits, CarriesExpire, RelayMayRead}
+use Rattle.pm_lives.specs.RelayLife.{UpdateWasSent, RelayStands, IsRelayKept, numbers_in_places, CarriesBid, CarriesLimits, CarriesExpire, RelayMayRead}
 use Rattle.pm_lives.specs.RootLife.{IsRootKept, RootMayRead}
 use Rattle.pm_lives.specs.DeviceLife.{AgentStands, IsAgentKept, IsGivenOffer, IsGivenLeaving, DeviceMayRead}
 use Rattle.pm_lives.specs.DeviceWrites.{device_outs}
@@ -73,7 +73,7 @@ use Rattle.pm_lives.proofs.Beginning.{relay_begins, root_begins, device_begins, 
 pub record RelayOk (p : Pricing) (numbering : Numbering) (sys : System) (c : ℕ) (up : Bool) (relay : RelayValue) (waiting : Option PriceUpdate)
     (stored : StoredRelay) : Type 0 where
   -- what is stored of it may be
-  pub kept : IsKept p numbering sys c stored
+  pub kept : IsRelayKept p numbering sys c stored
   pub stands : up ≡ true → RelayStands sys c (record { relay = relay; waiting = waiting })
 
 pub record RootOk (sys : System) (up : Bool) (root : RootValue) (stored : StoredRoot) : Type 0 where
@@ -449,7 +449,7 @@ module _ (lists : Lists) (p : Pricing) (numbering : Numbering) (market : IsTreeM
             (ap (λ f. f c) values.0 ∙ updated_same world.seen.relays c did.after.relay) (updated_same world.waiting c did.after.waiting)
             (updated_same world.relay_kept c kept)
             (record {
-              kept = stored_may (λ k. IsKept p numbering sys c k) (λ k. IsKept p numbering f.new c k)
+              kept = stored_may (λ k. IsRelayKept p numbering sys c k) (λ k. IsRelayKept p numbering f.new c k)
                   (world.relay_kept c) n did.outs ok.kept f.kept f.first did.handled;
               stands = λ e. f.stands;
             }))
@@ -734,7 +734,7 @@ new_stands lists p numbering market world sys none started = record {
       let up = started.relays c conc in
       let at = up.2 in
       record {
-        kept = subst (λ (k : StoredRelay). IsKept p numbering sys c k) (sym (none.relay_kept c)) (record {
+        kept = subst (λ (k : StoredRelay). IsRelayKept p numbering sys c k) (sym (none.relay_kept c)) (record {
           last = omega (arith, at.base, at.gathered.window.last);
           numbers = sym at.recorded;
           limits = market.by_nodes.limits_alike c (numbers_in_places numbering (replicate most_nodes 0)) no_changes

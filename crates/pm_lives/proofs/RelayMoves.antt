@@ -53,9 +53,9 @@ use Rattle.pm_lives.specs.Outputs.{Output, Keeps, Says, PriceWasSent, WereSent, 
 use Rattle.pm_lives.specs.Moves.{OnlyMoves, AreCalm}
 use Rattle.pm_lives.specs.RelayWrites.{WritesBounded, WritesTold, WritesGiven, WritesKept, bid_outs}
 use Rattle.pm_lives.specs.Moves.{lets_none}
-use Rattle.pm_lives.specs.RelayWrites.{receipt_outs, downs, own_bid, again_outs, drop_outs, price_outs, WritesPrice, WritesWaiting, WritesBid}
+use Rattle.pm_lives.specs.RelayWrites.{receipt_outs, downs, own_bid, bid_again_outs, drop_outs, price_outs, WritesPrice, WritesWaiting, WritesBid}
 use Rattle.pm_lives.specs.RelayWrites.{WritesLimits, WritesExpire, WritesSend, WritesRelay}
-use Rattle.pm_lives.specs.RelayLife.{IsOfPrice, UpdateWasSent, RelayStands, IsKept, numbers_in_places, CarriesBid, CarriesLimits, CarriesExpire}
+use Rattle.pm_lives.specs.RelayLife.{IsOfPrice, UpdateWasSent, RelayStands, IsRelayKept, numbers_in_places, CarriesBid, CarriesLimits, CarriesExpire}
 use Rattle.pm_lives.specs.RelayLife.{RelayMayRead, RelayFollows, RelayLets}
 use Rattle.pm_lives.proofs.Staying.{still, then_moves, relay_moved, bid_pushed, prices_pushed, price_stays, were_sent, both_sent, kept_to, both_kept}
 use Rattle.pm_lives.proofs.Downs.{downs_sent, downs_keep_none}
@@ -131,7 +131,7 @@ same_self : (a : RelayValue) → SameNumbers a a
 same_self a = record { last = refl; recorded = refl; rises = omega arith }
 
 kept_stays : (p : Pricing) (numbering : Numbering) (c : ℕ) (sys new : System) → OnlyMoves c sys new → SameNumbers (sys.relays c) (new.relays c) →
-    (stored : StoredRelay) → IsKept p numbering sys c stored → IsKept p numbering new c stored
+    (stored : StoredRelay) → IsRelayKept p numbering sys c stored → IsRelayKept p numbering new c stored
 kept_stays p numbering c sys new moves same stored kept = record {
   last = kept.last ∙ sym same.last;
   numbers = kept.numbers ∙ sym same.recorded;
@@ -141,18 +141,18 @@ kept_stays p numbering c sys new moves same stored kept = record {
 }
 
 abbrev AreKept : Pricing → Numbering → System → ℕ → List (Output StoredRelay) → Type 0
-AreKept p numbering sys c outs = EachKept (λ (stored : StoredRelay). IsKept p numbering sys c stored) outs
+AreKept p numbering sys c outs = EachKept (λ (stored : StoredRelay). IsRelayKept p numbering sys c stored) outs
 
 are_kept : (p : Pricing) (numbering : Numbering) (c : ℕ) (sys new : System) → OnlyMoves c sys new → SameNumbers (sys.relays c) (new.relays c) →
     (outs : List (Output StoredRelay)) → AreKept p numbering sys c outs → AreKept p numbering new c outs
 are_kept p numbering c sys new moves same outs kept =
-    kept_to (λ (stored : StoredRelay). IsKept p numbering sys c stored) (λ (stored : StoredRelay). IsKept p numbering new c stored)
+    kept_to (λ (stored : StoredRelay). IsRelayKept p numbering sys c stored) (λ (stored : StoredRelay). IsRelayKept p numbering new c stored)
     (kept_stays p numbering c sys new moves same) outs kept
 
 -- what it stores of itself may be stored
 own_kept : (own : RelaySetup) (p : Pricing) (numbering : Numbering) (sys : System) (c : ℕ) (r : RelayValue) → sys.relays c ≡ r →
     p.limits c (numbers_in_places numbering r.recorded) ≡ limits_of_number r (newest_bid_number r) → IsOfPrice sys c r.answered r.index →
-    IsKept p numbering sys c (stored_relay own r)
+    IsRelayKept p numbering sys c (stored_relay own r)
 own_kept own p numbering sys c r is under held = record {
   last = ap newest_bid_number (sym is);
   numbers = ap (λ (q : RelayValue). q.recorded) (sym is);
@@ -247,7 +247,7 @@ pub record LearnsKept (lists : Lists) (p : Pricing) (numbering : Numbering) (Let
     (outs : List (Output StoredRelay)) : Type 0 where
   -- the answer is some calls of the relay
   pub follows : RelayFollows lists p numbering Lets sys c after outs
-  pub keeps : (stored : StoredRelay) → IsKept p numbering sys c stored → IsKept p numbering follows.new c stored
+  pub keeps : (stored : StoredRelay) → IsRelayKept p numbering sys c stored → IsRelayKept p numbering follows.new c stored
 
 module _ (Lets : ℕ → ℕ → Type 0) (lists : Lists) (p : Pricing) (numbering : Numbering) (c : ℕ) (conc : IsConcentrator lists c)
     (market : IsTreeMarket lists p numbering) (goes : RunsGoOn) (own : RelaySetup) where
@@ -326,7 +326,7 @@ module _ (Lets : ℕ → ℕ → Type 0) (lists : Lists) (p : Pricing) (numberin
     has = then.has;
     sent = both_sent lists p numbering then.new c reply more
         (were_sent lists p numbering c first.new then.new then.only c reply first.sent) then.sent;
-    kept = both_kept (λ (k : StoredRelay). IsKept p numbering then.new c k) reply more
+    kept = both_kept (λ (k : StoredRelay). IsRelayKept p numbering then.new c k) reply more
         (are_kept p numbering c first.new then.new then.only (subst₂ SameNumbers (sym first.is) (sym then.is) same) reply first.kept) then.kept;
   }
 
@@ -546,14 +546,14 @@ module _ (Lets : ℕ → ℕ → Type 0) (lists : Lists) (p : Pricing) (numberin
     moved_price outcome = then_moves c sys (with_relay sys c relay) (after_price outcome) (relay_moved sys c relay)
         (prices_pushed lists numbering (with_relay sys c relay) c (prices_down relay (update_of message) outcome))
 
-    price_kept : (outcome : PriceOutcome) → IsKept p numbering (after_price outcome) c (stored_relay own relay) →
+    price_kept : (outcome : PriceOutcome) → IsRelayKept p numbering (after_price outcome) c (stored_relay own relay) →
         AreKept p numbering (after_price outcome) c (price_outs own waiting relay price outcome)
     price_kept PassedOn mine =
         let sent : Rattle.pm_session.specs.Windows.Sent = record_at relay price.number in
         let step : ℕ = settled_step_of_record (limits_of_number relay price.number) price.step sent.sum in
-        both_kept (λ (k : StoredRelay). IsKept p numbering (after_price PassedOn) c k) (downs price.index step 0 sent.heads)
+        both_kept (λ (k : StoredRelay). IsRelayKept p numbering (after_price PassedOn) c k) (downs price.index step 0 sent.heads)
         (Keeps (stored_relay own relay) ∷ [])
-        (downs_keep_none (λ (k : StoredRelay). IsKept p numbering (after_price PassedOn) c k) price.index step 0 sent.heads) (mine, tt)
+        (downs_keep_none (λ (k : StoredRelay). IsRelayKept p numbering (after_price PassedOn) c k) price.index step 0 sent.heads) (mine, tt)
     price_kept Alone mine = (mine, tt)
     price_kept Waits mine = drops_kept (after_price Waits) waiting price
     price_kept Dropped mine = (tt, tt)
@@ -669,14 +669,14 @@ module _ (Lets : ℕ → ℕ → Type 0) (lists : Lists) (p : Pricing) (numberin
 
   -- what was stored before may stay
   kept_over : (sys : System) (r : RelayValue) (reply : Outs) (m : Moves sys r reply) → SameNumbers (sys.relays c) r → (stored : StoredRelay) →
-      IsKept p numbering sys c stored → IsKept p numbering m.new c stored
+      IsRelayKept p numbering sys c stored → IsRelayKept p numbering m.new c stored
   kept_over sys r reply m same stored kept =
       kept_stays p numbering c sys m.new m.only (subst (λ (q : RelayValue). SameNumbers (sys.relays c) q) (sym m.is) same) stored kept
 
   -- what follows of moves and of the price that waits after them
   ends : (sys : System) (r : RelayValue) (first : Outs) (m : Moves sys r first) (waiting : Option PriceUpdate) (after : WaitingRelay) (more : Outs) →
       IfSome waiting (UpdateWasSent sys c) → WritesWaiting own waiting r after more → (reply : Outs) → reply ≡ first ++ more →
-      ((stored : StoredRelay) → IsKept p numbering sys c stored → IsKept p numbering m.new c stored) ⊎ BeginsWithResume first →
+      ((stored : StoredRelay) → IsRelayKept p numbering sys c stored → IsRelayKept p numbering m.new c stored) ⊎ BeginsWithResume first →
       RelayFollows lists p numbering Lets sys c after reply
   unfolding then_both
   ends sys r first m waiting after more waits did reply is begins =
@@ -725,11 +725,12 @@ module _ (Lets : ℕ → ℕ → Type 0) (lists : Lists) (p : Pricing) (numberin
       let said : Moves sys did.learnt (receipt_outs kept giver number) = goes_on sys did.learnt [] learnt (λ r. receipt_outs kept giver number)
       (says_if learnt.new (leb number kept) (answer_bytes (Rattle.pm_wire.specs.declared.answer.Reply.TheVariants.Old giver kept))
       (ready_by sys did.learnt [] learnt)) in
-      let first : Outs = receipt_outs kept giver number ++ again_outs (sys.relays c) did.learnt in
-      let told : Moves sys did.learnt first = goes_on sys did.learnt (receipt_outs kept giver number) said (λ r. again_outs (sys.relays c) r)
+      let first : Outs = receipt_outs kept giver number ++ bid_again_outs (sys.relays c) did.learnt in
+      let told : Moves sys did.learnt first = goes_on sys did.learnt (receipt_outs kept giver number) said (λ r. bid_again_outs (sys.relays c) r)
       (again_if said.new (eqb (sys.relays c).gathered.window.last 0) (ready_by sys did.learnt (receipt_outs kept giver number) said)) in
-      let is : reply ≡ first = did.replied ∙ ap (λ (l : Outs). receipt_outs kept giver number ++ (again_outs (sys.relays c) did.learnt ++ l)) did.tries.1
-      ∙ ap (λ (l : Outs). receipt_outs kept giver number ++ l) (append-nil (again_outs (sys.relays c) did.learnt)) in
+      let is : reply ≡ first =
+      did.replied ∙ ap (λ (l : Outs). receipt_outs kept giver number ++ (bid_again_outs (sys.relays c) did.learnt ++ l)) did.tries.1
+      ∙ ap (λ (l : Outs). receipt_outs kept giver number ++ l) (append-nil (bid_again_outs (sys.relays c) did.learnt)) in
       subst₂ (λ (a : WaitingRelay) (l : Outs). Learnt sys a l) (sym did.tries.0) (sym is) (record {
         moves = told;
         waiting = refl;
@@ -771,11 +772,11 @@ module _ (Lets : ℕ → ℕ → Type 0) (lists : Lists) (p : Pricing) (numberin
         let said : Moves sys did.learnt (receipt_outs kept sender number) = goes_on sys did.learnt [] learnt (λ r. receipt_outs kept sender number)
         (says_if learnt.new (leb number kept) (answer_bytes (Rattle.pm_wire.specs.declared.answer.Reply.TheVariants.Old sender kept))
         (ready_by sys did.learnt [] learnt)) in
-        let first : Outs = receipt_outs kept sender number ++ again_outs (sys.relays c) did.learnt in
-        let told : Moves sys did.learnt first = goes_on sys did.learnt (receipt_outs kept sender number) said (λ r. again_outs (sys.relays c) r)
+        let first : Outs = receipt_outs kept sender number ++ bid_again_outs (sys.relays c) did.learnt in
+        let told : Moves sys did.learnt first = goes_on sys did.learnt (receipt_outs kept sender number) said (λ r. bid_again_outs (sys.relays c) r)
         (again_if said.new (eqb (sys.relays c).gathered.window.last 0) (ready_by sys did.learnt (receipt_outs kept sender number) said)) in
         ends sys did.learnt first told waiting after did.waiting_reply waits did.tries reply
-        (did.replied ∙ sym (append_assoc (receipt_outs kept sender number) (again_outs (sys.relays c) did.learnt) did.waiting_reply))
+        (did.replied ∙ sym (append_assoc (receipt_outs kept sender number) (bid_again_outs (sys.relays c) did.learnt) did.waiting_reply))
         (inl (kept_over sys did.learnt first told (looks_learnt (sys.relays c) did.learnt (sender_place sender) number demand did.looks)))
 
     limits_follow : (sender number : ℕ) (limits : Limits) → CarriesLimits lists p numbering sys c sender number limits →
@@ -786,11 +787,11 @@ module _ (Lets : ℕ → ℕ → Type 0) (lists : Lists) (p : Pricing) (numberin
         let said : Moves sys did.learnt (receipt_outs kept sender number) = goes_on sys did.learnt [] learnt (λ r. receipt_outs kept sender number)
         (says_if learnt.new (leb number kept) (answer_bytes (Rattle.pm_wire.specs.declared.answer.Reply.TheVariants.Old sender kept))
         (ready_by sys did.learnt [] learnt)) in
-        let first : Outs = receipt_outs kept sender number ++ again_outs (sys.relays c) did.learnt in
-        let told : Moves sys did.learnt first = goes_on sys did.learnt (receipt_outs kept sender number) said (λ r. again_outs (sys.relays c) r)
+        let first : Outs = receipt_outs kept sender number ++ bid_again_outs (sys.relays c) did.learnt in
+        let told : Moves sys did.learnt first = goes_on sys did.learnt (receipt_outs kept sender number) said (λ r. bid_again_outs (sys.relays c) r)
         (again_if said.new (eqb (sys.relays c).gathered.window.last 0) (ready_by sys did.learnt (receipt_outs kept sender number) said)) in
         ends sys did.learnt first told waiting after did.waiting_reply waits did.tries reply
-        (did.replied ∙ sym (append_assoc (receipt_outs kept sender number) (again_outs (sys.relays c) did.learnt) did.waiting_reply))
+        (did.replied ∙ sym (append_assoc (receipt_outs kept sender number) (bid_again_outs (sys.relays c) did.learnt) did.waiting_reply))
         (inl (kept_over sys did.learnt first told
         (limits_same (sys.relays c) did.learnt (sender_place sender) number limits did.looks).0))
 
@@ -916,8 +917,8 @@ module _ (Lets : ℕ → ℕ → Type 0) (lists : Lists) (p : Pricing) (numberin
           reply → RelayFollows lists p numbering Lets sys c after reply
       expire_follows sender carries lets did =
           let learnt : Moves sys did.learnt [] = lets_go sender carries lets did.learnt did.looks in
-          let first : Outs = again_outs (sys.relays c) did.learnt in
-          let told : Moves sys did.learnt first = goes_on sys did.learnt [] learnt (λ r. again_outs (sys.relays c) r)
+          let first : Outs = bid_again_outs (sys.relays c) did.learnt in
+          let told : Moves sys did.learnt first = goes_on sys did.learnt [] learnt (λ r. bid_again_outs (sys.relays c) r)
           (again_if learnt.new (eqb (sys.relays c).gathered.window.last 0) (ready_by sys did.learnt [] learnt)) in
           ends sys did.learnt first told waiting after did.waiting_reply waits did.tries reply did.replied
           (inl (kept_over sys did.learnt first told

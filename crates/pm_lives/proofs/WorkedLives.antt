@@ -361,7 +361,7 @@ does_11 = record {
     1,
     clearing_step (aggregate_of w10.seen.root.auction.cache),
     record {
-      all = reached (replicate most_nodes 0) w10.seen.root.auction.cache.heads refl;
+      caught_up = reached (replicate most_nodes 0) w10.seen.root.auction.cache.heads refl;
       index = refl;
       cleared = record { changed = refl; index = refl; step = refl; cache = refl; new_index = refl; new_step = refl; not_changed = refl };
       numbers = λ child inside. noted w10.seen.root.auction.cache.heads child;
@@ -601,7 +601,7 @@ does_19 = record {
     2,
     clearing_step (aggregate_of w18.seen.root.auction.cache),
     record {
-      all = reached w18.seen.root.recorded w18.seen.root.auction.cache.heads refl;
+      caught_up = reached w18.seen.root.recorded w18.seen.root.auction.cache.heads refl;
       index = refl;
       cleared = record { changed = refl; index = refl; step = refl; cache = refl; new_index = refl; new_step = refl; not_changed = refl };
       numbers = λ child inside. noted w18.seen.root.auction.cache.heads child;

@@ -18,14 +18,14 @@ use Rattle.pm_lives.specs.RelayWrites.{WritesRelay}
 use Rattle.pm_lives.specs.RootWrites.{WritesRoot}
 
 -- a Resume is read at the start of a life alone
-abbrev pub IsNoResume : RelayFrame → Type 0
-IsNoResume (relay_frame.Child frame) = ⊤
-IsNoResume (relay_frame.Parent frame) = ⊤
-IsNoResume relay_frame.Send = ⊤
-IsNoResume (relay_frame.Expire sender) = ⊤
-IsNoResume (relay_frame.Limits number limits) = ⊤
-IsNoResume (relay_frame.Bound sender bound) = ⊤
-IsNoResume (relay_frame.Resume stored) = ⊥
+abbrev pub IsNoRelayResume : RelayFrame → Type 0
+IsNoRelayResume (relay_frame.Child frame) = ⊤
+IsNoRelayResume (relay_frame.Parent frame) = ⊤
+IsNoRelayResume relay_frame.Send = ⊤
+IsNoRelayResume (relay_frame.Expire sender) = ⊤
+IsNoRelayResume (relay_frame.Limits number limits) = ⊤
+IsNoRelayResume (relay_frame.Bound sender bound) = ⊤
+IsNoRelayResume (relay_frame.Resume stored) = ⊥
 
 abbrev pub IsNoRootResume : RootFrame → Type 0
 IsNoRootResume (root_frame.Market frame) = ⊤

@@ -3,7 +3,7 @@ use Rattle.std.specs.Prelude.{◌≡◌, ℕ, if◌then◌else◌, List, [], Opt
 use Rattle.pm_net.specs.Messages.{BidMessage, PriceMessage}
 use Rattle.pm_wire.specs.declared.frame.Frame.{Frame}
 use Rattle.pm_wire.specs.declared.frame.Frame.TheVariants.{Hello, Bid, Gone}
-use Rattle.pm_relay.specs.Relays.{RelayValue, ComesBack}
+use Rattle.pm_relay.specs.Relays.{RelayValue, RelayComesBack}
 use Rattle.pm_frames.specs.declared.parent.ParentFrame.{ParentFrame}
 use Rattle.pm_frames.specs.declared.parent.ParentFrame.TheVariants.{Price}
 use Rattle.pm_base.specs.declared.limits.Limits.{Limits}
@@ -26,7 +26,7 @@ use Rattle.pm_frames.specs.declared.stored.StoredAgent.{StoredAgent}
 use Rattle.pm_net.specs.Pricing.{Pricing}
 use Rattle.pm_services.specs.DeviceAnswers.{DeviceServiceValue}
 use Rattle.pm_lives.specs.Outputs.{outputs_bytes}
-use Rattle.pm_lives.specs.RelayLife.{nothing_stored}
+use Rattle.pm_lives.specs.RelayLife.{no_relay_stored}
 
 -- ---- messages as frames
 
@@ -52,14 +52,14 @@ setup_for old basis' = record { child = old.child; terms = old.terms; basis = ba
 -- are these bytes.
 pub data RelayIsGiven (old : RelayServiceValue) (basis : Basis) (after : RelayServiceValue) : StoredRelay → List ℕ → Type 0 where
   hello : (reply : List ℕ) → AnswersRelay old (relay_frame.Child (Hello basis)) after reply →
-      RelayIsGiven old basis after (nothing_stored (setup_for old basis)) reply
+      RelayIsGiven old basis after (no_relay_stored (setup_for old basis)) reply
   resumed : (mid : RelayServiceValue) (reply more : List ℕ) (stored : StoredRelay) → AnswersRelay old (relay_frame.Child (Hello basis)) mid reply →
       AnswersRelay mid (relay_frame.Resume stored) after more → RelayIsGiven old basis after stored more
 
 -- it is a relay that comes back with that, and learnt the limits that it was given last
 pub record RelayIsBack (old : RelayServiceValue) (basis : BasisValue) (after : RelayServiceValue) (stored : StoredRelay) (reply : List ℕ) : Type 0 where
   pub relay : RelayValue
-  pub back : ComesBack basis.steps old.terms.limits stored.last stored.answered stored.index stored.numbers stored.limits relay
+  pub back : RelayComesBack basis.steps old.terms.limits stored.last stored.answered stored.index stored.numbers stored.limits relay
   pub held : WaitingRelay
   pub bounds : List Limits
   pub relay_is : after.relay ≡ Some (record { setup = setup_for old basis; bounds = bounds; held = held })

@@ -15,7 +15,7 @@ use Rattle.pm_net.specs.Agrees.{IsItsPrice}
 use Rattle.pm_net.specs.Devices.{IsRight}
 use Rattle.pm_net_plan.specs.Places.{Numbering}
 use Rattle.pm_control.specs.Control.{agent_stored}
-use Rattle.pm_relay.specs.Relays.{RelayValue, ComesBack}
+use Rattle.pm_relay.specs.Relays.{RelayValue, RelayComesBack}
 use Rattle.pm_relay.specs.Roots.{RootValue, RootComesBack}
 use Rattle.pm_frames.specs.Stored.{StoredRelay, StoredRoot}
 use Rattle.pm_frames.specs.declared.stored.StoredAgent.{StoredAgent}
@@ -33,7 +33,7 @@ use Rattle.pm_services.specs.RelaySetups.{RelaySetup}
 use Rattle.pm_system.specs.System.{System, bid_in_channel, price_in_channel, with_root, with_relay, with_agent, with_setpoints, with_bid_sent, with_prices_sent}
 use Rattle.pm_system.specs.Calls.{NodeCall, SystemRuns, StaysUp, bid_kept}
 use Rattle.pm_lives.specs.Outputs.{Output, Up, Down, Keeps, Tells, Says, BidWasSent, PriceWasSent}
-use Rattle.pm_lives.specs.RelayLife.{CarriesLimits, RelayMayRead, relay_number, nothing_stored}
+use Rattle.pm_lives.specs.RelayLife.{CarriesLimits, RelayMayRead, relay_number, no_relay_stored}
 use Rattle.pm_lives.specs.RelayWrites.{WritesRelay, WritesKept}
 use Rattle.pm_lives.specs.RootLife.{RootMayRead, root_number}
 use Rattle.pm_lives.specs.RootWrites.{WritesRoot}
@@ -119,7 +119,7 @@ pub record RelayBegins (lists : Lists) (p : Pricing) (numbering : Numbering) (wo
   pub after : WaitingRelay
   pub outs : List (Output StoredRelay)
   pub learns : WritesKept (world.terms c).giver (setup_of numbering world c) (record { relay = relay; waiting = None }) (world.relay_kept c) after outs
-  pub back : ComesBack p.steps (world.terms c).limits (world.relay_kept c).last (world.relay_kept c).answered (world.relay_kept c).index
+  pub back : RelayComesBack p.steps (world.terms c).limits (world.relay_kept c).last (world.relay_kept c).answered (world.relay_kept c).index
       (world.relay_kept c).numbers (world.relay_kept c).limits relay
   pub new_is : new ≡ record world {
     seen = handed_out lists numbering (with_relay world.seen c after.relay) c (take n outs);
@@ -220,7 +220,7 @@ pub record IsNewWorld (p : Pricing) (numbering : Numbering) (world : World) : Ty
   pub up : (y : ℕ) → world.up y ≡ false
   -- each relay has the limits of its first start in its arguments
   pub limits : (c : ℕ) (limits : Limits) → p.limits c no_changes ≡ Some limits → (world.terms c).limits ≡ limits
-  pub relay_kept : (c : ℕ) → world.relay_kept c ≡ nothing_stored (setup_of numbering world c)
+  pub relay_kept : (c : ℕ) → world.relay_kept c ≡ no_relay_stored (setup_of numbering world c)
   pub root_kept : world.root_kept ≡ no_root_stored world.basis
   pub agent_kept : (d : ℕ) → world.agent_kept d ≡ no_agent_stored world.basis
   pub bids_sent : (x : ℕ) → world.seen.bids_sent x ≡ []

@@ -52,7 +52,7 @@ numbers_in_places numbering numbers x = child_number numbers (numbering.place x)
 
 -- What was stored is of the newest bid of node c, with the limits that this bid was made under, which are those that the numbers
 -- in it give; and of a price that it took, or of one before.
-pub record IsKept (p : Pricing) (numbering : Numbering) (sys : System) (c : ℕ) (stored : StoredRelay) : Type 0 where
+pub record IsRelayKept (p : Pricing) (numbering : Numbering) (sys : System) (c : ℕ) (stored : StoredRelay) : Type 0 where
   pub last : stored.last ≡ newest_bid_number (sys.relays c)
   pub numbers : stored.numbers ≡ (sys.relays c).recorded
   pub limits : p.limits c (numbers_in_places numbering stored.numbers) ≡ Some stored.limits
@@ -60,8 +60,8 @@ pub record IsKept (p : Pricing) (numbering : Numbering) (sys : System) (c : ℕ)
   pub older : stored.index ≤ (sys.relays c).index
 
 -- what is stored before anything is, of a relay that comes up with the limits of its arguments
-abbrev pub nothing_stored : RelaySetup → StoredRelay
-nothing_stored own = record {
+abbrev pub no_relay_stored : RelaySetup → StoredRelay
+no_relay_stored own = record {
   last = 0;
   answered = 0;
   index = 0;
@@ -147,4 +147,4 @@ RelayLets lists numbering sys c frame d n = ⊥
 abbrev pub RelayFollows : Lists → Pricing → Numbering → (ℕ → ℕ → Type 0) → System → (c : ℕ) → WaitingRelay →
     List (Output StoredRelay) → Type 0
 RelayFollows lists p numbering Lets sys c after outs =
-    FollowsByCalls lists p numbering Lets (λ t stored. IsKept p numbering t c stored) (λ t. RelayStands t c after) sys c outs
+    FollowsByCalls lists p numbering Lets (λ t stored. IsRelayKept p numbering t c stored) (λ t. RelayStands t c after) sys c outs

@@ -52,8 +52,8 @@ own_bid r = bid_message (newest_bid_number r) false (own_demand r.gathered)
 abbrev pub bid_outs : RelayValue → List (Output StoredRelay)
 bid_outs r = Up (own_bid r) ∷ (if has_step_within r then [] else Says (out_of_limits_bytes (newest_bid_number r)) ∷ [])
 
-abbrev pub again_outs : RelayValue → RelayValue → List (Output StoredRelay)
-again_outs old new = if old.gathered.window.last == 0 && not (new.gathered.window.last == 0) then bid_outs new else []
+abbrev pub bid_again_outs : RelayValue → RelayValue → List (Output StoredRelay)
+bid_again_outs old new = if old.gathered.window.last == 0 && not (new.gathered.window.last == 0) then bid_outs new else []
 
 abbrev pub drop_outs : Option PriceUpdate → PriceUpdate → List (Output StoredRelay)
 drop_outs None price = []
@@ -84,7 +84,7 @@ pub record WritesBid (own : RelaySetup) (old : WaitingRelay) (sender number : �
   pub waiting_reply : List (Output StoredRelay)
   pub tries : WritesWaiting own old.waiting learnt new waiting_reply
   pub replied : outs ≡
-      receipt_outs (kept_number old.relay.gathered.cache (sender_place sender)) sender number ++ (again_outs old.relay learnt ++ waiting_reply)
+      receipt_outs (kept_number old.relay.gathered.cache (sender_place sender)) sender number ++ (bid_again_outs old.relay learnt ++ waiting_reply)
 
 -- new limits are learnt under their number, as a child's bid is
 pub record WritesLimits (own : RelaySetup) (old : WaitingRelay) (sender number : ℕ) (limits : Limits) (new : WaitingRelay)
@@ -94,7 +94,7 @@ pub record WritesLimits (own : RelaySetup) (old : WaitingRelay) (sender number :
   pub waiting_reply : List (Output StoredRelay)
   pub tries : WritesWaiting own old.waiting learnt new waiting_reply
   pub replied : outs ≡
-      receipt_outs (kept_number old.relay.gathered.cache (sender_place sender)) sender number ++ (again_outs old.relay learnt ++ waiting_reply)
+      receipt_outs (kept_number old.relay.gathered.cache (sender_place sender)) sender number ++ (bid_again_outs old.relay learnt ++ waiting_reply)
 
 pub record WritesExpire (own : RelaySetup) (old : WaitingRelay) (sender : ℕ) (new : WaitingRelay) (outs : List (Output StoredRelay)) : Type 0 where
   pub learnt : RelayValue
@@ -102,7 +102,7 @@ pub record WritesExpire (own : RelaySetup) (old : WaitingRelay) (sender : ℕ) (
       (parents_number (known_number old.relay.recorded old.relay.gathered.cache.heads (sender_place sender))) None) learnt
   pub waiting_reply : List (Output StoredRelay)
   pub tries : WritesWaiting own old.waiting learnt new waiting_reply
-  pub replied : outs ≡ again_outs old.relay learnt ++ waiting_reply
+  pub replied : outs ≡ bid_again_outs old.relay learnt ++ waiting_reply
 
 abbrev pub WritesAsked : RelaySetup → RelayValue → RelayValue → List (Output StoredRelay) → Type 0
 WritesAsked own old new outs =

@@ -11,7 +11,7 @@ use Rattle.pm_relay.specs.Relays.{RelayValue}
 use Rattle.pm_relay.specs.Roots.{RootValue}
 use Rattle.pm_frames.specs.declared.device.DeviceFrame.TheVariants.{Offer}
 use Rattle.pm_frames.specs.declared.form.OfferForm.TheVariants.{Array}
-use Rattle.pm_lives.specs.RelayLife.{nothing_stored}
+use Rattle.pm_lives.specs.RelayLife.{no_relay_stored}
 use Rattle.pm_lives.specs.Lives.{World, LifeStep, DeviceUp, Device, Live, IsNewWorld, no_root_stored, no_agent_stored}
 
 -- a world in which no process ran, of this basis and of relays with these arguments
@@ -29,7 +29,7 @@ new_world numbering basis' terms' root' relays' = record {
   };
   up = λ y. false;
   waiting = λ c. None;
-  relay_kept = λ c. nothing_stored (record { child = numbering.place c + 1; terms = terms' c; basis = basis' });
+  relay_kept = λ c. no_relay_stored (record { child = numbering.place c + 1; terms = terms' c; basis = basis' });
   root_kept = no_root_stored basis';
   agent_kept = λ d. no_agent_stored basis';
   let_go = λ d. 0;

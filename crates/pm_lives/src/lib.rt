@@ -56,7 +56,7 @@ ghost use Rattle.pm_frames.specs.Stored.{IsNewestAccepted};
 ghost use Rattle.pm_frames.specs.declared.stored.StoredAgent.{StoredAgent};
 ghost use Rattle.pm_services.specs.DeviceAnswers.{DeviceServiceValue, AnswersDevice};
 ghost use Rattle.pm_lives.specs.Answering.{IsOfBasis, IsOfOtherBasis, SaysOtherBasis};
-ghost use Rattle.pm_lives.specs.Answering.{IsNoResume, IsNoRootResume, IsNoDeviceResume, AnswersInFrames, RootAnswersInFrames};
+ghost use Rattle.pm_lives.specs.Answering.{IsNoRelayResume, IsNoRootResume, IsNoDeviceResume, AnswersInFrames, RootAnswersInFrames};
 ghost use Rattle.std.specs.Prelude.{ℤ};
 ghost use Rattle.pm_relay.specs.Relays.{RelayValue};
 ghost use Rattle.pm_lives.specs.DeviceLife.{IsGivenOffer};
@@ -189,7 +189,7 @@ pub fn lists_are_there()
 /// A law: the bytes with which the services answer are the frames of which the laws over lives speak.
 pub fn answers_are_frames()
     ensures relay { (old : OpenRelay) (frame : RelayFrame) (new : OpenRelay) (reply : List ℕ) →
-        IsNoResume frame → AnswersRelayFrame old frame new reply →
+        IsNoRelayResume frame → AnswersRelayFrame old frame new reply →
         AnswersInFrames old frame new reply }
     ensures root { (old : OpenRoot) (frame : RootFrame) (new : OpenRoot) (reply : List ℕ) →
         IsNoRootResume frame → AnswersRootFrame old frame new reply →

@@ -17,7 +17,7 @@ use Rattle.pm_services.specs.RelayAnswers.{OpenRelay, WaitingRelay, RelayService
 use Rattle.pm_services.specs.RelaySetups.{RelaySetup}
 use Rattle.pm_lives.specs.Outputs.{outputs_bytes}
 use Rattle.pm_lives.specs.RelayWrites.{WritesRelay}
-use Rattle.pm_lives.specs.Answering.{IsNoResume}
+use Rattle.pm_lives.specs.Answering.{IsNoRelayResume}
 use Rattle.pm_lives.specs.Carrying.{RelayIsBack, hello, resumed}
 use Rattle.pm_lives.proofs.Answering.{relay_answers_frames}
 use Rattle.pm_lives.proofs.Carrying.{relay_is_back}
@@ -33,7 +33,7 @@ module _ (child' : ℕ) (terms' : RelayTerms) (basis : BasisValue) where
   place_at stage' = record { child = child'; terms = terms'; stage = stage' }
 
   later_running : (frame : RelayFrame) → IsRelayFormed (place_at (Running basis)) frame →
-      IsNoResume frame × (relay_place_after (place_at (Running basis)) frame ≡ place_at (Running basis))
+      IsNoRelayResume frame × (relay_place_after (place_at (Running basis)) frame ≡ place_at (Running basis))
   later_running (Child (Hello b)) formed = absurd formed.0
   later_running (Child (Bid sender number demand)) formed = (tt, refl)
   later_running (Child (Gone sender number)) formed = (tt, refl)
@@ -45,7 +45,7 @@ module _ (child' : ℕ) (terms' : RelayTerms) (basis : BasisValue) where
   later_running (Bound sender bound) formed = (tt, refl)
   later_running (Resume stored) formed = absurd formed.0
 
-  first_running : (frame : RelayFrame) → IsRelayFormed (place_at (Opened basis)) frame → IsNoResume frame →
+  first_running : (frame : RelayFrame) → IsRelayFormed (place_at (Opened basis)) frame → IsNoRelayResume frame →
       relay_place_after (place_at (Opened basis)) frame ≡ place_at (Running basis)
   first_running (Child (Hello b)) formed other = absurd formed.0
   first_running (Child (Bid sender number demand)) formed other = refl
@@ -67,7 +67,7 @@ module _ (own : RelaySetup) where
     written : reply ≡ outputs_bytes relay_resume_bytes own.basis own.child (relay_outs exchanges)
 
   one_more : (held : WaitingRelay) (frame : RelayFrame) (frames : List RelayFrame) (old new : OpenRelay) (first rest : List ℕ) →
-      old.setup ≡ own → old.held ≡ held → IsNoResume frame →
+      old.setup ≡ own → old.held ≡ held → IsNoRelayResume frame →
       Rattle.pm_services.specs.RelayAnswers.AnswersRelayFrame old frame new first →
       (new.setup ≡ own → Answered new.held frames rest) → Answered held (frame ∷ frames) (first ++ rest)
   one_more held frame frames old new first rest setup is no_resume did then =
@@ -101,7 +101,7 @@ module _ (own : RelaySetup) where
 
   -- the first frame may stand directly behind Hello
   answered_first : (frames : List RelayFrame) → AllStand relay_framing (behind (Opened own.basis)) frames →
-      ((frame : RelayFrame) (more : List RelayFrame) → frames ≡ frame ∷ more → IsNoResume frame) →
+      ((frame : RelayFrame) (more : List RelayFrame) → frames ≡ frame ∷ more → IsNoRelayResume frame) →
       (service after : RelayServiceValue) (old : OpenRelay) → service.relay ≡ Some old → old.setup ≡ own → (reply : List ℕ) →
       Runs AnswersRelay service frames after reply → Answered old.held frames reply
   answered_first [] stand other service after old is setup reply runs = record { exchanges = []; frames_are = refl; answers = tt; written = runs.1 }
@@ -147,7 +147,7 @@ module _ (child : ℕ) (terms : RelayTerms) (took wrote : List ℕ) where
   -- Hello alone
   alone : (basis : BasisValue) (frames : List RelayFrame) (rest beyond more reply : List ℕ) (after : RelayServiceValue) →
       BeginsWith relay_framing (relay_start child terms) took (Child (Hello basis) ∷ frames) rest →
-      ((frame : RelayFrame) (others : List RelayFrame) → frames ≡ frame ∷ others → IsNoResume frame) →
+      ((frame : RelayFrame) (others : List RelayFrame) → frames ≡ frame ∷ others → IsNoRelayResume frame) →
       Runs AnswersRelay service (Child (Hello basis) ∷ frames) after reply → reply ++ beyond ≡ wrote ++ more → RelayProcess child terms took wrote
   alone basis frames rest beyond more reply after begins other runs spelled =
       let back = relay_is_back service basis runs.0 (relay_resumed (setup_with child terms basis) None) runs.1 refl (hello runs.1 runs.3) in
@@ -179,7 +179,7 @@ module _ (child : ℕ) (terms : RelayTerms) (took wrote : List ℕ) where
       again basis stored frames rest beyond more reply after begins runs spelled
   second basis frame frames rest beyond more reply after begins runs spelled =
       alone basis (frame ∷ frames) rest beyond more reply after begins
-      (λ g others e. subst IsNoResume (same_first frame g frames others e) tt) runs spelled
+      (λ g others e. subst IsNoRelayResume (same_first frame g frames others e) tt) runs spelled
     where
       same_first : (f g : RelayFrame) (fs gs : List RelayFrame) → f ∷ fs ≡ g ∷ gs → f ≡ g
       same_first f g fs gs e = cc

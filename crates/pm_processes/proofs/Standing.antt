@@ -11,7 +11,7 @@ use Rattle.pm_net.specs.Pricing.{Pricing}
 use Rattle.pm_net.specs.Agents.{DeviceAgent}
 use Rattle.pm_net_plan.specs.Places.{Numbering}
 use Rattle.pm_control.specs.Control.{agent_stored}
-use Rattle.pm_relay.specs.Relays.{RelayValue, ComesBack}
+use Rattle.pm_relay.specs.Relays.{RelayValue, RelayComesBack}
 use Rattle.pm_relay.specs.Roots.{RootValue, RootComesBack}
 use Rattle.pm_basis.specs.Prices.{BasisValue}
 use Rattle.pm_frames.specs.Stored.{StoredRelay, StoredRoot}
@@ -202,9 +202,9 @@ module _ (lists : Lists) (p : Pricing) (numbering : Numbering) (market : IsTreeM
                 (world.relay_kept c) made.held made.outs) hello
                 (subst (λ (k : StoredRelay). WritesKept terms.giver (setup_with child terms made.basis)
                 (record { relay = made.relay; waiting = None }) k made.held made.outs) stored_is made.learns);
-            back = subst (λ (s : ℕ). ComesBack s terms.limits (world.relay_kept c).last (world.relay_kept c).answered (world.relay_kept c).index
+            back = subst (λ (s : ℕ). RelayComesBack s terms.limits (world.relay_kept c).last (world.relay_kept c).answered (world.relay_kept c).index
                 (world.relay_kept c).numbers (world.relay_kept c).limits made.relay) (ap (λ (b : BasisValue). b.steps) hello ∙ is.steps)
-                (subst (λ (k : StoredRelay). ComesBack made.basis.steps terms.limits k.last k.answered k.index k.numbers k.limits made.relay) stored_is
+                (subst (λ (k : StoredRelay). RelayComesBack made.basis.steps terms.limits k.last k.answered k.index k.numbers k.limits made.relay) stored_is
                 made.back);
             new_is = ap (λ (s : Scene). s.world) did.new_is;
           };

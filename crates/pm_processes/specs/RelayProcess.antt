@@ -1,7 +1,7 @@
 -- A process of a relay, frame by frame.
 use Rattle.std.specs.Prelude.{ℕ, List, [], ◌∷◌, ◌++◌, Option, Some, None, ⊤}
 use Rattle.pm_basis.specs.Prices.{BasisValue}
-use Rattle.pm_relay.specs.Relays.{RelayValue, ComesBack}
+use Rattle.pm_relay.specs.Relays.{RelayValue, RelayComesBack}
 use Rattle.pm_wire.specs.declared.frame.Frame.TheVariants.{Hello}
 use Rattle.pm_wire.specs.Framing.{BeginsWith}
 use Rattle.pm_frames.specs.Stored.{StoredRelay, relay_resume_bytes}
@@ -12,7 +12,7 @@ use Rattle.pm_frames.specs.RelayFrames.{relay_framing}
 use Rattle.pm_services.specs.RelayAnswers.{WaitingRelay}
 use Rattle.pm_services.specs.RelaySetups.{RelaySetup}
 use Rattle.pm_lives.specs.Outputs.{Output}
-use Rattle.pm_lives.specs.RelayLife.{nothing_stored}
+use Rattle.pm_lives.specs.RelayLife.{no_relay_stored}
 use Rattle.pm_lives.specs.RelayWrites.{WritesRelay, WritesKept}
 use Rattle.pm_processes.specs.Processes.{relay_start, Wrote}
 
@@ -40,7 +40,7 @@ relay_start_frames basis None = Child (Hello basis) ∷ []
 relay_start_frames basis (Some stored) = Child (Hello basis) ∷ Resume stored ∷ []
 
 abbrev pub relay_resumed : RelaySetup → Option StoredRelay → StoredRelay
-relay_resumed own None = nothing_stored own
+relay_resumed own None = no_relay_stored own
 relay_resumed own (Some stored) = stored
 
 abbrev pub setup_with : ℕ → RelayTerms → BasisValue → RelaySetup
@@ -57,7 +57,7 @@ pub record RelayProcess (child : ℕ) (terms : RelayTerms) (took wrote : List �
   -- the relay that came back, and what it was once it had learnt the limits that it was given last
   pub relay : RelayValue
   pub back : let stored = relay_resumed (setup_with child terms basis) resume in
-      ComesBack basis.steps terms.limits stored.last stored.answered stored.index stored.numbers stored.limits relay
+      RelayComesBack basis.steps terms.limits stored.last stored.answered stored.index stored.numbers stored.limits relay
   pub held : WaitingRelay
   pub outs : List (Output StoredRelay)
   pub learns : WritesKept terms.giver (setup_with child terms basis) (record { relay = relay; waiting = None })

@@ -10,7 +10,7 @@ use Rattle.pm_cache.specs.Learning.{after_learning}
 use Rattle.pm_session.specs.Windows.{Sent, record_of}
 use Rattle.pm_session.specs.declared.price.PriceUpdate.{PriceUpdate}
 use Rattle.pm_concentrator.specs.Concentrators.{Gathered, published_heads, IsNewConcentrator, BidSettled, Passed}
-use Rattle.pm_relay.specs.Numbers.{child_number, head_number, AreReached, AreEnough}
+use Rattle.pm_relay.specs.Numbers.{child_number, head_number, IsCaughtUp, HearsNothingNewer, HearsAgain}
 use Rattle.pm_relay.specs.declared.fault.SendFault.{SendFault}
 use Rattle.pm_relay.specs.declared.fault.SendFault.TheVariants.{NotCaughtUp, NotChanged, WindowFull, OutOfNumbers}
 use Rattle.pm_relay.specs.declared.outcome.PriceOutcome.{PriceOutcome}
@@ -55,14 +55,6 @@ limits_places = window_size + 1
 abbrev pub limits_of_number : RelayValue → ℕ → Option Limits
 limits_of_number r number = Some (slice_index_or r.made_under (number % limits_places) no_limits)
 
--- it has heard of each child as much as its newest bid had
-abbrev pub IsCaughtUp : RelayValue → Type 0
-IsCaughtUp r = AreReached r.recorded r.gathered.cache.heads
-
--- it has heard of no child more than its newest bid had
-abbrev pub HearsNothingNewer : RelayValue → Type 0
-HearsNothingNewer r = AreEnough r.recorded r.gathered.cache.heads
-
 -- something was heard that is not in the newest record, or not in the opening where there is none
 abbrev pub HasChanged : RelayValue → Type 0
 HasChanged r = r.gathered.cache.heads ≡ published_heads r.gathered → ⊥
@@ -75,7 +67,7 @@ unanswered_numbers r = newest_bid_number r - r.answered
 
 -- A relay that heard nothing yet, and whose newest bid, before it restarted, had this number and these of the children, and was
 -- made under these limits. It holds a price of this index, which answers this number.
-pub record ComesBack (steps : ℕ) (limits' : Limits) (last answered' index' : ℕ) (numbers : List ℕ) (under : Limits) (r : RelayValue) : Type 0 where
+pub record RelayComesBack (steps : ℕ) (limits' : Limits) (last answered' index' : ℕ) (numbers : List ℕ) (under : Limits) (r : RelayValue) : Type 0 where
   pub gathered : IsNewConcentrator most_nodes steps (Some limits') r.gathered
   pub base : r.base ≡ last
   pub answered : r.answered ≡ answered'
@@ -99,12 +91,8 @@ with_new_limits r child number limits' =
     else r
 
 -- a relay that came back, has no record of its newest bid, and has heard of each child just what that bid had
-pub record HearsItsRecord (r : RelayValue) : Type 0 where
-  pub came_back : 0 < r.base
-  pub lost : r.gathered.window.last ≡ 0
-  pub caught_up : IsCaughtUp r
-  pub nothing_newer : HearsNothingNewer r
-  pub changed : HasChanged r
+abbrev pub HearsItsRecord : RelayValue → Type 0
+HearsItsRecord r = HearsAgain r.base r.gathered.window.last r.recorded r.gathered.cache.heads (HasChanged r)
 
 -- what it heard became the record of its newest bid again, under the same number
 pub record RecordRebuilt (old new : RelayValue) : Type 0 where
@@ -137,7 +125,7 @@ HasOwnStepWithin r = HasStepWithinAny r.gathered.limits (aggregate_of r.gathered
 
 -- what is taken where it settles goes up under the next number, and what went into it is its record
 pub record BidSent (old new : RelayValue) (number' : ℕ) : Type 0 where
-  pub caught_up : IsCaughtUp old
+  pub caught_up : IsCaughtUp old.recorded old.gathered.cache.heads
   pub room : unanswered_numbers old < window_size
   pub number : number' ≡ newest_bid_number old + 1
   pub made : BidSettled old.gathered new.gathered (old.gathered.window.last + 1)
@@ -153,11 +141,11 @@ pub record BidSent (old new : RelayValue) (number' : ℕ) : Type 0 where
 
 -- when no bid is sent, and why
 abbrev pub NotSent : RelayValue → SendFault → Type 0
-NotSent r NotCaughtUp = IsCaughtUp r → ⊥
-NotSent r NotChanged = IsCaughtUp r × (r.gathered.cache.heads ≡ published_heads r.gathered)
-NotSent r WindowFull = IsCaughtUp r × HasChanged r × (window_size ≤ unanswered_numbers r)
+NotSent r NotCaughtUp = IsCaughtUp r.recorded r.gathered.cache.heads → ⊥
+NotSent r NotChanged = IsCaughtUp r.recorded r.gathered.cache.heads × (r.gathered.cache.heads ≡ published_heads r.gathered)
+NotSent r WindowFull = IsCaughtUp r.recorded r.gathered.cache.heads × HasChanged r × (window_size ≤ unanswered_numbers r)
 NotSent r OutOfNumbers =
-    IsCaughtUp r × HasChanged r × (unanswered_numbers r < window_size) × (newest_bid_number r + 1 ≡ 2 ^ 32)
+    IsCaughtUp r.recorded r.gathered.cache.heads × HasChanged r × (unanswered_numbers r < window_size) × (newest_bid_number r + 1 ≡ 2 ^ 32)
 
 -- ---- a price
 
@@ -177,7 +165,7 @@ pub record HasRecord (r : RelayValue) (number : ℕ) : Type 0 where
 -- the number is that of its newest bid, whose record it lost and may hear again
 pub record MayHearRecord (r : RelayValue) (number : ℕ) : Type 0 where
   pub newest : number ≡ newest_bid_number r
-  pub nothing_newer : HearsNothingNewer r
+  pub nothing_newer : HearsNothingNewer r.recorded r.gathered.cache.heads
 
 -- what is taken of a price: its index, and the number that it answers
 abbrev pub with_price : RelayValue → PriceUpdate → RelayValue

@@ -5,7 +5,7 @@ use Rattle.pm_bid.specs.Clearing.{clearing_step}
 use Rattle.pm_cache.specs.Cache.{kept_number, aggregate_of}
 use Rattle.pm_cache.specs.Learning.{after_learning}
 use Rattle.pm_auctioneer.specs.Auctions.{Auction, new_auction, MarketCleared}
-use Rattle.pm_relay.specs.Numbers.{child_number, head_number, AreReached, AreEnough}
+use Rattle.pm_relay.specs.Numbers.{child_number, head_number, IsCaughtUp, HearsAgain}
 use Rattle.pm_relay.specs.declared.fault.RootFault.{RootFault}
 use Rattle.pm_relay.specs.declared.fault.RootFault.TheVariants.{NotCaughtUp, NotChanged, OutOfNumbers}
 
@@ -19,13 +19,6 @@ pub record RootValue : Type 0 where
 -- the index of its newest clearing, 0 where there is none
 abbrev pub newest_index : RootValue → ℕ
 newest_index r = r.base + r.auction.index
-
--- it has heard of each child as much as its newest clearing had, and of none more
-abbrev pub HearsAll : RootValue → Type 0
-HearsAll r = AreReached r.recorded r.auction.cache.heads
-
-abbrev pub HearsNoMore : RootValue → Type 0
-HearsNoMore r = AreEnough r.recorded r.auction.cache.heads
 
 -- a root that heard nothing yet, and whose newest clearing, before it restarted, had this index and these numbers
 pub record RootComesBack (steps last : ℕ) (numbers : List ℕ) (r : RootValue) : Type 0 where
@@ -43,12 +36,8 @@ with_root_bid r child number demand = record r {
 }
 
 -- a root that came back, lost its newest clearing, and has heard of each child just what that one had
-pub record HearsItsClearing (r : RootValue) : Type 0 where
-  pub came_back : 0 < r.base
-  pub lost : r.auction.index ≡ 0
-  pub all : HearsAll r
-  pub no_more : HearsNoMore r
-  pub changed : r.auction.changed ≡ true
+abbrev pub HearsItsClearing : RootValue → Type 0
+HearsItsClearing r = HearsAgain r.base r.auction.index r.recorded r.auction.cache.heads (r.auction.changed ≡ true)
 
 -- what it heard was cleared again, under the same index
 pub record ClearingRebuilt (old new : RootValue) : Type 0 where
@@ -61,7 +50,7 @@ LooksForClearing old new = (HearsItsClearing old × ClearingRebuilt old new) ⊎
 
 -- the market was cleared under the next index, and the numbers that went into it are noted
 pub record RootCleared (old new : RootValue) (index' step : ℕ) : Type 0 where
-  pub all : HearsAll old
+  pub caught_up : IsCaughtUp old.recorded old.auction.cache.heads
   pub index : index' ≡ newest_index old + 1
   pub cleared : MarketCleared old.auction new.auction (old.auction.index + 1) step
   pub numbers : (child : ℕ) → child < most_nodes → child_number new.recorded child ≡ head_number old.auction.cache.heads child
@@ -70,6 +59,6 @@ pub record RootCleared (old new : RootValue) (index' step : ℕ) : Type 0 where
 
 -- when the market is not cleared, and why
 abbrev pub NotCleared : RootValue → RootFault → Type 0
-NotCleared r NotCaughtUp = HearsAll r → ⊥
-NotCleared r NotChanged = HearsAll r × (r.auction.changed ≡ false)
-NotCleared r OutOfNumbers = HearsAll r × (r.auction.changed ≡ true) × (newest_index r + 1 ≡ 2 ^ 32)
+NotCleared r NotCaughtUp = IsCaughtUp r.recorded r.auction.cache.heads → ⊥
+NotCleared r NotChanged = IsCaughtUp r.recorded r.auction.cache.heads × (r.auction.changed ≡ false)
+NotCleared r OutOfNumbers = IsCaughtUp r.recorded r.auction.cache.heads × (r.auction.changed ≡ true) × (newest_index r + 1 ≡ 2 ^ 32)

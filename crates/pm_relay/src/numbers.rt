@@ -1,14 +1,14 @@
 //! Compares the numbers of a record with the numbers that were heard, and notes them.
 
 ghost use Rattle.std.specs.Prelude.{◌≡◌, ℕ, ◌<◌, ◌↔◌, IsTrue, length};
-ghost use Rattle.pm_relay.specs.Numbers.{AreReached, AreEnough, child_number, head_number, known_number, parents_number};
+ghost use Rattle.pm_relay.specs.Numbers.{IsCaughtUp, HearsNothingNewer, child_number, head_number, known_number, parents_number};
 
 use pm_bid::BidHead;
 
-/// Whether each child's head has at least the child's number.
-pub(crate) fn are_reached(numbers: &[u32], heads: &[BidHead]) -> bool
+/// Whether each child's head has at least the child's number: the node has heard as much as went into what it made last.
+pub(crate) fn is_caught_up(numbers: &[u32], heads: &[BidHead]) -> bool
     requires { length heads.now ≡ length numbers.now }
-    ensures { IsTrue result ↔ AreReached numbers.now heads.now }
+    ensures { IsTrue result ↔ IsCaughtUp numbers.now heads.now }
 {
     for child in 0..numbers.len() {
         if heads[child].number < numbers[child] {
@@ -19,9 +19,9 @@ pub(crate) fn are_reached(numbers: &[u32], heads: &[BidHead]) -> bool
 }
 
 /// Whether no child's head has more than the child's number.
-pub(crate) fn are_enough(numbers: &[u32], heads: &[BidHead]) -> bool
+pub(crate) fn hears_nothing_newer(numbers: &[u32], heads: &[BidHead]) -> bool
     requires { length heads.now ≡ length numbers.now }
-    ensures { IsTrue result ↔ AreEnough numbers.now heads.now }
+    ensures { IsTrue result ↔ HearsNothingNewer numbers.now heads.now }
 {
     for child in 0..numbers.len() {
         if numbers[child] < heads[child].number {

@@ -10,13 +10,13 @@ ghost use Rattle.pm_cache.specs.Cache.{kept_number, answer_to};
 ghost use Rattle.pm_cache.specs.Learning.{demand_of_offer};
 ghost use Rattle.pm_concentrator.specs.Concentrators.{own_demand};
 ghost use Rattle.pm_concentrator.specs.Limited.{settled_step_of_record};
-ghost use Rattle.pm_relay.specs.Relays.{AreRelayLimits, ComesBack, IsCaughtUp, HearsNothingNewer, newest_bid_number, with_child_bid, with_new_limits};
+ghost use Rattle.pm_relay.specs.Relays.{AreRelayLimits, RelayComesBack, newest_bid_number, with_child_bid, with_new_limits};
 ghost use Rattle.pm_relay.specs.Relays.{limits_of_number, LooksForRecord};
-ghost use Rattle.pm_relay.specs.Numbers.{known_number, parents_number};
+ghost use Rattle.pm_relay.specs.Numbers.{IsCaughtUp, HearsNothingNewer, known_number, parents_number};
 ghost use Rattle.pm_relay.specs.Relays.{HasOwnStepWithin, BidSent, NotSent, HasRecord, record_at, TakesPrice};
 
 use crate::fault::SendFault;
-use crate::numbers::{are_enough, are_reached, expiry_number, note_numbers};
+use crate::numbers::{expiry_number, hears_nothing_newer, is_caught_up, note_numbers};
 use crate::outcome::PriceOutcome;
 use crate::resume::Resume;
 use pm_base::{Limits, MOST_NODES, WINDOW_SIZE};
@@ -64,7 +64,7 @@ impl Relay {
         requires steps { AreSteps steps }
         requires limits { AreRelayLimits limits }
         ensures new { IfOk result
-            (λ r. ComesBack steps limits 0 0 0 (replicate most_nodes 0) limits r) }
+            (λ r. RelayComesBack steps limits 0 0 0 (replicate most_nodes 0) limits r) }
     {
         let numbers = [0; MOST_NODES];
         let resume = Resume {
@@ -91,8 +91,8 @@ impl Relay {
         requires numbers { length resume.now.numbers.now ≡ most_nodes }
         requires answered { resume.now.answered ≤ resume.now.last }
         requires under { AreRelayLimits resume.now.limits }
-        ensures back { IfOk result (λ r. ComesBack steps limits resume.now.last resume.now.answered
-            resume.now.index resume.now.numbers.now resume.now.limits r) }
+        ensures back { IfOk result (λ r. RelayComesBack steps limits resume.now.last
+            resume.now.answered resume.now.index resume.now.numbers.now resume.now.limits r) }
     {
         let Limits { floor, ceiling } = limits;
         let concentrator = Concentrator::limited(alloc, MOST_NODES, steps, floor, ceiling)?;
@@ -276,16 +276,17 @@ impl Relay {
 
     /// Whether the relay heard of each child as much as its newest bid had. This fails only after a restart.
     pub fn is_caught_up(&self) -> bool
-        ensures { IsTrue result ↔ IsCaughtUp self.now }
+        ensures { IsTrue result ↔ IsCaughtUp self.now.recorded self.now.gathered.cache.heads }
     {
-        are_reached(&self.recorded, self.concentrator.cache().heads())
+        is_caught_up(&self.recorded, self.concentrator.cache().heads())
     }
 
     /// Whether the relay heard of no child more than its newest bid had.
     fn hears_nothing_newer(&self) -> bool
-        ensures { IsTrue result ↔ HearsNothingNewer self.now }
+        ensures { IsTrue result
+            ↔ HearsNothingNewer self.now.recorded self.now.gathered.cache.heads }
     {
-        are_enough(&self.recorded, self.concentrator.cache().heads())
+        hears_nothing_newer(&self.recorded, self.concentrator.cache().heads())
     }
 
     /// Makes the relay's next bid, whose number is the answer: its demand is what the children take at the steps that [`Relay::prices`] has

@@ -6,12 +6,12 @@ ghost use Rattle.pm_base.specs.Limits.{AreSteps, demand_limit, most_nodes};
 ghost use Rattle.pm_bid.specs.Bids.{AllWithinLimit};
 ghost use Rattle.pm_cache.specs.Cache.{kept_number, answer_to};
 ghost use Rattle.pm_cache.specs.Learning.{demand_of_offer};
-ghost use Rattle.pm_relay.specs.Roots.{RootComesBack, HearsAll, HearsNoMore, newest_index, with_root_bid, LooksForClearing};
-ghost use Rattle.pm_relay.specs.Numbers.{known_number, parents_number};
+ghost use Rattle.pm_relay.specs.Roots.{RootComesBack, newest_index, with_root_bid, LooksForClearing};
+ghost use Rattle.pm_relay.specs.Numbers.{IsCaughtUp, HearsNothingNewer, known_number, parents_number};
 ghost use Rattle.pm_relay.specs.Roots.{RootCleared, NotCleared};
 
 use crate::fault::RootFault;
-use crate::numbers::{are_enough, are_reached, expiry_number, note_numbers};
+use crate::numbers::{expiry_number, hears_nothing_newer, is_caught_up, note_numbers};
 use pm_auctioneer::{Auctioneer, Cleared};
 use pm_base::MOST_NODES;
 use pm_bid::ArrayBid;
@@ -156,7 +156,7 @@ impl Root {
         if self.base == 0 || self.auctioneer.index() > 0 {
             return;
         }
-        if !self.is_caught_up() || !self.hears_no_more() {
+        if !self.is_caught_up() || !self.hears_nothing_newer() {
             return;
         }
         if self.auctioneer.next_clearing().is_err() {
@@ -167,16 +167,17 @@ impl Root {
 
     /// Whether the root heard of each child as much as its newest clearing had. This fails only after a restart.
     pub fn is_caught_up(&self) -> bool
-        ensures { IsTrue result ↔ HearsAll self.now }
+        ensures { IsTrue result ↔ IsCaughtUp self.now.recorded self.now.auction.cache.heads }
     {
-        are_reached(&self.recorded, self.auctioneer.cache().heads())
+        is_caught_up(&self.recorded, self.auctioneer.cache().heads())
     }
 
     /// Whether the root heard of no child more than its newest clearing had.
-    fn hears_no_more(&self) -> bool
-        ensures { IsTrue result ↔ HearsNoMore self.now }
+    fn hears_nothing_newer(&self) -> bool
+        ensures { IsTrue result
+            ↔ HearsNothingNewer self.now.recorded self.now.auction.cache.heads }
     {
-        are_enough(&self.recorded, self.auctioneer.cache().heads())
+        hears_nothing_newer(&self.recorded, self.auctioneer.cache().heads())
     }
 
     /// Clears the market under the next index: the step is the clearing step of the children's sum. What goes to the children

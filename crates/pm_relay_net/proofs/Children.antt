@@ -12,7 +12,7 @@ use Rattle.pm_net.specs.Network.{Network}
 use Rattle.pm_net.specs.Running.{recorded_number, is_caught_up, is_overtaken}
 use Rattle.pm_net.proofs.News.{child_from, child_at}
 use Rattle.pm_net_plan.specs.Places.{Numbering, IsNumbering}
-use Rattle.pm_relay.specs.Numbers.{child_number, head_number, AreReached, AreEnough}
+use Rattle.pm_relay.specs.Numbers.{child_number, head_number, IsCaughtUp, HearsNothingNewer}
 use Rattle.pm_relay_net.specs.Heads.{bid_head, heads_of}
 use Rattle.pm_relay_net.proofs.Places.{heads_of-at, head_there, in_each_place}
 
@@ -62,43 +62,44 @@ module _ (lists : Lists) (numbering : Numbering) (is : IsNumbering lists numberi
       ∙ ap (λ (h : BidHead). h.number) (head_there lists numbering is net.heard x node)
 
   -- the numbers are reached just where the node holds of no child less than the recorded one
-  pub reached_at : AreReached numbers heads → (x : ℕ) → IsNode lists x → parent lists x ≡ y → recorded_number net y x ≤ (net.heard x).number
+  pub reached_at : IsCaughtUp numbers heads → (x : ℕ) → IsNode lists x → parent lists x ≡ y → recorded_number net y x ≤ (net.heard x).number
   reached_at reached x node up =
       omega (arith, reached (numbering.place x) (omega (arith, is.inside x node, knows.children)), recorded_at x node up, heard_at x node up)
 
   -- the numbers are reached if that of each child is
-  pub reached_from : ((x : ℕ) → IsNode lists x → parent lists x ≡ y → recorded_number net y x ≤ (net.heard x).number) → AreReached numbers heads
+  pub reached_from : ((x : ℕ) → IsNode lists x → parent lists x ≡ y → recorded_number net y x ≤ (net.heard x).number) → IsCaughtUp numbers heads
   reached_from each = λ k inside.
       in_each_place lists numbering is y (λ k. child_number numbers k ≤ head_number heads k)
       (λ k inside none. omega (arith, knows.numbers_are k inside, none_there numbering y k (net.records y (net.last_number y)) inside none))
       (λ x node up. omega (arith, recorded_at x node up, heard_at x node up, each x node up)) k (omega (arith, inside, knows.children))
 
   -- that is where it is caught up
-  pub caught_to : AreReached numbers heads → is_caught_up lists net y ≡ true
+  pub caught_to : IsCaughtUp numbers heads → is_caught_up lists net y ≡ true
   unfolding is_caught_up
   caught_to reached = child_at lists y (λ x. leb (recorded_number net y x) (net.heard x).number) (λ x node up.
       le-leb (recorded_number net y x) (net.heard x).number (reached_at reached x node up))
 
   -- and if the node is caught up
-  pub caught_from : is_caught_up lists net y ≡ true → AreReached numbers heads
+  pub caught_from : is_caught_up lists net y ≡ true → IsCaughtUp numbers heads
   unfolding is_caught_up
   caught_from caught = reached_from (λ x node up. leb-true (recorded_number net y x) (net.heard x).number
       (child_from lists y (λ x. leb (recorded_number net y x) (net.heard x).number) caught x node up))
 
   -- the numbers are enough just where it holds of no child more
-  pub enough_at : AreEnough numbers heads → (x : ℕ) → IsNode lists x → parent lists x ≡ y → (net.heard x).number ≤ recorded_number net y x
+  pub enough_at : HearsNothingNewer numbers heads → (x : ℕ) → IsNode lists x → parent lists x ≡ y → (net.heard x).number ≤ recorded_number net y x
   enough_at enough x node up =
       omega (arith, enough (numbering.place x) (omega (arith, is.inside x node, knows.children)), recorded_at x node up, heard_at x node up)
 
   -- the numbers are enough if that of each child is
-  pub enough_from : ((x : ℕ) → IsNode lists x → parent lists x ≡ y → (net.heard x).number ≤ recorded_number net y x) → AreEnough numbers heads
+  pub enough_from : ((x : ℕ) → IsNode lists x → parent lists x ≡ y → (net.heard x).number ≤ recorded_number net y x) →
+      HearsNothingNewer numbers heads
   enough_from each = λ k inside.
       in_each_place lists numbering is y (λ k. head_number heads k ≤ child_number numbers k)
       (λ k inside none. omega (arith, ap (λ (l : List BidHead). head_number l k) knows.heads_are, none_there numbering y k net.heard inside none))
       (λ x node up. omega (arith, recorded_at x node up, heard_at x node up, each x node up)) k (omega (arith, inside, knows.children))
 
   -- then it is not overtaken
-  pub over_to : AreEnough numbers heads → is_overtaken lists net y ≡ false
+  pub over_to : HearsNothingNewer numbers heads → is_overtaken lists net y ≡ false
   unfolding is_overtaken
   over_to enough = ap not (child_at lists y (λ x. leb (net.heard x).number (recorded_number net y x)) (λ x node up.
       le-leb (net.heard x).number (recorded_number net y x) (enough_at enough x node up)))

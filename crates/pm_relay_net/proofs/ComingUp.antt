@@ -19,7 +19,7 @@ use Rattle.pm_net.specs.Network.{Network, start_network}
 use Rattle.pm_net.specs.Restarts.{stored_price, records_left, number_alone, nothing_left, after_restart}
 use Rattle.pm_net_plan.specs.Places.{Numbering, IsNumbering, demands_of}
 use Rattle.pm_relay.specs.Numbers.{child_number, head_number}
-use Rattle.pm_relay.specs.Relays.{RelayValue, newest_bid_number, limits_of_number, ComesBack}
+use Rattle.pm_relay.specs.Relays.{RelayValue, newest_bid_number, limits_of_number, RelayComesBack}
 use Rattle.pm_relay_net.specs.Heads.{bid_head, heads_of}
 use Rattle.pm_relay_net.specs.RelayIs.{MatchesNode, RelayIs}
 use Rattle.pm_relay_net.proofs.Places.{heads_of-none, demands_of-none}
@@ -55,7 +55,7 @@ hears_none lists p numbering is y heard none = record {
 module _ (lists : Lists) (p : Pricing) (numbering : Numbering) (is : IsNumbering lists numbering)
     (alike : LimitsGoByDevices lists p.limits) (net : Network) (limits under : Limits)
     (c last answered index : ℕ) (numbers : List ℕ) (r : RelayValue) (limited : p.limits c no_changes ≡ Some limits)
-    (back : ComesBack p.steps limits last answered index numbers under r)
+    (back : RelayComesBack p.steps limits last answered index numbers under r)
     (none : (x : ℕ) → IsNode lists x → parent lists x ≡ c → net.heard x ≡ nothing_heard p)
     (last_is : last ≡ net.last_number c) (few : length numbers ≡ most_nodes)
     (numbers_are : (k : ℕ) → k < most_nodes → child_number numbers k ≡ head_number (heads_of numbering c (net.records c (net.last_number c))) k)
@@ -116,7 +116,8 @@ numbers_left lists p net c k x =
 -- for the first time
 pub first_up : (lists : Lists) (p : Pricing) (numbering : Numbering) → IsNumbering lists numbering → LimitsGoByDevices lists p.limits →
     (limits : Limits) (c : ℕ) (r : RelayValue) →
-    p.limits c no_changes ≡ Some limits → ComesBack p.steps limits 0 0 0 (replicate most_nodes 0) limits r → RelayIs p numbering (start_network p) c r
+    p.limits c no_changes ≡ Some limits → RelayComesBack p.steps limits 0 0 0 (replicate most_nodes 0) limits r →
+    RelayIs p numbering (start_network p) c r
 first_up lists p numbering is alike limits c r limited back =
     comes_up lists p numbering is alike (start_network p) limits limits c 0 0 0 (replicate most_nodes 0) r limited back (λ x node up. refl) refl
     (length-replicate {A = ℕ} most_nodes 0)
@@ -129,7 +130,7 @@ pub back_up : (lists : Lists) (p : Pricing) (numbering : Numbering) → IsNumber
     (net : Network) (limits under : Limits) (c k : ℕ)
     (old new : RelayValue) → p.limits c no_changes ≡ Some limits → MatchesNode p numbering net c old →
     Some under ≡ limits_of_number old (newest_bid_number old) → (stored_price net c k).number ≤ net.last_number c →
-    ComesBack p.steps limits (newest_bid_number old) (stored_price net c k).number (stored_price net c k).index old.recorded under new →
+    RelayComesBack p.steps limits (newest_bid_number old) (stored_price net c k).number (stored_price net c k).index old.recorded under new →
     RelayIs p numbering (after_restart lists p net c k) c new
 back_up lists p numbering is alike net limits under c k old new limited m under_is within back =
     comes_up lists p numbering is alike (after_restart lists p net c k) limits under c (newest_bid_number old) (stored_price net c k).number

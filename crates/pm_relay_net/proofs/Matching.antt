@@ -7,8 +7,8 @@ use Rattle.pm_net.specs.Pricing.{Pricing}
 use Rattle.pm_net.specs.Network.{Network}
 use Rattle.pm_net.specs.Running.{recorded_number, is_caught_up, is_overtaken, heard_sum}
 use Rattle.pm_net_plan.specs.Places.{Numbering, IsNumbering}
-use Rattle.pm_relay.specs.Numbers.{child_number, head_number}
-use Rattle.pm_relay.specs.Relays.{RelayValue, IsCaughtUp, HearsNothingNewer}
+use Rattle.pm_relay.specs.Numbers.{child_number, head_number, IsCaughtUp, HearsNothingNewer}
+use Rattle.pm_relay.specs.Relays.{RelayValue}
 use Rattle.pm_relay_net.specs.Heads.{AddsByPlaces}
 use Rattle.pm_relay_net.specs.RelayIs.{MatchesNode}
 use Rattle.pm_relay_net.proofs.Children as children
@@ -28,19 +28,20 @@ module _ (lists : Lists) (p : Pricing) (numbering : Numbering) (is : IsNumbering
   heard_at = children.heard_at lists numbering is net c r.gathered.cache.heads r.recorded knows
 
   -- a relay is caught up just where the node is
-  pub caught_to : IsCaughtUp r → is_caught_up lists net c ≡ true
+  pub caught_to : IsCaughtUp r.recorded r.gathered.cache.heads → is_caught_up lists net c ≡ true
   caught_to = children.caught_to lists numbering is net c r.gathered.cache.heads r.recorded knows
 
   -- and the other way round
-  pub caught_from : is_caught_up lists net c ≡ true → IsCaughtUp r
+  pub caught_from : is_caught_up lists net c ≡ true → IsCaughtUp r.recorded r.gathered.cache.heads
   caught_from = children.caught_from lists numbering is net c r.gathered.cache.heads r.recorded knows
 
   -- it hears nothing newer just where the node is not overtaken
-  pub over_to : HearsNothingNewer r → is_overtaken lists net c ≡ false
+  pub over_to : HearsNothingNewer r.recorded r.gathered.cache.heads → is_overtaken lists net c ≡ false
   over_to = children.over_to lists numbering is net c r.gathered.cache.heads r.recorded knows
 
   -- so it does where no child's number is above the recorded one
-  pub nothing_newer : ((x : ℕ) → IsNode lists x → parent lists x ≡ c → (net.heard x).number ≤ recorded_number net c x) → HearsNothingNewer r
+  pub nothing_newer : ((x : ℕ) → IsNode lists x → parent lists x ≡ c → (net.heard x).number ≤ recorded_number net c x) →
+      HearsNothingNewer r.recorded r.gathered.cache.heads
   nothing_newer = children.enough_from lists numbering is net c r.gathered.cache.heads r.recorded knows
 
   -- its sum is the node's

@@ -24,8 +24,8 @@ use Rattle.pm_net.specs.Events.{network_step, Clears, StopsClearing, TellsOne}
 use Rattle.pm_net.proofs.Messages.{two_same}
 use Rattle.pm_net.proofs.News.{level, child_from}
 use Rattle.pm_net_plan.specs.Places.{Numbering, IsNumbering}
-use Rattle.pm_relay.specs.Numbers.{head_number}
-use Rattle.pm_relay.specs.Roots.{RootValue, newest_index, HearsAll, HearsNoMore, RootCleared, NotCleared}
+use Rattle.pm_relay.specs.Numbers.{head_number, IsCaughtUp, HearsNothingNewer}
+use Rattle.pm_relay.specs.Roots.{RootValue, newest_index, RootCleared, NotCleared}
 use Rattle.pm_relay.specs.declared.fault.RootFault.{RootFault}
 use Rattle.pm_relay.specs.declared.fault.RootFault.TheVariants.{NotCaughtUp, NotChanged, OutOfNumbers}
 use Rattle.pm_relay_net.specs.Heads.{heads_of, AddsByPlaces}
@@ -46,17 +46,17 @@ module _ (lists : Lists) (p : Pricing) (numbering : Numbering) (is : IsNumbering
   known = knows p numbering net r m
 
   -- a root that learnt something, and heard no less of any child than went into its newest clearing, heard more of one
-  more : HearsAll r → r.auction.changed ≡ true → HearsNoMore r → ⊥
+  more : IsCaughtUp r.recorded r.auction.cache.heads → r.auction.changed ≡ true → HearsNothingNewer r.recorded r.auction.cache.heads → ⊥
   more all changed no_more =
       elim (cases_lt 0 r.auction.index) [
         | inl some ↦ m.news (inr some) changed no_more
         | inr none ↦ elim (cases_lt 0 r.base) [
-          | inl back ↦ was.rebuilt (record { came_back = back; lost = omega (arith, none); all = all; no_more = no_more; changed = changed })
+          | inl back ↦ was.rebuilt (record { came_back = back; lost = omega (arith, none); caught_up = all; nothing_newer = no_more; changed = changed })
           | inr zero ↦ m.news (inl (omega (arith, zero))) changed no_more
         ]
       ]
 
-  news : HearsAll r → r.auction.changed ≡ true → has_news lists net 0 ≡ true
+  news : IsCaughtUp r.recorded r.auction.cache.heads → r.auction.changed ≡ true → has_news lists net 0 ≡ true
   unfolding has_news
   news all changed = elim (cases_Bool (has_news lists net 0)) [
     | inl e ↦ e
@@ -68,7 +68,7 @@ module _ (lists : Lists) (p : Pricing) (numbering : Numbering) (is : IsNumbering
   ]
 
   -- one that learnt nothing heard no more of any child
-  nothing_more : r.auction.changed ≡ false → HearsNoMore r
+  nothing_more : r.auction.changed ≡ false → HearsNothingNewer r.recorded r.auction.cache.heads
   nothing_more same = λ k inside.
       let k_in : k < most_nodes = omega (arith, inside, m.children) in
       elim (cases_lt 0 r.auction.index) [
@@ -82,7 +82,7 @@ module _ (lists : Lists) (p : Pricing) (numbering : Numbering) (is : IsNumbering
       ]
 
   -- an auctioneer that heard of each child what is in its clearing, and learnt nothing since, has no news
-  pub no_news : HearsAll r → r.auction.changed ≡ false → has_news lists net 0 ≡ false
+  pub no_news : IsCaughtUp r.recorded r.auction.cache.heads → r.auction.changed ≡ false → has_news lists net 0 ≡ false
   no_news all same = level lists net 0
       (children.caught_to lists numbering is net 0 r.auction.cache.heads r.recorded known all)
       (children.over_to lists numbering is net 0 r.auction.cache.heads r.recorded known (nothing_more same))
@@ -106,7 +106,7 @@ module _ (lists : Lists) (p : Pricing) (numbering : Numbering) (is : IsNumbering
     can : can_clear lists net ≡ true
     unfolding can_clear
     can = and_from (is_caught_up lists net 0) (has_news lists net 0)
-        (children.caught_to lists numbering is net 0 r.auction.cache.heads r.recorded known did.all) (news did.all did.cleared.changed)
+        (children.caught_to lists numbering is net 0 r.auction.cache.heads r.recorded known did.caught_up) (news did.caught_up did.cleared.changed)
 
     abbrev n : ℕ
     n = net.last_number 0 + 1

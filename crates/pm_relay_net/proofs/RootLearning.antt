@@ -20,8 +20,8 @@ use Rattle.pm_net.specs.Events.{network_step, network_after, TakesBid, Rebuilds}
 use Rattle.pm_net.proofs.Messages.{two_same}
 use Rattle.pm_net.proofs.News.{level}
 use Rattle.pm_net_plan.specs.Places.{Numbering, IsNumbering, demands_of}
-use Rattle.pm_relay.specs.Numbers.{child_number, head_number}
-use Rattle.pm_relay.specs.Roots.{RootValue, HearsAll, with_root_bid, HearsItsClearing, ClearingRebuilt, LooksForClearing}
+use Rattle.pm_relay.specs.Numbers.{child_number, head_number, IsCaughtUp}
+use Rattle.pm_relay.specs.Roots.{RootValue, with_root_bid, HearsItsClearing, ClearingRebuilt, LooksForClearing}
 use Rattle.pm_relay_net.specs.Heads.{heads_of, AddsByPlaces}
 use Rattle.pm_relay_net.specs.RelayIs.{told_demand}
 use Rattle.pm_relay_net.specs.RootIs.{HasClearing, MatchesRoot, RootIs}
@@ -35,7 +35,8 @@ pub knows : (p : Pricing) (numbering : Numbering) (net : Network) (r : RootValue
 knows p numbering net r m = record { heads_are = m.heads; children = m.children; numbers_are = m.recorded }
 
 -- a root that lost no clearing heard of each child as much as went into the newest one
-pub has_heard : (p : Pricing) (numbering : Numbering) (net : Network) (r : RootValue) → MatchesRoot p numbering net r → HasClearing r → HearsAll r
+pub has_heard : (p : Pricing) (numbering : Numbering) (net : Network) (r : RootValue) → MatchesRoot p numbering net r → HasClearing r →
+    IsCaughtUp r.recorded r.auction.cache.heads
 has_heard p numbering net r m (inr some) = m.caught_up some
 has_heard p numbering net r m (inl none) = elim (cases_lt 0 r.auction.index) [
   | inl some ↦ m.caught_up some
@@ -96,7 +97,8 @@ module _ (lists : Lists) (p : Pricing) (numbering : Numbering) (is : IsNumbering
     }
 
     -- it still heard no less of any child
-    still : HearsAll r → (z : ℕ) → IsNode lists z → parent lists z ≡ 0 → recorded_number net 0 z ≤ (net'.heard z).number
+    still : IsCaughtUp r.recorded r.auction.cache.heads → (z : ℕ) → IsNode lists z → parent lists z ≡ 0 →
+        recorded_number net 0 z ≤ (net'.heard z).number
     still all z z_node z_up =
         let before : recorded_number net 0 z ≤ (net.heard z).number =
         children.reached_at lists numbering is net 0 r.auction.cache.heads r.recorded (knows p numbering net r m) all z z_node z_up in
@@ -162,8 +164,8 @@ module _ (lists : Lists) (p : Pricing) (numbering : Numbering) (is : IsNumbering
   can = and_from (ltb (net.last_number 0) (net.whole_from 0)) (not (has_news lists net 0))
       (lt-ltb (net.last_number 0) (net.whole_from 0) (omega (arith, m.newest, m.base, hears.lost, hears.came_back)))
       (not_from_false (has_news lists net 0) (level lists net 0
-      (children.caught_to lists numbering is net 0 old.auction.cache.heads old.recorded (knows p numbering net old m) hears.all)
-      (children.over_to lists numbering is net 0 old.auction.cache.heads old.recorded (knows p numbering net old m) hears.no_more)))
+      (children.caught_to lists numbering is net 0 old.auction.cache.heads old.recorded (knows p numbering net old m) hears.caught_up)
+      (children.over_to lists numbering is net 0 old.auction.cache.heads old.recorded (knows p numbering net old m) hears.nothing_newer)))
 
   abbrev after : Network
   after = after_rebuilding net 0
@@ -178,7 +180,7 @@ module _ (lists : Lists) (p : Pricing) (numbering : Numbering) (is : IsNumbering
   heard_is = two_same net.records 0 (net.last_number 0) net.heard 0 (net.last_number 0) refl refl
 
   equal : (k : ℕ) → k < most_nodes → child_number old.recorded k ≡ head_number old.auction.cache.heads k
-  equal k inside = omega (arith, hears.all k (omega (arith, inside, m.children)), hears.no_more k (omega (arith, inside, m.children)))
+  equal k inside = omega (arith, hears.caught_up k (omega (arith, inside, m.children)), hears.nothing_newer k (omega (arith, inside, m.children)))
 
   heads_same : new.auction.cache.heads ≡ old.auction.cache.heads
   heads_same = ap (λ (w : Cache). w.heads) did.cleared.cache

@@ -32,8 +32,8 @@ use Rattle.pm_net.specs.Agrees.{bid_of_number, NetworkAgrees}
 use Rattle.pm_net.proofs.Messages.{two_same, two_other}
 use Rattle.pm_net.proofs.News.{level, child_from}
 use Rattle.pm_net_plan.specs.Places.{Numbering, IsNumbering}
-use Rattle.pm_relay.specs.Numbers.{head_number}
-use Rattle.pm_relay.specs.Relays.{RelayValue, newest_bid_number, limits_of_number, IsCaughtUp, HasChanged, unanswered_numbers, BidSent, NotSent}
+use Rattle.pm_relay.specs.Numbers.{head_number, IsCaughtUp}
+use Rattle.pm_relay.specs.Relays.{RelayValue, newest_bid_number, limits_of_number, HasChanged, unanswered_numbers, BidSent, NotSent}
 use Rattle.pm_relay.specs.declared.fault.SendFault.{SendFault}
 use Rattle.pm_relay.specs.declared.fault.SendFault.TheVariants.{NotCaughtUp, NotChanged, WindowFull, OutOfNumbers}
 use Rattle.pm_relay_net.specs.Heads.{bid_head, head_in, heads_of, AddsByPlaces}
@@ -63,7 +63,8 @@ module _ (lists : Lists) (law : Lawful lists) (p : Pricing) (numbering : Numberi
   m = was.matches
 
   -- where the heads are those that were published, and the relay is caught up, no child's number is another one
-  over_level : (some : Bool) → ltb 0 r.gathered.window.last ≡ some → IsCaughtUp r → r.gathered.cache.heads ≡ published_heads r.gathered →
+  over_level : (some : Bool) → ltb 0 r.gathered.window.last ≡ some → IsCaughtUp r.recorded r.gathered.cache.heads →
+      r.gathered.cache.heads ≡ published_heads r.gathered →
       (x : ℕ) → IsNode lists x → parent lists x ≡ c → (net.heard x).number ≤ recorded_number net c x
   over_level true e caught same x node up =
       let heads : r.gathered.cache.heads ≡ heads_of numbering c (net.records c (net.last_number c)) =
@@ -87,7 +88,7 @@ module _ (lists : Lists) (law : Lawful lists) (p : Pricing) (numbering : Numberi
       omega (arith, heard_at lists p numbering is net c r m x node up, nothing)
 
   -- a relay that is caught up, and heard nothing but what is in its newest bid, has no news
-  pub no_news : IsCaughtUp r → r.gathered.cache.heads ≡ published_heads r.gathered → has_news lists net c ≡ false
+  pub no_news : IsCaughtUp r.recorded r.gathered.cache.heads → r.gathered.cache.heads ≡ published_heads r.gathered → has_news lists net c ≡ false
   no_news caught same = level lists net c (caught_to lists p numbering is net c r m caught)
       (over_to lists p numbering is net c r m (nothing_newer lists p numbering is net c r m
       (over_level (ltb 0 r.gathered.window.last) refl caught same)))
@@ -124,7 +125,8 @@ module _ (lists : Lists) (law : Lawful lists) (p : Pricing) (numbering : Numberi
       ap (λ (i : ℕ). cut_at (s.published y) i d) len ∙ ap (λ (a : Cut). a d) (entry_zero (s.published y)) ∙ sym (part_zero lists s.published x d))
 
   -- without news the heads are those that were published
-  unchanged : (some : Bool) → ltb 0 r.gathered.window.last ≡ some → IsCaughtUp r → HasChanged r → has_news lists net c ≡ false → ⊥
+  unchanged : (some : Bool) → ltb 0 r.gathered.window.last ≡ some → IsCaughtUp r.recorded r.gathered.cache.heads →
+      HasChanged r → has_news lists net c ≡ false → ⊥
   unchanged true e caught changed none =
       let one : 1 ≤ r.gathered.window.last = omega (arith, ltb-true 0 r.gathered.window.last e) in
       changed (m.heads ∙ heads_of-same lists numbering is c net.heard (net.records c (net.last_number c))
@@ -160,7 +162,7 @@ module _ (lists : Lists) (law : Lawful lists) (p : Pricing) (numbering : Numberi
           ∙ ap (λ (g : Bool). record { number = 0; gone = g }) (gone_zero lists x))
           k inside
 
-  news : IsCaughtUp r → HasChanged r → has_news lists net c ≡ true
+  news : IsCaughtUp r.recorded r.gathered.cache.heads → HasChanged r → has_news lists net c ≡ true
   news caught changed = elim (cases_Bool (has_news lists net c)) [
     | inl e ↦ e
     | inr e ↦ absurd (unchanged (ltb 0 r.gathered.window.last) refl caught changed e)

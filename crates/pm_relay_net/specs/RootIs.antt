@@ -8,8 +8,8 @@ use Rattle.pm_net.specs.Pricing.{Pricing}
 use Rattle.pm_net.specs.Messages.{PriceMessage}
 use Rattle.pm_net.specs.Network.{Network}
 use Rattle.pm_net_plan.specs.Places.{Numbering, demands_of}
-use Rattle.pm_relay.specs.Numbers.{child_number, head_number}
-use Rattle.pm_relay.specs.Roots.{RootValue, newest_index, HearsAll, HearsNoMore, HearsItsClearing}
+use Rattle.pm_relay.specs.Numbers.{child_number, head_number, IsCaughtUp, HearsNothingNewer}
+use Rattle.pm_relay.specs.Roots.{RootValue, newest_index, HearsItsClearing}
 use Rattle.pm_relay_net.specs.Heads.{heads_of}
 use Rattle.pm_relay_net.specs.RelayIs.{recorded_sum, messages_of}
 
@@ -32,14 +32,14 @@ pub record MatchesRoot (p : Pricing) (numbering : Numbering) (net : Network) (r 
   -- it has the clearings behind its base
   pub base : r.base ≡ net.whole_from 0 - 1
   -- if it has the newest one, it heard of no child less than went into it, and its step is that of the sum
-  pub caught_up : 0 < r.auction.index → HearsAll r
+  pub caught_up : 0 < r.auction.index → IsCaughtUp r.recorded r.auction.cache.heads
   pub step : 0 < r.auction.index → r.auction.step ≡ clearing_step (recorded_sum p net 0 (net.last_number 0))
   -- if nothing was learnt since, it heard just what went into it, and before the first clearing since it came up nothing
   pub unchanged : r.auction.changed ≡ false → 0 < r.auction.index →
       heads_of numbering 0 net.heard ≡ heads_of numbering 0 (net.records 0 (net.last_number 0))
   pub opening : r.auction.changed ≡ false → r.auction.index ≡ 0 → r.auction.cache.heads ≡ replicate most_nodes nothing_sent
   -- if something was, it heard of some child more than went into it
-  pub news : HasClearing r → r.auction.changed ≡ true → HearsNoMore r → ⊥
+  pub news : HasClearing r → r.auction.changed ≡ true → HearsNothingNewer r.recorded r.auction.cache.heads → ⊥
 
 -- the root is what the network has of its auctioneer: a clearing that it hears it has
 pub record RootIs (p : Pricing) (numbering : Numbering) (net : Network) (r : RootValue) : Type 0 where

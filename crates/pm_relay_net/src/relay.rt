@@ -15,7 +15,7 @@ ghost use Rattle.pm_net.specs.Restarts.{stored_price};
 ghost use Rattle.pm_net.specs.Events.{Event, network_step, network_after};
 ghost use Rattle.pm_net.specs.Agrees.{NetworkAgrees};
 ghost use Rattle.pm_net_plan.specs.Places.{Numbering, IsNumbering};
-ghost use Rattle.pm_relay.specs.Relays.{RelayValue, newest_bid_number, ComesBack, with_child_bid, with_new_limits, limits_of_number, LooksForRecord};
+ghost use Rattle.pm_relay.specs.Relays.{RelayValue, newest_bid_number, RelayComesBack, with_child_bid, with_new_limits, limits_of_number, LooksForRecord};
 ghost use Rattle.pm_relay.specs.Relays.{BidSent, NotSent, TakesPrice};
 ghost use Rattle.pm_relay.specs.declared.fault.SendFault.{SendFault};
 ghost use Rattle.pm_relay.specs.declared.outcome.PriceOutcome.{PriceOutcome};
@@ -30,7 +30,7 @@ pub fn relays_come_up()
     ensures first { (lists : Lists) (p : Pricing) (numbering : Numbering) (limits : Limits) (c : ℕ)
         (r : RelayValue) → IsNumbering lists numbering → LimitsGoByDevices lists p.limits →
         p.limits c no_changes ≡ Some limits →
-        ComesBack p.steps limits 0 0 0 (replicate most_nodes 0) limits r →
+        RelayComesBack p.steps limits 0 0 0 (replicate most_nodes 0) limits r →
         RelayIs p numbering (start_network p) c r }
     ensures again { (lists : Lists) (p : Pricing) (numbering : Numbering) (net : Network)
         (limits under : Limits) (c k : ℕ) (old new : RelayValue) →
@@ -38,7 +38,7 @@ pub fn relays_come_up()
         p.limits c no_changes ≡ Some limits → RelayIs p numbering net c old →
         Some under ≡ limits_of_number old (newest_bid_number old) →
         (stored_price net c k).number ≤ net.last_number c →
-        ComesBack p.steps limits (newest_bid_number old) (stored_price net c k).number
+        RelayComesBack p.steps limits (newest_bid_number old) (stored_price net c k).number
         (stored_price net c k).index old.recorded under new →
         RelayIs p numbering (network_step lists p net (Event.Restarts c k)) c new }
 {}

@@ -15,7 +15,7 @@ use Rattle.pm_services.specs.Limits.{relay_reply_limit, price_reply_limit}
 use Rattle.pm_services.specs.Receipts.{Appended, sender_place}
 use Rattle.pm_services.specs.RelayAnswers.{OpenRelay, WaitingRelay, with_held, AnswersBid, AnswersPrice, AnswersLimits, AnswersExpire, AnswersSend, Opens}
 use Rattle.pm_services.specs.RelayAnswers.{AnswersRelayFrame, AnswersBounded, AnswersTold, AnswersGiven, AnswersGivenIn, AnswersKept, AnswersKeptIn}
-use Rattle.pm_services.specs.RelayAnswers.{ComesUpAgain}
+use Rattle.pm_services.specs.RelayAnswers.{RelayComesUpAgain}
 
 -- ---- a child's Bid
 
@@ -114,7 +114,7 @@ was_given old new giver number stored limits out longer is same kept some a =
 pub comes_back : (old : OpenRelay) (back : WaitingRelay) (stored : StoredRelay) (new : OpenRelay) (out longer : List ℕ) →
     Opens old.setup.terms.limits old.setup.basis.steps stored.last stored.answered stored.index stored.numbers stored.limits back →
     Appended (AnswersKept (with_held old back) stored new) relay_reply_limit out longer →
-    Appended (ComesUpAgain old stored new) relay_reply_limit out longer
+    Appended (RelayComesUpAgain old stored new) relay_reply_limit out longer
 comes_back old back stored new out longer opens a =
     record { reply = a.reply; answers = record { back = back; opens = opens; learns = a.answers }; appended = a.appended; few = a.few }
 

@@ -13,7 +13,7 @@ use Rattle.pm_wire.specs.Answers.{answer_bytes}
 use Rattle.pm_wire.specs.Frames.{frame_bytes}
 use Rattle.pm_wire.specs.declared.answer.Reply as reply
 use Rattle.pm_wire.specs.declared.frame.Frame.TheVariants.{Hello, Bid, Gone, Clear}
-use Rattle.pm_relay.specs.Relays.{RelayValue, AreRelayLimits, newest_bid_number, record_at, ComesBack, with_child_bid, with_new_limits}
+use Rattle.pm_relay.specs.Relays.{RelayValue, AreRelayLimits, newest_bid_number, record_at, RelayComesBack, with_child_bid, with_new_limits}
 use Rattle.pm_relay.specs.Relays.{limits_of_number, no_limits, LooksForRecord, BidSent, NotSent, TakesPrice}
 use Rattle.pm_relay.specs.Numbers.{child_number, known_number, parents_number}
 use Rattle.pm_relay.specs.declared.fault.SendFault.{SendFault}
@@ -210,11 +210,11 @@ pub record AnswersSend (own : RelaySetup) (old new : WaitingRelay) (reply : List
 
 -- so, and no price waits
 pub record Opens (limits : Limits) (steps last answered index : ℕ) (numbers : List ℕ) (under : Limits) (new : WaitingRelay) : Type 0 where
-  pub back : ComesBack steps limits last answered index numbers under new.relay
+  pub back : RelayComesBack steps limits last answered index numbers under new.relay
   pub waiting : new.waiting ≡ None
 
 -- a relay to which nothing was sent, and whose children have no bounds
-pub record ComesUp (own : RelaySetup) (new : Option OpenRelay) : Type 0 where
+pub record RelayComesUp (own : RelaySetup) (new : Option OpenRelay) : Type 0 where
   pub held : WaitingRelay
   pub opens : Opens own.terms.limits own.basis.steps 0 0 0 (replicate most_nodes 0) own.terms.limits held
   pub opened : new ≡ Some (record { setup = own; bounds = no_bounds; held = held })
@@ -270,7 +270,7 @@ abbrev pub AnswersKept : OpenRelay → StoredRelay → OpenRelay → List ℕ �
 AnswersKept old stored new reply = AnswersKeptIn old.setup.terms.giver old stored new reply
 
 -- a relay comes back with what it gave; its limits of the first start count until it learnt others
-pub record ComesUpAgain (old : OpenRelay) (stored : StoredRelay) (new : OpenRelay) (reply : List ℕ) : Type 0 where
+pub record RelayComesUpAgain (old : OpenRelay) (stored : StoredRelay) (new : OpenRelay) (reply : List ℕ) : Type 0 where
   pub back : WaitingRelay
   pub opens : Opens old.setup.terms.limits old.setup.basis.steps stored.last stored.answered stored.index stored.numbers stored.limits back
   pub learns : AnswersKept (with_held old back) stored new reply
@@ -294,7 +294,7 @@ AnswersRelayFrame old Send new reply = Holds (λ after reply'. AnswersSend old.s
 AnswersRelayFrame old (Expire sender) new reply = Holds (λ after reply'. AnswersExpire old.setup old.held sender after reply') old new reply
 AnswersRelayFrame old (given.Limits number limits) new reply = AnswersGiven old number limits new reply
 AnswersRelayFrame old (Bound sender bound) new reply = IsLeft (with_childs_bound old sender bound) new [] reply
-AnswersRelayFrame old (Resume stored) new reply = ComesUpAgain old stored new reply
+AnswersRelayFrame old (Resume stored) new reply = RelayComesUpAgain old stored new reply
 
 -- ---- all frames
 
@@ -308,7 +308,7 @@ AnswersOpen old frame new reply = (after : OpenRelay) × (new ≡ Some after) ×
 -- a relay comes up with the first Hello, and before it nothing is answered
 abbrev pub AnswersClosed : ℕ → RelayTerms → RelayFrame → Option OpenRelay → List ℕ → Type 0
 AnswersClosed child' terms' (Child (Hello basis')) new reply =
-    ComesUp (record { child = child'; terms = terms'; basis = basis' }) new × (reply ≡ [])
+    RelayComesUp (record { child = child'; terms = terms'; basis = basis' }) new × (reply ≡ [])
 AnswersClosed child terms frame new reply = IsSilent None new reply
 
 abbrev pub AnswersNow : ℕ → RelayTerms → Option OpenRelay → RelayFrame → Option OpenRelay → List ℕ → Type 0

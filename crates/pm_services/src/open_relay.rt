@@ -6,8 +6,8 @@ ghost use Rattle.pm_bid.specs.Bids.{AllWithinLimit};
 ghost use Rattle.pm_relay.specs.Relays.{AreRelayLimits};
 ghost use Rattle.pm_services.specs.Limits.{relay_reply_limit};
 ghost use Rattle.pm_services.specs.Receipts.{Appended};
-ghost use Rattle.pm_services.specs.RelayAnswers.{AnswersOpen, AnswersRelayFrame, AnswersBounded, AnswersGiven, AnswersTold, AnswersKept, ComesUp};
-ghost use Rattle.pm_services.specs.RelayAnswers.{ComesUpAgain, HasStored, with_childs_bound};
+ghost use Rattle.pm_services.specs.RelayAnswers.{AnswersOpen, AnswersRelayFrame, AnswersBounded, AnswersGiven, AnswersTold, AnswersKept, RelayComesUp};
+ghost use Rattle.pm_services.specs.RelayAnswers.{RelayComesUpAgain, HasStored, with_childs_bound};
 ghost use Rattle.pm_services.specs.RelayStands.{MayStandWithSteps};
 ghost use Rattle.pm_wire.specs.declared.frame.Frame.{Frame};
 ghost use Rattle.pm_frames.specs.declared.relay.RelayFrame.{RelayFrame};
@@ -61,7 +61,7 @@ fn price_update(number: u32, index: u32, step: u16) -> PriceUpdate
 impl OpenRelay {
     /// A relay of this setup to which nothing was sent, and whose children have no bounds.
     pub(crate) fn new(alloc: Global, setup: RelaySetup) -> Result<OpenRelay, AllocError>
-        ensures opens { IfOk result (λ r. ComesUp setup (Some r)) }
+        ensures opens { IfOk result (λ r. RelayComesUp setup (Some r)) }
     {
         let bounds = Bounds::new(alloc)?;
         let held = WaitingRelay::new(alloc, setup.basis.steps(), setup.terms.limits)?;
@@ -234,7 +234,7 @@ impl OpenRelay {
     ) -> Result<(), AllocError>
         requires stored { HasStored stored.now }
         requires room { vec_len out.old + relay_reply_limit ≤ vec_capacity out.old }
-        ensures answered { OnOk result (Appended (ComesUpAgain self.old stored.now self.new)
+        ensures answered { OnOk result (Appended (RelayComesUpAgain self.old stored.now self.new)
             relay_reply_limit out.old.items out.new.items) }
         ensures unchanged { OnErr result (self.new ≡ self.old) }
         ensures nothing_appended { OnErr result (out.new.items ≡ out.old.items) }

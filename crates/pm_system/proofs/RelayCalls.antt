@@ -26,7 +26,7 @@ use Rattle.pm_net.proofs.Messages.{either, past}
 use Rattle.pm_net.proofs.Steps.{hears_each}
 use Rattle.pm_net_plan.specs.Places.{Numbering}
 use Rattle.pm_relay.specs.Relays as relays
-use Rattle.pm_relay.specs.Relays.{RelayValue, newest_bid_number, record_at, limits_of_number, limits_places, no_limits, ComesBack}
+use Rattle.pm_relay.specs.Relays.{RelayValue, newest_bid_number, record_at, limits_of_number, limits_places, no_limits, RelayComesBack}
 use Rattle.pm_relay.specs.declared.outcome.PriceOutcome.{PriceOutcome}
 use Rattle.pm_relay.specs.declared.outcome.PriceOutcome.TheVariants.{PassedOn, Alone, Waits, Dropped}
 use Rattle.pm_relay_net.specs.RelayIs.{RelayIs, update_of, messages_of, prices_down}
@@ -374,9 +374,9 @@ module _ (lists : Lists) (p : Pricing) (numbering : Numbering) (market : IsTreeM
               )
         ]
 
-    comes_back : ComesBack p.steps did.limits (newest_bid_number r) kept.number kept.index r.recorded did.under did.relay
+    comes_back : RelayComesBack p.steps did.limits (newest_bid_number r) kept.number kept.index r.recorded did.under did.relay
     comes_back =
-        let Back : ℕ → ℕ → Type 0 = λ n i. ComesBack p.steps did.limits (newest_bid_number r) n i r.recorded did.under did.relay in
+        let Back : ℕ → ℕ → Type 0 = λ n i. RelayComesBack p.steps did.limits (newest_bid_number r) n i r.recorded did.under did.relay in
         subst (λ (i : ℕ). Back kept.number i) stored_same.1
         (subst (λ (n : ℕ). Back n (price_stored sys c k r.answered r.index).index) stored_same.0 did.back)
 

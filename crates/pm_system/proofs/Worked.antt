@@ -19,7 +19,7 @@ use Rattle.pm_net.specs.Agents.{new_agent, after_offer, setpoints_for, after_pri
 use Rattle.pm_net_plan.specs.Places.{children_to, place_in}
 use Rattle.pm_auctioneer.specs.Auctions.{new_auction}
 use Rattle.pm_concentrator.specs.Concentrators.{own_demand}
-use Rattle.pm_relay.specs.Numbers.{child_number, head_number, AreReached, AreEnough}
+use Rattle.pm_relay.specs.Numbers.{child_number, head_number, IsCaughtUp, HearsNothingNewer}
 use Rattle.pm_relay.specs.Relays.{RelayValue, limits_places, with_child_bid}
 use Rattle.pm_relay.specs.Roots.{RootValue, with_root_bid}
 use Rattle.pm_relay.specs.declared.outcome.PriceOutcome.TheVariants.{PassedOn}
@@ -39,7 +39,7 @@ reaches (n ∷ ns) [] = false
 reaches (n ∷ ns) (h ∷ hs) = leb n h.number && reaches ns hs
 
 -- by the test each child was heard up to its number
-pub reached : (numbers : List ℕ) (heads : List BidHead) → reaches numbers heads ≡ true → AreReached numbers heads
+pub reached : (numbers : List ℕ) (heads : List BidHead) → reaches numbers heads ≡ true → IsCaughtUp numbers heads
 unfolding reaches
 reached [] heads e child inside = absurd (omega (arith, inside))
 reached (n ∷ ns) [] e child inside = absurd cc
@@ -53,7 +53,7 @@ suffices (n ∷ ns) [] = false
 suffices (n ∷ ns) (h ∷ hs) = leb h.number n && suffices ns hs
 
 -- by the test no child was heard beyond its number
-pub enough : (numbers : List ℕ) (heads : List BidHead) → suffices numbers heads ≡ true → AreEnough numbers heads
+pub enough : (numbers : List ℕ) (heads : List BidHead) → suffices numbers heads ≡ true → HearsNothingNewer numbers heads
 unfolding suffices
 enough [] heads e child inside = absurd (omega (arith, inside))
 enough (n ∷ ns) [] e child inside = absurd cc
@@ -355,7 +355,7 @@ does_7 = record {
   index = 1;
   step = clearing_step (aggregate_of s6.root.auction.cache);
   cleared = record {
-    all = reached (replicate most_nodes 0) s6.root.auction.cache.heads refl;
+    caught_up = reached (replicate most_nodes 0) s6.root.auction.cache.heads refl;
     index = refl;
     cleared = record { changed = refl; index = refl; step = refl; cache = refl; new_index = refl; new_step = refl; not_changed = refl };
     numbers = λ child inside. noted s6.root.auction.cache.heads child;
@@ -532,7 +532,7 @@ does_16 = record {
   index = 2;
   step = clearing_step (aggregate_of s15.root.auction.cache);
   cleared = record {
-    all = reached s15.root.recorded s15.root.auction.cache.heads refl;
+    caught_up = reached s15.root.recorded s15.root.auction.cache.heads refl;
     index = refl;
     cleared = record { changed = refl; index = refl; step = refl; cache = refl; new_index = refl; new_step = refl; not_changed = refl };
     numbers = λ child inside. noted s15.root.auction.cache.heads child;

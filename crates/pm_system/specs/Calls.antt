@@ -12,7 +12,7 @@ use Rattle.pm_net.specs.Agents.{DeviceAgent, may_offer, after_offer, after_leavi
 use Rattle.pm_net_plan.specs.Places.{Numbering}
 use Rattle.pm_control.specs.Control.{newest_demand, agent_stored}
 use Rattle.pm_relay.specs.Relays as relays
-use Rattle.pm_relay.specs.Relays.{RelayValue, newest_bid_number, ComesBack, with_child_bid, with_new_limits, limits_of_number, LooksForRecord, BidSent}
+use Rattle.pm_relay.specs.Relays.{RelayValue, newest_bid_number, RelayComesBack, with_child_bid, with_new_limits, limits_of_number, LooksForRecord, BidSent}
 use Rattle.pm_relay.specs.Roots.{RootValue, newest_index, RootComesBack, with_root_bid, LooksForClearing, RootCleared}
 use Rattle.pm_relay.specs.declared.outcome.PriceOutcome.{PriceOutcome}
 use Rattle.pm_relay_net.specs.RelayIs.{LimitsPassBy, GivesLimits, told_demand, update_of, prices_down}
@@ -168,7 +168,7 @@ pub record RelayRestarts (lists : Lists) (p : Pricing) (sys : System) (c k : ℕ
   pub under : Limits
   pub under_is : Some under ≡ limits_of_number (sys.relays c) (newest_bid_number (sys.relays c))
   pub relay : RelayValue
-  pub back : ComesBack p.steps limits (newest_bid_number (sys.relays c))
+  pub back : RelayComesBack p.steps limits (newest_bid_number (sys.relays c))
       (price_stored sys c k (sys.relays c).answered (sys.relays c).index).number
       (price_stored sys c k (sys.relays c).answered (sys.relays c).index).index (sys.relays c).recorded under relay
   pub new_is : new ≡ with_relay sys c relay

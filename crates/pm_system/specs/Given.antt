@@ -10,7 +10,7 @@ use Rattle.pm_net.specs.Pricing.{Pricing, GoesByNodes, given_limits, IsChildDevi
 use Rattle.pm_net.specs.TreeAuction.{tree_pricing}
 use Rattle.pm_net.specs.Agents.{new_agent}
 use Rattle.pm_net_plan.specs.Places.{Numbering, IsNumbering, places_in, HasFewChildren, demands_of}
-use Rattle.pm_relay.specs.Relays.{AreRelayLimits, ComesBack}
+use Rattle.pm_relay.specs.Relays.{AreRelayLimits, RelayComesBack}
 use Rattle.pm_relay.specs.Roots.{RootComesBack}
 use Rattle.pm_relay_net.specs.Heads.{AddsByPlaces}
 use Rattle.pm_system.specs.System.{System}
@@ -61,7 +61,7 @@ pub record IsGiven (lists : Lists) (steps : ℕ) (demand : ℕ → ℕ → List 
 pub record IsStarted (lists : Lists) (p : Pricing) (sys : System) : Type 0 where
   pub root : RootComesBack p.steps 0 (replicate most_nodes 0) sys.root
   pub relays : (c : ℕ) → IsConcentrator lists c →
-      (limits : Limits) × (p.limits c no_changes ≡ Some limits) × ComesBack p.steps limits 0 0 0 (replicate most_nodes 0) limits (sys.relays c)
+      (limits : Limits) × (p.limits c no_changes ≡ Some limits) × RelayComesBack p.steps limits 0 0 0 (replicate most_nodes 0) limits (sys.relays c)
   pub agents : (d : ℕ) → IsLeaf lists d → sys.agents d ≡ new_agent
   pub setpoints : (d : ℕ) → sys.setpoints d ≡ []
   pub bids_sent : (x : ℕ) → sys.bids_sent x ≡ []

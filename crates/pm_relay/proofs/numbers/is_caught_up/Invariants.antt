@@ -1,7 +1,7 @@
--- Of `are_reached`: what its loop over `child` keeps.
+-- Of `is_caught_up`: what its loop over `child` keeps.
 use Rattle.std.proofs.Common.{ℕ, ◌<◌, ◌≤◌}
 use Rattle.pm_relay.specs.Numbers.{child_number, head_number}
-use Rattle.pm_relay.proofs.numbers.are_reached.Given as goal
+use Rattle.pm_relay.proofs.numbers.is_caught_up.Given as goal
 
 abbrev pub invariant-loop-child : goal.invariant-loop-child
 invariant-loop-child l = (k : ℕ) → k < l.child → child_number l.numbers k ≤ head_number l.heads k
