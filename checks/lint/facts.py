@@ -24,7 +24,7 @@ from checks import TOP
 
 CRATES = TOP / "crates"
 # Crates in which a constant is no limit of the market: tests, and the gates that try runs.
-OTHERS = {"pm_gates", "pm_parts", "pm_played", "pm_threaded", "pm_whole", "pm_worked"}
+OTHERS = {"pm_gates", "test_clusters", "test_parts", "test_programs", "test_threads", "test_values"}
 CONSTANT = re.compile(r"^(?:pub(?:\(crate\))? )?const (\w+): [iu]\w+ = ([\d_]+);", re.M)
 IS_LIMIT = re.compile(r"(?:LEAST|MOST|MAX)_|.*_LIMIT$|WINDOW_SIZE$")
 # The most bytes of the input of a command, in the function that tells it.

@@ -18,7 +18,7 @@ CRATES = TOP / "crates"
 OF_PLAN_AND_LISTS = {"is_leaf", "is_member", "parent", "phases"}
 
 # The crates of tests alone, whose names no crate uses.
-TESTS = {"pm_parts", "pm_played", "pm_threaded", "pm_whole", "pm_worked"}
+TESTS = {"test_clusters", "test_parts", "test_programs", "test_threads", "test_values"}
 
 # Functions of code that have one name in two crates, and the one thing that the name says in both.
 SAME_IN_CODE = {

@@ -1,6 +1,0 @@
--- Of `total_of`: what its loop over `step` keeps.
-use Rattle.std.proofs.Common.{◌≡◌, length}
-use Rattle.pm_worked.proofs.ask.total_of.Given as goal
-
-abbrev pub invariant-loop-step : goal.invariant-loop-step
-invariant-loop-step l = length l.total ≡ length l.demands
