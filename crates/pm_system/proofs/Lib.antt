@@ -16,6 +16,9 @@ mod Expiring
 pub mod Worked
 pub mod WorkedGiven
 mod WorkedEnd
+mod DeepGiven
+mod DeepCalls
+mod DeepEnd
 mod Reached
 mod Told
 mod Anew

@@ -45,6 +45,16 @@ use Rattle.pm_system.proofs.Reached.{CountsIn}
 use Rattle.pm_system.proofs.Told as telling
 use Rattle.pm_net.specs.Running.{has_news}
 use Rattle.pm_system.proofs.Moving.{same_price, prices_in, parent_relay}
+use Rattle.std.proofs.Common.{refl}
+use Rattle.pm_market.specs.State.{newest_number_of}
+use Rattle.pm_market.proofs.Cuts.{newest_inner}
+use Rattle.pm_net.specs.Running.{recorded_number}
+use Rattle.pm_net.proofs.News.{child_at}
+use Rattle.pm_relay.specs.Numbers.{child_number}
+use Rattle.pm_relay_net.proofs.Children as children
+use Rattle.pm_relay_net.proofs.Matching.{recorded_at}
+use Rattle.pm_relay_net.proofs.RootLearning.{knows}
+use Rattle.pm_system.specs.Settled.{number_taken, IsTakenSystem}
 
 -- a node that sends and does not change cannot send
 cannot_send : (lists : Lists) (p : Pricing) (net : Network) (c : ℕ) → network_step lists p net (Sends c) ≡ net → can_send lists net c ≡ false
@@ -351,3 +361,74 @@ module _ (lists : Lists) (p : Pricing) (numbering : Numbering) (market : IsTreeM
           one = telling.one_cleared lists market.law p market.by_nodes net s agrees held no_relay_news no_root_news told_net;
           held = telling.all_held lists market.law p market.by_nodes net s agrees held no_relay_news no_root_news told_net;
         })
+
+  module _ (quiet : IsTakenSystem lists numbering sys) where
+    held_all : (x : ℕ) → IsNode lists x → made_number lists net x ≤ (net.heard x).number
+    held_all = bids_held quiet.bids quiet.expired
+
+    -- what a parent noted of its child is what the network's node noted
+    noted_is : (x : ℕ) → IsNode lists x → number_taken lists numbering sys x ≡ recorded_number net (parent lists x) x
+    noted_is x node =
+        let at_root : ℕ = child_number sys.root.recorded (numbering.place x) in
+        let at_relay : ℕ = child_number (sys.relays (parent lists x)).recorded (numbering.place x) in
+        elim (cases_eq (parent lists x) 0) [
+          | inl up ↦ cond-true (eqb (parent lists x) 0) at_root at_relay (eq-eqb (parent lists x) 0 up)
+              ∙ children.recorded_at lists numbering market.places net 0 sys.root.auction.cache.heads sys.root.recorded
+              (knows p numbering net sys.root has.is.root.matches) x node up
+              ∙ ap (λ (y : ℕ). recorded_number net y x) (sym up)
+          | inr ne ↦ cond-false (eqb (parent lists x) 0) at_root at_relay (ne_eqb (parent lists x) 0 ne)
+              ∙ recorded_at lists p numbering market.places net (parent lists x) (sys.relays (parent lists x))
+              (has.is.relays (parent lists x) (parent_relay lists market.law x node ne)).matches x node refl
+        ]
+
+    -- a parent heard of its child just what it noted
+    level_there : (x : ℕ) → IsNode lists x → (net.heard x).number ≡ recorded_number net (parent lists x) x
+    level_there x node =
+        let newest : newest_number_of lists s x ≤ made_number lists net x = elim (cases_Bool (is_leaf lists x)) [
+          | inl leaf ↦ omega (
+            arith,
+            newest_leaf lists s.counts s.published x leaf,
+            agrees.counts x leaf,
+            cond-true (is_leaf lists x) (net.counts x) (net.last_number x) leaf,
+          )
+          | inr inner ↦ omega (
+            arith,
+            newest_inner lists s.counts s.published x inner,
+            agrees.last_number x inner,
+            cond-false (is_leaf lists x) (net.counts x) (net.last_number x) inner,
+          )
+        ] in
+        omega (
+          arith,
+          held_is x node,
+          quiet.taken x node,
+          noted_is x node,
+          agrees.newest_numbers x node,
+          agrees.sound.learnt_within x node,
+          newest,
+          held_all x node,
+        )
+
+    -- so nobody has news
+    nobody_has_news : (y : ℕ) → has_news lists net y ≡ false
+    unfolding has_news
+    nobody_has_news y = ap not (child_at lists y (λ x. eqb (net.heard x).number (recorded_number net y x)) (λ x node up.
+        eq-eqb (net.heard x).number (recorded_number net y x) (level_there x node ∙ ap (λ (z : ℕ). recorded_number net z x) up)))
+
+    taken_net : (d : ℕ) → IsLeaf lists d → (net.heard d).gone ≡ false → clearings s ≤ (net.taken d).index
+    taken_net d leaf there =
+        let node : IsNode lists d = leaf_node lists market.law d leaf in
+        omega (
+          arith,
+          newest_is,
+          quiet.devices d leaf (ap (λ (h : BidHead). h.gone) (head_is d node) ∙ there),
+          index_is d node,
+        )
+
+    -- so is one whose bids and clearing are over the newest numbers, by the numbers alone
+    pub current_taken : IsCurrentSystem lists p numbering calls sys
+    current_taken = current_where quiet.bids quiet.expired (record {
+      counted = telling.all_counted lists market.law p market.by_nodes net s agrees held_all (λ c conc. nobody_has_news c) (nobody_has_news 0) taken_net;
+      one = telling.one_cleared lists market.law p market.by_nodes net s agrees held_all (λ c conc. nobody_has_news c) (nobody_has_news 0) taken_net;
+      held = telling.all_held lists market.law p market.by_nodes net s agrees held_all (λ c conc. nobody_has_news c) (nobody_has_news 0) taken_net;
+    })

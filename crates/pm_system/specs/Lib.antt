@@ -7,3 +7,4 @@ pub mod Frames
 pub mod Flow
 pub mod Expiry
 pub mod Worked
+pub mod WorkedDeep

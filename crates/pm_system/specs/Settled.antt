@@ -8,6 +8,7 @@ use Rattle.pm_net.specs.Pricing.{Pricing}
 use Rattle.pm_net.specs.Messages.{BidMessage, price_message}
 use Rattle.pm_net.specs.Agents.{Setpoint}
 use Rattle.pm_net_plan.specs.Places.{Numbering}
+use Rattle.pm_relay.specs.Numbers.{child_number}
 use Rattle.pm_relay.specs.Relays.{RelayValue, newest_bid_number, NotSent}
 use Rattle.pm_relay.specs.Roots.{RootValue, newest_index, NotCleared}
 use Rattle.pm_relay.specs.declared.fault.SendFault.{SendFault}
@@ -87,6 +88,22 @@ pub record IsToldSystem (lists : Lists) (numbering : Numbering) (sys : System) :
   pub devices : (d : ℕ) → IsLeaf lists d → (head_held lists numbering sys d).gone ≡ false → newest_index sys.root ≤ index_of_held lists sys d
   pub relays : (c : ℕ) → IsConcentrator lists c → NotSent (sys.relays c) send_fault.NotChanged
   pub root : NotCleared sys.root root_fault.NotChanged
+
+-- ---- taken, by numbers and indices alone
+
+-- the number of x in its parent's newest bid, or in the newest clearing
+abbrev pub number_taken : Lists → Numbering → System → ℕ → ℕ
+number_taken lists numbering sys x =
+    if parent lists x == 0 then child_number sys.root.recorded (numbering.place x)
+    else child_number (sys.relays (parent lists x)).recorded (numbering.place x)
+
+-- Each parent holds the newest bid of its child, or the newest that it gave for it, and its own newest bid or clearing is over that
+-- number; and each device which its parent counts took a price of the newest clearing. Whatever else relays hold, and whatever was sent.
+pub record IsTakenSystem (lists : Lists) (numbering : Numbering) (sys : System) : Type 0 where
+  pub bids : (x : ℕ) → IsNode lists x → number_made lists sys x ≤ number_held lists numbering sys x
+  pub expired : (d : ℕ) → IsLeaf lists d → All (λ (bid : BidMessage). bid.number ≤ number_held lists numbering sys d) (sys.bids_sent d)
+  pub taken : (x : ℕ) → IsNode lists x → number_held lists numbering sys x ≤ number_taken lists numbering sys x
+  pub devices : (d : ℕ) → IsLeaf lists d → (head_held lists numbering sys d).gone ≡ false → newest_index sys.root ≤ index_of_held lists sys d
 
 -- ---- current
 

@@ -17,12 +17,13 @@ ghost use Rattle.pm_system.specs.System.{System};
 ghost use Rattle.pm_system.specs.Calls.{NodeCall, Does, SystemRuns, IsNoRestart, StaysUp};
 ghost use Rattle.pm_system.specs.Given.{IsTreeMarket, IsGiven, placed_pricing, IsStarted};
 ghost use Rattle.pm_system.specs.Market.{RunsTheMarket, KeepsTheLaw};
-ghost use Rattle.pm_system.specs.Settled.{index_of_held, numbers_counted, IsSettledSystem, IsReachedSystem, IsToldSystem, IsCurrentSystem};
+ghost use Rattle.pm_system.specs.Settled.{index_of_held, numbers_counted, IsSettledSystem, IsReachedSystem, IsToldSystem, IsTakenSystem, IsCurrentSystem};
 ghost use Rattle.pm_system.specs.Flow.{FlowsIn, TakeWhatWasTold};
 ghost use Rattle.pm_system.specs.Expiry.{RelayExpires, RootExpires, AreTwoCalls};
 ghost use Rattle.pm_system.specs.Expiry.{DeviceOffersAnew, offers_anew};
 ghost use Rattle.pm_system.specs.Frames.{AreSent};
 ghost use Rattle.pm_system.specs.Worked.{Settles};
+ghost use Rattle.pm_system.specs.WorkedDeep.{DeepSettles};
 
 use pm_control::agents_come_back;
 
@@ -104,7 +105,9 @@ pub fn systems_do_not_go_back()
 /// the newest bid of each device that was not let go since: each such member holds its price, under its own newest number and
 /// with its local step. The control of a member that did not restart was told so. Of prices it is enough that each node which
 /// its parent counts took one of the newest clearing, whatever else was sent; or that each device did, if no relay and no root
-/// has heard anything that is not in its newest bid or clearing. If all below a relay take what they were told
+/// has heard anything that is not in its newest bid or clearing. Numbers and indices alone tell: a system whose devices took the
+/// newest clearing, and in which the newest bid of each relay, and the newest clearing, are over the newest number of each
+/// child, is current. If all below a relay take what they were told
 /// so, and who is no member takes nothing, they take together what the relay announced.
 pub fn settled_systems_are_current()
     ensures current { (lists : Lists) (p : Pricing) (numbering : Numbering) (calls : List NodeCall)
@@ -118,6 +121,10 @@ pub fn settled_systems_are_current()
     ensures told { (lists : Lists) (p : Pricing) (numbering : Numbering) (calls : List NodeCall)
         (sys : System) → IsTreeMarket lists p numbering →
         RunsTheMarket lists p numbering calls sys → IsToldSystem lists numbering sys →
+        IsCurrentSystem lists p numbering calls sys }
+    ensures taken { (lists : Lists) (p : Pricing) (numbering : Numbering) (calls : List NodeCall)
+        (sys : System) → IsTreeMarket lists p numbering →
+        RunsTheMarket lists p numbering calls sys → IsTakenSystem lists numbering sys →
         IsCurrentSystem lists p numbering calls sys }
     ensures flows { (lists : Lists) (p : Pricing) (numbering : Numbering) (sys : System) →
         IsTreeMarket lists p numbering →
@@ -141,6 +148,16 @@ pub fn systems_send_frames()
 /// its bid; the calls run from a started system into a settled one. So it is current; and these are its prices and powers.
 pub fn a_small_system_settles()
     ensures { Settles }
+{
+    // The call tells a fact: an agent that comes back with what it stored is the agent after a restart in the network.
+    agents_come_back();
+}
+
+/// A law: so there are with two relays on the way. In a worked one a relay with limits that bind is below another relay, with a
+/// device below each: the calls run from a started system into a settled one, of which the numbers and indices alone tell. What
+/// the devices were told takes together what each relay announced, within its limits.
+pub fn a_deep_system_settles()
+    ensures { DeepSettles }
 {
     // The call tells a fact: an agent that comes back with what it stored is the agent after a restart in the network.
     agents_come_back();
