@@ -1,8 +1,9 @@
-"""`cogmaula report FILE -o PAGE`: runs a cluster file, and writes a page that shows what came of it."""
+"""`cogmaula report`: writes a page that shows what came of a cluster file, or a day of a live market from its history."""
 
 from __future__ import annotations
 
 import argparse
+import sys
 from datetime import datetime
 from fractions import Fraction
 from pathlib import Path
@@ -10,14 +11,20 @@ from zoneinfo import ZoneInfo
 
 from .. import cli
 from ..data.supply import read_supply
+from ..history import open_database
+from ..live.errors import BadSettings
 from ..money import rate_of
 from ..report import Currency, report
+from ..report.history_day import history_page
 
-HELP = "runs a cluster file, and writes a page of prices, loads, powers, bills and flexibility"
+HELP = "writes a page of prices, loads, powers and bills: of a cluster file that it runs, or of a day of a market's history"
 MORE = (
     "The page is one file that needs no network and no script. It shows the price over the hours, the load of each limited group against"
     " its limits, who took what, what is left over, the bills, and what the cluster would take or deliver at its end."
+    " With --history it runs nothing, and shows a day of a live market from the tables of `cogmaula history`."
 )
+# What goes with a cluster file alone.
+OF_FILE = ("start", "span", "target", "connection", "tariff")
 
 
 def rate(text: str) -> Fraction:
@@ -35,7 +42,9 @@ def zone_in(moment: datetime) -> ZoneInfo | None:
 
 def add_arguments(parser: argparse.ArgumentParser) -> None:
     """Adds the arguments of report."""
-    parser.add_argument("file", metavar="FILE", help="the cluster file")
+    parser.add_argument("file", metavar="FILE", nargs="?", help="the cluster file")
+    parser.add_argument("--history", metavar="DATABASE", help="in its place the history of a live market: sqlite:///FILE, a file's name, or postgresql://USER@HOST/NAME")
+    parser.add_argument("--day", metavar="DATE", type=cli.moment, help="the day of the history, of this machine's zone or [ZONE]; default today")
     parser.add_argument("-o", "--output", metavar="PAGE", required=True, help="the page to write, such as day.html")
     parser.add_argument("--title", help="the title of the page; default the name of the file")
     parser.add_argument("--start", type=cli.moment, metavar="MOMENT", help="the moment before the first phase; default 2000-01-01")
@@ -59,12 +68,18 @@ def add_arguments(parser: argparse.ArgumentParser) -> None:
 
 def main(arguments: argparse.Namespace) -> int:
     """Writes the page."""
+    if (arguments.file is None) == (arguments.history is None):
+        arguments.fail("give a cluster FILE, or --history DATABASE")
     if (arguments.currency is None) != (arguments.per_kwh is None):
         arguments.fail("--currency and --per-kwh go together: name the unit, and what a kilowatt-hour costs at price 1")
     if arguments.tariff is not None and arguments.start is None:
         arguments.fail("--tariff needs --start: a tariff has months and times of the day")
-    supply = None if arguments.tariff is None else read_supply(arguments.tariff, zone_in(arguments.start))
     currency = None if arguments.currency is None else Currency(arguments.currency, arguments.per_kwh)
+    if arguments.history is not None:
+        return _report_history(arguments, currency)
+    if arguments.day is not None:
+        arguments.fail("--day goes with --history")
+    supply = None if arguments.tariff is None else read_supply(arguments.tariff, zone_in(arguments.start))
     text = report(
         arguments.file,
         title=arguments.title,
@@ -77,5 +92,23 @@ def main(arguments: argparse.Namespace) -> int:
         program=cli.program_of(arguments),
         quiet=arguments.quiet,
     )
+    Path(arguments.output).write_text(text, encoding="utf-8")
+    return 0
+
+
+def _report_history(arguments: argparse.Namespace, currency: Currency | None) -> int:
+    """Writes the page of a day of a history."""
+    if given := [name for name in OF_FILE if getattr(arguments, name) is not None]:
+        arguments.fail(f"--{given[0]} goes with a cluster FILE")
+    url = arguments.history if "://" in arguments.history else f"sqlite:///{arguments.history}"
+    try:
+        database = open_database(url, is_reader=True)
+        try:
+            text = history_page(database, arguments.day or datetime.now().astimezone(), arguments.title, currency)
+        finally:
+            database.close()
+    except BadSettings as error:
+        print(f"cogmaula: {error}", file=sys.stderr)
+        return cli.MISUSED
     Path(arguments.output).write_text(text, encoding="utf-8")
     return 0

@@ -5,6 +5,7 @@ from __future__ import annotations
 import sqlite3
 from collections.abc import Iterable, Sequence
 from importlib.resources import files
+from pathlib import Path
 from typing import Any, Protocol
 from urllib.parse import urlsplit
 
@@ -24,7 +25,10 @@ class Database(Protocol):
     """Where rows are kept. All calls may come from any thread, one at a time."""
 
     def open(self) -> None:
-        """Connects, and makes the tables that are missing. Raises DatabaseLost, and BadSettings if the tables are of another version."""
+        """Connects, and makes the tables that are missing unless it only reads.
+
+        Raises DatabaseLost, and BadSettings if the tables are of another version.
+        """
 
     def put(self, rows: Iterable[Row]) -> None:
         """Keeps rows, all or none, and leaves a row whose key is there as it is. Raises DatabaseLost."""
@@ -36,13 +40,18 @@ class Database(Protocol):
         """Ends the connection."""
 
 
-def open_database(url: str) -> Database:
-    """The database of a URL such as sqlite:///market.db or postgresql://user@host/name, with its tables. Raises as `open` does."""
+def open_database(url: str, *, is_reader: bool = False) -> Database:
+    """The database of a URL such as sqlite:///market.db or postgresql://user@host/name, with its tables.
+
+    is_reader: it makes no tables and writes nothing, so that a login which may read alone is enough
+
+    Raises as `open` does.
+    """
     kind = urlsplit(url).scheme
     if kind == "sqlite":
-        found: Database = SqliteDatabase(url.removeprefix("sqlite:///"))
+        found: Database = SqliteDatabase(url.removeprefix("sqlite:///"), is_reader=is_reader)
     elif kind in ("postgresql", "postgres"):
-        found = PostgresDatabase(url)
+        found = PostgresDatabase(url, is_reader=is_reader)
     else:
         raise BadSettings(f"the database is {url!r}: give sqlite:///FILE or postgresql://USER@HOST/NAME")
     found.open()
@@ -72,16 +81,21 @@ def _require_version(found: list[tuple[Any, ...]]) -> None:
 class SqliteDatabase:
     """A file of SQLite. A reader may read it while it is written."""
 
-    def __init__(self, path: str) -> None:
-        """Takes the file."""
+    def __init__(self, path: str, *, is_reader: bool = False) -> None:
+        """Takes the file, and whether it is only read."""
         self._path = path
+        self._is_reader = is_reader
         self._connection: sqlite3.Connection | None = None
 
     def open(self) -> None:
         """See Database."""
         self.close()
         try:
-            connection = sqlite3.connect(self._path, timeout=30, isolation_level=None, check_same_thread=False)
+            connection = self._connected()
+            if self._is_reader:
+                self._connection = connection
+                _require_version(self.read("SELECT version FROM history"))
+                return
             # A killed process loses nothing; a machine that loses power may lose its last seconds.
             connection.execute("PRAGMA journal_mode = WAL")
             connection.execute("PRAGMA synchronous = NORMAL")
@@ -95,6 +109,11 @@ class SqliteDatabase:
             raise DatabaseLost(f"{self._path}: {error}") from None
         self._connection = connection
         _require_version(self.read("SELECT version FROM history"))
+
+    def _connected(self) -> sqlite3.Connection:
+        """A new connection. A file that is only read has to be there. Raises sqlite3.Error."""
+        name = Path(self._path).absolute().as_uri() + "?mode=ro" if self._is_reader else self._path
+        return sqlite3.connect(name, timeout=30, isolation_level=None, check_same_thread=False, uri=self._is_reader)
 
     def put(self, rows: Iterable[Row]) -> None:
         """See Database."""
@@ -133,14 +152,18 @@ class SqliteDatabase:
 class PostgresDatabase:
     """A database of PostgreSQL."""
 
-    def __init__(self, url: str) -> None:
-        """Takes its URL. A password is in ~/.pgpass or PGPASSWORD rather than there. Raises NoPackage if psycopg is missing."""
+    def __init__(self, url: str, *, is_reader: bool = False) -> None:
+        """Takes its URL, and whether it is only read. A password is in ~/.pgpass or PGPASSWORD rather than in the URL.
+
+        Raises NoPackage if psycopg is missing.
+        """
         try:
             import psycopg
         except ImportError:
             raise NoPackage("a history in PostgreSQL needs the package psycopg (Debian: python3-psycopg)") from None
         self._psycopg = psycopg
         self._url = url
+        self._is_reader = is_reader
         self._connection: Any = None
 
     def open(self) -> None:
@@ -148,18 +171,24 @@ class PostgresDatabase:
         self.close()
         try:
             self._connection = self._psycopg.connect(self._url, autocommit=True, connect_timeout=10)
-            # A killed process loses nothing; a server that crashes may lose its last second.
-            self._connection.execute("SET synchronous_commit = off")
-            with self._connection.transaction():
-                # One process alone makes tables.
-                self._connection.execute("SELECT pg_advisory_xact_lock(62)")
-                for statement in _statements():
-                    self._connection.execute(statement)
-                if not self._connection.execute("SELECT version FROM history").fetchall():
-                    self._connection.execute("INSERT INTO history VALUES (%s)", (VERSION,))
+            if self._is_reader:
+                self._connection.execute("SET default_transaction_read_only = on")
+            else:
+                self._make_tables()
         except self._psycopg.Error as error:
             raise self._lost(error) from None
         _require_version(self.read("SELECT version FROM history"))
+
+    def _make_tables(self) -> None:
+        # A killed process loses nothing; a server that crashes may lose its last second.
+        self._connection.execute("SET synchronous_commit = off")
+        with self._connection.transaction():
+            # One process alone makes tables.
+            self._connection.execute("SELECT pg_advisory_xact_lock(62)")
+            for statement in _statements():
+                self._connection.execute(statement)
+            if not self._connection.execute("SELECT version FROM history").fetchall():
+                self._connection.execute("INSERT INTO history VALUES (%s)", (VERSION,))
 
     def put(self, rows: Iterable[Row]) -> None:
         """See Database."""

@@ -26,7 +26,7 @@ class Course:
     word: str
 
     @staticmethod
-    def of(ends: Sequence[int]) -> Course:
+    def of(ends: Sequence[float]) -> Course:
         """The course of intervals that end so many minutes after the start."""
         fine = numpy.array([0, *ends]) / 60
         if len(ends) <= MOST_INTERVALS:

@@ -6,6 +6,7 @@ import shutil
 
 import pytest
 from brokers import live_program
+from databases import postgres, url  # noqa: F401 (fixtures)
 from markets import STEPS, falls_at
 from pretended import Joined, PretendedService
 from recorded import Lines, RecordedMarket
