@@ -30,6 +30,7 @@ def add_arguments(parser: argparse.ArgumentParser) -> None:
     """Adds the arguments of history."""
     parser.add_argument("--config", metavar="FILE", help="a TOML file with the table [broker]")
     parser.add_argument("--day", metavar="DATE", type=cli.moment, help="keeps nothing, and prints the energies and prices of that day, of this machine's zone or [ZONE]")
+    parser.add_argument("--password-file", metavar="FILE", help="its first line is the password at the broker, in the place of that of --config")
     parser.add_argument("--to", metavar="URL", required=True, help="sqlite:///FILE, or postgresql://USER@HOST/NAME by Debian's python3-psycopg")
 
 
@@ -55,7 +56,10 @@ def main(arguments: argparse.Namespace) -> int:
             return _tell_day(open_database(arguments.to), arguments.day)
         if arguments.config is None:
             raise BadSettings("give --config FILE, or --day DATE for what is kept")
-        broker = cast(BrokerSettings, value_of(BrokerSettings, read_toml(arguments.config).get("broker", {}), "broker"))
+        table = dict(read_toml(arguments.config).get("broker", {}))
+        if arguments.password_file is not None:
+            table["password_file"] = arguments.password_file
+        broker = cast(BrokerSettings, value_of(BrokerSettings, table, "broker"))
         database = open_database(arguments.to)
     except BadSettings as error:
         print(f"cogmaula: {error}", file=sys.stderr)

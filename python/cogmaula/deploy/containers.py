@@ -4,8 +4,10 @@ from __future__ import annotations
 
 import json
 
+from .files import STATE
+from .history_files import FILE, histories_of
 from .node_files import login_folders
-from .tree import Tree
+from .tree import SQLITE, Tree
 
 FIRST = """\
 # Made by `cogmaula market`. The market in containers of one machine. Each has what /etc/market has on a machine of its own, read-only.
@@ -47,11 +49,25 @@ NODE = """
 """
 
 
+HISTORY = """
+  @name@:
+    <<: *node
+    entrypoint: [cogmaula, history]
+    command: [--config, /etc/market/@name@.toml, --to, @url@]
+    volumes: ["./@name@:/etc/market:ro", "@name@:/var/lib/market"]
+"""
+
+
 def compose_text(tree: Tree) -> str:
     """The file of compose. The broker's container has the name by which nodes know the broker."""
     text = FIRST.replace("@host@", json.dumps(tree.broker.host))
     for member in tree.members:
         text += NODE.replace("@name@", member.name).replace("@sort@", member.sort)
+    histories = histories_of(tree)
+    for history in histories:
+        url = f"sqlite:///{STATE}/{FILE}" if history.database == SQLITE else str(history.database)
+        text += HISTORY.replace("@name@", history.name).replace("@url@", json.dumps(url))
     clients = "".join(f', "./{folder}:/etc/clients/{folder}:ro"' for folder in login_folders(tree))
     text += CLIENT.replace("@clients@", clients)
-    return text + "\nvolumes:\n  broker:\n" + "".join(f"  {member.name}:\n" for member in tree.members)
+    volumes = ["broker", *(member.name for member in tree.members), *(history.name for history in histories)]
+    return text + "\nvolumes:\n" + "".join(f"  {name}:\n" for name in volumes)

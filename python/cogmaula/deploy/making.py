@@ -9,7 +9,7 @@ from collections.abc import Mapping
 from pathlib import Path
 
 from ..live.errors import BadSettings
-from . import broker_files, installing, node_files
+from . import broker_files, history_files, installing, node_files
 from .containers import compose_text
 from .files import OPEN, RUN, SECRET, Places, text_of, write_file
 from .keys import make_authority, make_certificate, make_passwords
@@ -76,6 +76,12 @@ def _make(tree: Tree, out: Path) -> None:
         for client in installing.CLIENTS:
             write_file(out / login / client, options, SECRET)
         write_file(out / login / "install.sh", installing.login_text(login), RUN)
+    for history in history_files.histories_of(tree):
+        own = out / history.name
+        write_file(own / f"{history_files.history_unit_of(history)}.service", history_files.history_unit_text(tree, history, places), OPEN)
+        write_file(own / "install.sh", installing.login_text(history.name) + history_files.history_install_text(history), RUN)
+        if tree.market.here:
+            Path(places.state(history.name)).mkdir(mode=0o700, parents=True, exist_ok=True)
     write_file(out / "Dockerfile", text_of("Dockerfile"), OPEN)
     write_file(out / "compose.yaml", compose_text(tree), OPEN)
     # The file of the market comes last: until then the market is the one before.
@@ -95,7 +101,9 @@ def _make_broker(tree: Tree, places: Places) -> None:
 def _lines(tree: Tree, out: Path, changed: list[str]) -> list[str]:
     """What to do with the folders that changed."""
     if tree.market.here:
-        return [f"cogmaula node {member.sort} --config {out / member.name / member.name}.toml" for member in tree.members if member.name in changed]
+        nodes = [f"cogmaula node {member.sort} --config {out / member.name / member.name}.toml" for member in tree.members if member.name in changed]
+        places = Places(out, True)
+        return nodes + [history_files.history_command(tree, one, places) for one in history_files.histories_of(tree) if one.name in changed]
     machines: Mapping[str, str] = _folders(tree)
     by_machine: dict[str, list[str]] = {}
     for folder in changed:

@@ -14,6 +14,7 @@ from .tree import CONTROL, PAGE, Member, Tree
 MADE = "# Made by `cogmaula market`."
 # The seconds between two bids of a device that count, unless its parent has `child_pause`: a device that floods does not hold up others.
 DEVICE_PAUSE = 1.0
+WATCHED = "# It tells that its loop turns: one that stands still for a minute is started anew.\nWatchdogSec=60\n"
 
 
 def _broker_table(tree: Tree, login: str, etc: str) -> dict[str, Any]:
@@ -83,14 +84,16 @@ def unit_text(tree: Tree, member: Member) -> str:
     """A node's unit."""
     has_page_login = member.page is not None and bool(member.page.get("whole"))
     words = {
+        "what": f"Node {member.name} of a market",
         "name": member.name,
-        "sort": member.sort,
-        "command": tree.market.command,
+        "command": f"{tree.market.command} node {member.sort}",
         "memory": "512M" if member.page is not None else "256M",
-        "page_option": " --page-password-file %d/page" if has_page_login else "",
-        "page_credential": f"LoadCredential=page:{ETC}/{member.name}{PAGE}.password\n" if has_page_login else "",
+        "options": " --page-password-file %d/page" if has_page_login else "",
+        "more": f"LoadCredential=page:{ETC}/{member.name}{PAGE}.password\n" if has_page_login else "",
+        "told": WATCHED,
+        "ends": "2 5 6",
     }
-    return Template(text_of("node.service")).substitute(words)
+    return Template(text_of("unit.service")).substitute(words)
 
 
 def folders_of(tree: Tree) -> dict[str, list[str]]:

@@ -3,12 +3,14 @@
 from __future__ import annotations
 
 import os
+import re
 import shutil
 import tomllib
 from collections.abc import Mapping
 from dataclasses import dataclass, field, replace
 from pathlib import Path
 from typing import Any, Literal, cast
+from urllib.parse import urlsplit
 
 from ..cluster import Basis
 from ..live.errors import BadSettings
@@ -22,6 +24,8 @@ TABLES = ("market", "basis", "broker", "auctioneer", "relays", "devices", "login
 MOST_RELAYS = 6
 # Names of folders beside those of nodes and logins.
 TAKEN = ("broker", "authority", "state")
+# The database of a history that is a file of SQLite on its machine.
+SQLITE = "sqlite"
 # What a node's own login is followed by in the name of a further one.
 CONTROL, PAGE = ".control", ".page"
 _OWN = ("parent", "child", "least", "greatest", "host", "control", "page", "device")
@@ -96,11 +100,15 @@ class Member:
 
 @dataclass(frozen=True)
 class Login:
-    """Somebody who logs in at the broker and is no node: an operator, a reader, or a grid operator of these relays."""
+    """Somebody who logs in at the broker and is no node: an operator, a reader, or a grid operator of these relays.
+
+    database: of a reader that keeps the history of the market: SQLITE, or the URL of a database of PostgreSQL; None if it keeps none
+    """
 
     name: str
     role: Literal["operator", "reader", "grid operator"]
     relays: tuple[str, ...] = ()
+    database: str | None = None
 
 
 @dataclass(frozen=True)
@@ -207,7 +215,9 @@ class Tree:
             else:
                 found.setdefault(f"{member.sort}s", {})[member.name] = told
         if self.logins:
-            found["logins"] = {login.name: {"role": login.role, "relays": list(login.relays) or None} for login in self.logins}
+            found["logins"] = {
+                login.name: {"role": login.role, "relays": list(login.relays) or None, "database": login.database} for login in self.logins
+            }
         return found
 
 
@@ -277,11 +287,27 @@ def _member(sort: Sort, name: str, table: Mapping[str, Any]) -> Member:
 def _login(name: str, table: Mapping[str, Any]) -> Login:
     require_name(name, "a login")
     role, relays = table.get("role"), table.get("relays", [])
-    if role not in ("operator", "reader", "grid operator") or table.keys() - {"role", "relays"}:
-        raise BadSettings(f'logins.{name} has a role, "operator", "reader" or "grid operator", and the last one relays = ["NAME"]')
+    database = table.get("database")
+    if role not in ("operator", "reader", "grid operator") or table.keys() - {"role", "relays", "database"}:
+        raise BadSettings(
+            f'logins.{name} has a role, "operator", "reader" or "grid operator". The last one has relays = ["NAME"], and a reader may have a database'
+        )
+    if database is not None and (role != "reader" or not _is_database(database)):
+        raise BadSettings(f'logins.{name}.database is {database!r}: give a reader "sqlite", or postgresql://USER@HOST/NAME without a password')
     if not isinstance(relays, list) or not all(isinstance(relay, str) for relay in relays):
         raise BadSettings(f"logins.{name}.relays is {relays!r}: give a list of names")
-    return Login(name, role, tuple(relays))
+    return Login(name, role, tuple(relays), database)
+
+
+def _is_database(database: object) -> bool:
+    """Whether a history may be kept there. A URL is a word of a unit, which each user of the machine may read."""
+    if not isinstance(database, str) or not re.fullmatch(r"[!-~]+", database):
+        return False
+    try:
+        told = urlsplit(database)
+        return database == SQLITE or (told.scheme == "postgresql" and told.password is None and not set("\"'\\$") & set(database))
+    except ValueError:
+        return False
 
 
 def _numbered(members: list[Member]) -> list[Member]:

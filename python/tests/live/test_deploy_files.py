@@ -56,6 +56,10 @@ NO_MARKETS = [
     ("[market]\nprefix = 1", "market.prefix is 1"),
     ("[logins.a]\nrole = 'king'", "logins.a has a role"),
     ("[logins.a]\nrole = 'grid operator'", "relays go with the role grid operator"),
+    ("[logins.a]\nrole = 'operator'\ndatabase = 'sqlite'", "logins.a.database is 'sqlite': give a reader"),
+    ("[logins.a]\nrole = 'reader'\ndatabase = 'postgresql://a:secret@b/c'", "without a password"),
+    ("[logins.a]\nrole = 'reader'\ndatabase = 'sqlite:///x'", "logins.a.database is 'sqlite:///x'"),
+    ("[logins.a]\nrole = 'reader'\ndatabase = 'postgresql://a@b/c d'", "logins.a.database is"),
     ("[relays.b]\n[logins.a]\nrole = 'grid operator'\nrelays = ['b']", "limits b, no relay with limits_from"),
     ("[logins.a]\nrole = 'reader'\nrelays = 'b'", "logins.a.relays is 'b'"),
 ]

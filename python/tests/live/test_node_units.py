@@ -1,4 +1,4 @@
-"""The unit that is made for each node, beside the settings that are made for it and those that a page shows."""
+"""The units that are made for each node and for a history, beside the settings that are made for it and those that a page shows."""
 
 from __future__ import annotations
 
@@ -10,9 +10,10 @@ import pytest
 from made import TREE
 from units import Unit, block_of
 
-from cogmaula.deploy import read_tree
+from cogmaula.deploy import Login, read_tree
 from cogmaula.deploy.files import Places
-from cogmaula.deploy.node_files import settings_text, unit_of, unit_text
+from cogmaula.deploy.history_files import histories_of, history_unit_of, history_unit_text
+from cogmaula.deploy.node_files import login_text, settings_text, unit_of, unit_text
 
 TOLD = read_tree(TREE)
 WITH_PAGE = replace(TOLD, members=tuple(replace(member, page={"listen": "127.0.0.1:8080", "whole": True}) for member in TOLD.members))
@@ -34,3 +35,28 @@ def test_a_unit_can_write_and_read_what_its_node_needs(tree, name):
 
 def test_a_unit_can_write_a_recording():
     unit_and_settings(TOLD, "street")[0].require(block_of("JUDGE.md", "[node]"))
+
+
+@pytest.mark.parametrize(
+    ("database", "due"),
+    [
+        ("sqlite", "sqlite:////var/lib/market/history/market.db"),
+        ("postgresql://market@db.example/market%20one", "postgresql://market@db.example/market%%20one"),
+    ],
+)
+def test_the_unit_of_a_history_hands_over_what_it_reads_and_can_write_its_file(database, due):
+    tree = replace(TOLD, logins=(Login("history", "reader", database=database),))
+    (login,) = histories_of(tree)
+    places = Places(Path("out"), False)
+    unit = Unit(history_unit_text(tree, login, places), f"{history_unit_of(login)}.service")
+    unit.require(tomllib.loads(login_text(tree, "history", places)))
+    (command,) = unit.all("ExecStart")
+    assert command.endswith(f" history --config /etc/market/history.toml --password-file %d/password --to {due}")
+    file = due.removeprefix("sqlite:///")
+    assert database != "sqlite" or any(file.startswith(f"{folder}/") for folder in unit.state)
+    assert (database == "sqlite") == (not unit.all("Environment"))
+    assert unit.all("Environment") in ([], ["PGPASSFILE=%d/pgpass"])
+    # It says once that it works, and has no loop that a watchdog could look at.
+    assert (unit.all("Type"), unit.all("WatchdogSec")) == (["notify"], [])
+    rights = tree.rights()["history"]
+    assert rights and all(right.access == "read" for right in rights)
