@@ -19,7 +19,7 @@ from typing import Any, Protocol
 from ..cluster import Basis
 from ..live.errors import BadMessage
 from ..live.frames import AnyOffer, Leave, Offer, Points, Stated
-from ..live.messages import members_of, object_of
+from ..live.messages import StateMessage, members_of, object_of
 from ..live.sessions import time_of
 from ..logs import NodeLog
 from .mqtt import BrokerPlace, Client
@@ -44,7 +44,15 @@ class Silent:
     why: str
 
 
-Word = Setpoint | Silent | Basis
+@dataclass(frozen=True)
+class Standing:
+    """How the agent's node is, such as up or down, or whether its hub is up or away. `why` may be empty."""
+
+    state: str
+    why: str
+
+
+Word = Setpoint | Silent | Basis | Standing
 
 
 class Link(Protocol):
@@ -117,6 +125,7 @@ class HubLink:
                 why = "the hub has ended the connection"
             except (OSError, BadMessage) as error:
                 why = str(error)
+            self._take(Standing("away", why))
             if why != said and not self._is_closed:
                 said = why
                 self._log.warning(f"{self._place.hub}: {why}. It is tried again each {AGAIN:g} s")
@@ -180,6 +189,7 @@ class HubLink:
         try:
             basis = told["marketBasis"]
             self._take(Basis(basis["minimumPrice"], basis["maximumPrice"], basis["priceSteps"]))
+            self._take(Standing("up", ""))
         except (KeyError, TypeError):
             raise BadMessage("the hub has not answered the login") from None
 
@@ -229,16 +239,15 @@ class NodeLink:
     def __init__(self, place: BrokerPlace, prefix: str, node: str) -> None:
         """Takes the broker, the prefix of the market's topics, and the name of the device's node."""
         self._place = place
-        self._topics = {
-            kind: f"{prefix}/{name}" for kind, name in (("basis", "basis"), ("setpoint", f"{node}/setpoint"), ("offer", f"{node}/offer"))
-        }
+        kinds = {"basis": "basis", **{kind: f"{node}/{kind}" for kind in ("setpoint", "offer", "state")}}
+        self._topics = {kind: f"{prefix}/{name}" for kind, name in kinds.items()}
         self._newest: queue.Queue[str | None] = queue.Queue()
         self._sending: threading.Thread | None = None
 
     def start(self, take: Callable[[Word], None], log: NodeLog) -> None:
         """See Link."""
         self._take, self._log = take, log
-        self._client = Client(self._place, [self._topics["basis"], self._topics["setpoint"]], self._hear)
+        self._client = Client(self._place, [self._topics[word] for word in ("basis", "setpoint", "state")], self._hear)
         self._sending = threading.Thread(target=self._send_all, daemon=True)
         self._sending.start()
 
@@ -254,6 +263,10 @@ class NodeLink:
 
     def _hear(self, topic: str, payload: bytes, retained: bool) -> None:
         try:
+            if topic == self._topics["state"]:
+                state = StateMessage.of(payload)
+                self._take(Standing(state.state, state.why))
+                return
             told = object_of(payload, "the message")
             if topic == self._topics["basis"]:
                 self._take(Basis(told["min"], told["max"], told["steps"]))

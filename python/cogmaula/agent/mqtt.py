@@ -41,12 +41,14 @@ class MqttPlace(BrokerPlace):
 
     pointer:  a JSON pointer to the value in what is read, such as /ENERGY/Power; without it all is the value
     payload:  what is written, with VALUE for the number
+    zero:     what is written for a power of 0 in its place, such as OFF; None if `payload` is
     retain:   whether what is written is retained
     """
 
     topic: str
     pointer: str = ""
     payload: str = "VALUE"
+    zero: str | None = None
     retain: bool = False
 
     def __post_init__(self) -> None:
@@ -60,8 +62,19 @@ class MqttPlace(BrokerPlace):
 class Client:
     """A connection to a broker, which comes back by itself. Topics are read again after each connection."""
 
-    def __init__(self, place: BrokerPlace, topics: list[str], take: Callable[[str, bytes, bool], None]) -> None:
+    def __init__(
+        self,
+        place: BrokerPlace,
+        topics: list[str],
+        take: Callable[[str, bytes, bool], None],
+        *,
+        will: tuple[str, str] | None = None,
+        greet: Callable[[], None] | None = None,
+    ) -> None:
         """Takes the broker, the topics that are read, and a call for each message: its topic, payload and whether it was retained.
+
+        will:  the topic and the payload that the broker publishes, retained, if the connection is lost
+        greet: called after each connection
 
         Raises NoPackage, and OSError if the password cannot be read.
         """
@@ -76,6 +89,9 @@ class Client:
             self._client.username_pw_set(place.user, word)
         if place.ca is not None:
             self._client.tls_set(place.ca, tls_version=ssl.PROTOCOL_TLS_CLIENT)
+        if will is not None:
+            self._client.will_set(*will, 1, True)
+        self._greet = greet
         self._topics = topics
         self._client.on_connect = self._connected
         self._client.on_disconnect = self._disconnected
@@ -104,6 +120,8 @@ class Client:
         if self.is_connected:
             for topic in self._topics:
                 client.subscribe(topic, 1)
+            if self._greet is not None:
+                self._greet()
 
     def _disconnected(self, _client: Any, _data: object, _code: int) -> None:
         self.is_connected = False
@@ -116,6 +134,11 @@ class Client:
         with contextlib.suppress(ValueError, RuntimeError):
             sent.wait_for_publish(CONFIRMED)
         return bool(sent.is_published())
+
+    def post(self, topic: str, payload: str) -> None:
+        """Publishes, retained, and waits for nothing. Without a connection it is dropped."""
+        if self.is_connected:
+            self._client.publish(topic, payload, 1, True)
 
     def close(self) -> None:
         """Ends the connection."""
@@ -159,7 +182,9 @@ class Mqtt:
 
     def write(self, number: float) -> None:
         """Publishes the number. Raises NotWritten."""
-        if not self._client.publish(self.place.topic, text_with(self.place.payload, number), self.place.retain):
+        place = self.place
+        form = place.payload if place.zero is None or number != place.offset else place.zero
+        if not self._client.publish(place.topic, text_with(form, number), place.retain):
             raise NotWritten(f"topic {self.place.topic}: the broker has not confirmed it")
 
     def close(self) -> None:

@@ -6,6 +6,7 @@ import logging
 import queue
 import threading
 import time
+from dataclasses import dataclass
 from datetime import datetime
 
 from ..cluster import Basis
@@ -13,12 +14,20 @@ from ..live.frames import AnyOffer
 from ..logs import NodeLog
 from ..simulation.device import BadBid, offer_of
 from .guard import Guard
-from .links import Setpoint, Silent, Word
+from .homeassistant import HomeAssistant, Shown
+from .links import Setpoint, Silent, Standing, Word
 from .settings import Access, AgentSettings
 from .values import NoReading, NotWritten
 
 # The least and the greatest seconds between looks at the clock, and between tries to write what was not written.
 LEAST_LOOK, MOST_LOOK, AGAIN = 0.02, 0.5, 1.0
+
+
+@dataclass(frozen=True)
+class TakesPart:
+    """The user's word, by a switch, whether the device takes part in the market."""
+
+    is_on: bool
 
 
 class Agent:
@@ -32,13 +41,18 @@ class Agent:
         self._sink: Access = settings.access(settings.setpoint)
         self._link = settings.link()
         self._guard = Guard(settings.limits, self._log, time.monotonic())
-        self._words: queue.SimpleQueue[Word | None] = queue.SimpleQueue()
+        self._words: queue.SimpleQueue[Word | TakesPart | None] = queue.SimpleQueue()
         self._is_over = threading.Event()
         self._said: dict[str, str] = {}
         # Of the thread that reads, and of the one that works: the newest value and when it was read.
         self._lock = threading.Lock()
         self._reading: tuple[float, float] | None = None
         self._basis: Basis | None = None
+        self._setpoint: Setpoint | None = None
+        self._price: int | None = None
+        self._standing: Standing | None = None
+        self._takes_part = True
+        self._home = None if settings.entities is None else HomeAssistant(settings.entities, lambda is_on: self._words.put(TakesPart(is_on)))
         self._offered: AnyOffer | None = None
         self._tried, self._stepped = -float("inf"), time.monotonic()
 
@@ -53,6 +67,7 @@ class Agent:
                 self._take_words(look)
                 self._offer()
                 self._write(time.monotonic())
+                self._show()
         finally:
             self._is_over.set()
             self._end()
@@ -72,6 +87,8 @@ class Agent:
         self._guard.fall_back("the agent ends")
         self._write(time.monotonic())
         self._link.close()
+        if self._home is not None:
+            self._home.close()
 
     # The device's state.
 
@@ -110,26 +127,51 @@ class Agent:
         except queue.Empty:
             pass
 
-    def _take(self, word: Word) -> None:
+    def _take(self, word: Word | TakesPart) -> None:
         match word:
             case Basis():
                 self._basis, self._offered = word, None
-            case Setpoint(power=power):
-                self._guard.hear(power, time.monotonic())
+            case Setpoint(power=power, price=price):
+                self._price = price
+                if self._takes_part:
+                    self._setpoint = word
+                    self._guard.hear(power, time.monotonic())
             case Silent(why=why):
+                self._setpoint = None
                 self._guard.fall_back(why)
+            case Standing():
+                self._standing = word
+            case TakesPart(is_on=is_on):
+                self._take_part(is_on)
+
+    def _take_part(self, is_on: bool) -> None:
+        """Takes part in the market from now on, or leaves it: then the device takes its fallback, and no setpoint counts."""
+        if is_on == self._takes_part:
+            return
+        self._takes_part = is_on
+        if is_on:
+            self._log.info("it takes part in the market again")
+            return
+        self._leave()
+        self._setpoint = None
+        self._guard.fall_back("it is switched off, and takes no part in the market")
+
+    def _leave(self) -> None:
+        """Takes back what it offers."""
+        if self._offered is not None:
+            self._offered = None
+            self._link.offer(None)
 
     def _offer(self) -> None:
         """Offers what the model bids for the newest state, or leaves if there is none."""
         state, now = self._state(time.monotonic()), time.monotonic()
-        if self._basis is None:
+        if self._basis is None or not self._takes_part:
             return
         if state is None:
             self._guard.lose()
             if self._offered is not None:
                 self._log.warning("the state is too old: the device leaves the market until there is a newer one")
-                self._offered = None
-                self._link.offer(None)
+            self._leave()
             return
         offer = self._bid(state, now, self._basis)
         if offer is not None and offer != self._offered:
@@ -151,6 +193,15 @@ class Agent:
             return None
         self._log_change("bid", "")
         return found
+
+    # What Home Assistant shows.
+
+    def _show(self) -> None:
+        if self._home is None:
+            return
+        power = None if self._setpoint is None or self._guard.is_silent else self._setpoint.power
+        standing = (None, "") if self._standing is None else (self._standing.state, self._standing.why)
+        self._home.show(Shown(self._price, power, self._guard.written, self._offered, *standing, self._takes_part))
 
     # The device's power.
 

@@ -15,13 +15,14 @@ from ..live.settings import read_toml, value_of
 from ..live.topics import require_name, require_prefix
 from ..simulation import Battery, Boiler, Cogeneration, Device, HeatPump, Load, Solar, Vehicle
 from .guard import Limits
+from .homeassistant import Entities, HomeAssistantPlace
 from .links import HubLink, HubPlace, Link, NodeLink
 from .modbus import Modbus, ModbusPlace
 from .mqtt import BrokerPlace, Mqtt, MqttPlace
 from .plain import Command, CommandPlace, Csv, CsvPlace, Http, HttpPlace
 from .stated import StatedDevice
 
-TABLES = ("agent", "market", "device", "limits", "state", "setpoint")
+TABLES = ("agent", "market", "device", "limits", "state", "setpoint", "homeassistant")
 # Those that each file has.
 NEEDED = ("market", "device", "limits", "setpoint")
 # The models, the member that is the state of each, and what it is before the first reading.
@@ -57,6 +58,7 @@ class AgentSettings:
 
     state:    None if the model keeps its own state, by the powers that were written and the time that passes
     capacity: what a state in % is a share of
+    entities: what Home Assistant shows of the agent, None if it shows nothing
     """
 
     times: Times
@@ -67,6 +69,7 @@ class AgentSettings:
     state: Any
     setpoint: Any
     capacity: float
+    entities: Entities | None = None
 
     def link(self) -> Link:
         """What joins the agent to its market."""
@@ -98,20 +101,30 @@ def agent_settings_of(tables: Mapping[str, Mapping[str, Any]], folder: Path = Pa
     """The settings that the tables tell; a strategy's file is looked for in the folder. Raises BadSettings."""
     for name in NEEDED:
         if name not in tables:
-            raise BadSettings(f"the table [{name}] is missing: a file has {', '.join(f'[{needed}]' for needed in NEEDED)}, and may have [agent] and [state]")
+            needed = ", ".join(f"[{table}]" for table in NEEDED)
+            raise BadSettings(f"the table [{name}] is missing: a file has {needed}, and may have [agent], [state] and [homeassistant]")
     limits = value_of(Limits, tables["limits"], "limits")
     is_stated = "kind" in tables["device"]
     device, member = (_stated_of(tables, limits), "state") if is_stated else _device_of(dict(tables["device"]), folder)
+    market = _market_of(dict(tables["market"]))
     return AgentSettings(
         value_of(Times, tables.get("agent", {}), "agent"),
         limits,
-        _market_of(dict(tables["market"])),
+        market,
         device,
         member,
         _place_of(dict(tables["state"]), "state") if "state" in tables else None,
         _place_of(dict(tables["setpoint"]), "setpoint"),
         float(getattr(device, "capacity", 1.0)),
+        _entities_of(tables["homeassistant"], market, device) if "homeassistant" in tables else None,
     )
+
+
+def _entities_of(table: Mapping[str, Any], market: HubPlace | tuple[BrokerPlace, str, str], device: Any) -> Entities:
+    """What Home Assistant shows of the agent. Raises BadSettings."""
+    place: HomeAssistantPlace = value_of(HomeAssistantPlace, table, "homeassistant")
+    own = market.agent if isinstance(market, HubPlace) else market[2]
+    return Entities(place, place.name or own, str(device.name))
 
 
 def _market_of(table: dict[str, Any]) -> HubPlace | tuple[BrokerPlace, str, str]:

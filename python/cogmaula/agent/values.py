@@ -28,30 +28,34 @@ class NotWritten(MarketError):
 
 @dataclass(frozen=True, kw_only=True)
 class Place:
-    """Where a value of a device is read or written. The value in the agent's unit is what is there, times `scale`, in `unit`.
+    """Where a value of a device is read or written. The value is what is there less `offset`, times `scale`, in `unit`.
 
-    scale: such as 0.1 for a register that counts in tenths
-    unit:  one of W, kW, MW, Wh, kWh, MWh, C, and % for a share of the device's capacity
+    scale:  such as 0.1 for a register that counts in tenths
+    unit:   one of W, kW, MW, Wh, kWh, MWh, C, and % for a share of the device's capacity
+    offset: what is there for 0, such as 2 for a register of SG Ready, or 273.15 for kelvins
     """
 
     scale: float = 1.0
     unit: str = "W"
+    offset: float = 0.0
 
     def __post_init__(self) -> None:
         """Raises BadSettings."""
+        if not math.isfinite(self.offset):
+            raise BadSettings(f"the offset is {self.offset!r}: give a number")
         if self.unit not in UNITS or not (math.isfinite(self.scale) and self.scale):
             raise BadSettings(f"the unit is {self.unit!r} and the scale {self.scale!r}: give one of {', '.join(UNITS)} and a number that is not 0")
 
     def value_of(self, found: float, capacity: float = 1.0) -> float:
         """The value of what is there. Raises NoReading if it is no finite number."""
-        value = found * self.scale * UNITS[self.unit] * (capacity if self.unit == "%" else 1.0)
+        value = (found - self.offset) * self.scale * UNITS[self.unit] * (capacity if self.unit == "%" else 1.0)
         if not math.isfinite(value):
             raise NoReading(f"it is {found}")
         return value
 
     def to_write(self, watts: int) -> float:
         """What a power is there, a whole number if it is one."""
-        found = watts / (self.scale * UNITS[self.unit])
+        found = watts / (self.scale * UNITS[self.unit]) + self.offset
         return round(found) if abs(found - round(found)) < 1e-9 else found
 
 

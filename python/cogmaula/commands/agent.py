@@ -19,7 +19,7 @@ MORE = (
 
 def add_arguments(parser: argparse.ArgumentParser) -> None:
     """Adds the arguments of agent."""
-    parser.add_argument("file", metavar="SETTINGS", help="a TOML file with the tables [agent], [market], [device], [limits], [state] and [setpoint]")
+    parser.add_argument("file", metavar="SETTINGS", help="a TOML file with the tables [agent], [market], [device], [limits], [state], [setpoint] and [homeassistant]")
 
 
 def main(arguments: argparse.Namespace) -> int:
