@@ -57,20 +57,20 @@ OFFERS = {
 SIZES = {"page_wide.png": (1280, 1000), "page_narrow.png": (390, 1400)}
 
 
-async def draw(address: str) -> None:
-    """Takes the pictures of all of the page, by the protocol of Chromium's own tools."""
+async def draw(address: str, sizes: dict[str, tuple[int, int]], word: str) -> None:
+    """Takes the pictures of all of a page once it has a word, by the protocol of Chromium's own tools."""
     port = free_port()
     with tempfile.TemporaryDirectory() as folder:
         words = ["--headless", "--no-sandbox", "--hide-scrollbars", f"--remote-debugging-port={port}", f"--user-data-dir={folder}"]
         browser = subprocess.Popen([str(CHROMIUM), *words, address], stderr=subprocess.DEVNULL)
         try:
-            await take(port)
+            await take(port, sizes, word)
         finally:
             browser.terminate()
             browser.wait()
 
 
-async def take(port: int) -> None:
+async def take(port: int, sizes: dict[str, tuple[int, int]], word: str) -> None:
     """Lets the browser of this port take the pictures."""
     for _ in range(600):
         try:
@@ -86,9 +86,9 @@ async def take(port: int) -> None:
                 pass
             return answer["result"]
 
-        while "store" not in str(await ask("Runtime.evaluate", expression="document.body?.innerText")):
+        while word not in str(await ask("Runtime.evaluate", expression="document.body?.innerText")):
             await asyncio.sleep(0.5)
-        for file, (wide, most) in SIZES.items():
+        for file, (wide, most) in sizes.items():
             high = 800
             for _ in range(2):
                 await ask("Emulation.setDeviceMetricsOverride", width=wide, height=high, deviceScaleFactor=1, mobile=False)
@@ -112,7 +112,7 @@ def main() -> None:
             market.settles_at(5, house1=2_500, heatpump=0, charger=3_700, roof=-2_000)
             port = market.nodes["auctioneer"].showing.port
             wait_until(lambda: json.loads(get(port, "/view")[2])["lost_since"] is None, "the page has read the market")
-            asyncio.run(draw(f"http://127.0.0.1:{port}/"))
+            asyncio.run(draw(f"http://127.0.0.1:{port}/", SIZES, "store"))
 
 
 if __name__ == "__main__":
