@@ -25,13 +25,23 @@ MORE = (
 )
 
 
+def address(text: str) -> tuple[str, int]:
+    """The address and the port of a text such as 8883 or 10.0.0.1:8883."""
+    host, _, port = text.rpartition(":")
+    if not port.isascii() or not port.isdigit():
+        raise argparse.ArgumentTypeError(f"{text!r} is no port, and no address with a port, such as 10.0.0.1:8883")
+    return host or "127.0.0.1", int(port)
+
+
 def add_arguments(parser: argparse.ArgumentParser) -> None:
     """Adds the arguments of market."""
     below = parser.add_subparsers(dest="word", metavar="WORD", required=True)
     making = below.add_parser("init", help="makes keys, passwords, rights, settings and units of a new market")
     making.add_argument("tree", metavar="TREE", help="the TOML file that names the market")
     making.add_argument("--out", metavar="FOLDER", required=True, help="the new folder of all files")
-    making.add_argument("--here", metavar="PORT", type=int, help="for this machine alone, by a broker at 127.0.0.1:PORT")
+    making.add_argument(
+        "--here", metavar="[ADDRESS:]PORT", type=address, help="for this machine alone, by a broker at this address, by default 127.0.0.1"
+    )
     adding = below.add_parser("add", help="adds a device to the files of a market")
     adding.add_argument("name", metavar="NAME", help="the device")
     adding.add_argument("--out", metavar="FOLDER", required=True, help="the folder that init made")
@@ -65,7 +75,8 @@ def _broker_of(path: str) -> BrokerSettings:
 def _init(arguments: argparse.Namespace) -> str:
     tree = read_tree(arguments.tree)
     if arguments.here is not None:
-        broker = replace(tree.broker, host="127.0.0.1", port=arguments.here)
+        host, port = arguments.here
+        broker = replace(tree.broker, host=host, port=port)
         tree = replace(tree, market=replace(tree.market, here=True), broker=broker)
     return "\n".join(init_market(tree, Path(arguments.out)))
 

@@ -57,7 +57,7 @@ def configuration_text(tree: Tree, places: Places) -> str:
     limits, etc, here = limits_of(tree), places.etc("broker"), tree.market.here
     lines = [
         "# Made by `cogmaula market`. TLS alone. A login is also the connection's name, so that nobody ends that of another login.",
-        f"listener {tree.broker.port}{' 127.0.0.1' if here else ''}",
+        f"listener {tree.broker.port}{f' {tree.broker.host}' if here else ''}",
         f"cafile {etc}/ca.crt",
         f"certfile {etc}/broker.crt",
         f"keyfile {etc}/broker.key",

@@ -159,7 +159,7 @@ class Accounts:
         for device in devices.values():
             device.go_to(end)
             parts.append(device.end_slot())
-        self.sums.append(SlotSums(sum(it.taken for it in parts), sum(it.given for it in parts), sum(it.amount for it in parts)))
+        self.sums.append(SlotSums(sum(part.taken for part in parts), sum(part.given for part in parts), sum(part.amount for part in parts)))
         self._now = end
 
     def _device(self, name: str) -> _Device:

@@ -154,6 +154,24 @@ def require_programs():
         pytest.skip("mosquitto is not installed: apt-get install mosquitto")
 
 
+@pytest.mark.parametrize(
+    ("here", "listens"),
+    [("8883", "listener 8883 127.0.0.1"), ("10.0.0.1:1", "listener 1 10.0.0.1"), ("x", None), ("10.0.0.1:", None), ("10.0.0.1:0", None)],
+)
+def test_a_market_of_one_machine_listens_at_the_address_that_is_given(tmp_path, here, listens):
+    require_programs()
+    out = tmp_path / "market"
+    try:
+        status = main(["market", "init", str(TREE), "--out", str(out), "--here", here])
+    except SystemExit as end:
+        status = end.code
+    assert status == (2 if listens is None else 0)
+    assert out.exists() == (listens is not None)
+    if listens is not None:
+        assert listens in (out / "broker" / "mosquitto.conf").read_text().splitlines()
+        assert f'host = "{listens.split()[2]}"' in (out / "house" / "house.toml").read_text()
+
+
 def test_secrets_are_in_files_of_their_own_and_in_no_argument(tmp_path, monkeypatch):
     require_programs()
     words, run = [], subprocess.run
