@@ -32,7 +32,7 @@ from live_machine import CGROUPS, make_root
 TOP = Path(__file__).resolve().parent.parent
 BASE = "docker.io/library/debian:bookworm-slim"
 NODES = ["auctioneer", "street", "house", "store"]
-PARTS = ["broker", *NODES]
+PARTS = ["broker", *NODES, "history"]
 PATIENCE = 90
 # What the official image has beyond debootstrap: no package's pages are kept, and no downloaded package.
 SLIM = {
@@ -175,6 +175,12 @@ class Containers:
         require((told["why"], status) == ("stopped", "0"), f"status {status}, {told}")
         return f"status 0 and down after {took:.1f} s"
 
+    def keeps_history(self):
+        """That the history has what the store was told today."""
+        words = f"cogmaula history --to sqlite:////var/lib/market/market.db --day {time.strftime('%Y-%m-%d')}"
+        told = wait_for(lambda: "store," in (it := self.run(f"podman exec {self.container('history')} {words}", False)) and it, PATIENCE, "no row")
+        return " ".join(told.split())
+
     def secrets_are_apart(self):
         """That a node has no password but its own, no right to write, and no privilege."""
         words = "id -u; cd /etc/market; echo *; grep CapEff /proc/self/status; ! touch /x"
@@ -191,6 +197,7 @@ class Containers:
 def try_containers(found, containers):
     """The containers that run."""
     found.part("offers", containers.offer)
+    found.part("the history keeps it", containers.keeps_history)
     found.part("secrets are apart", containers.secrets_are_apart)
     for part in PARTS:
         found.part(f"the container of {part} is killed", lambda part_name=part: containers.killed(part_name))

@@ -50,7 +50,7 @@ class Market:
         # The packages are there.
         self.run("sed -i 's/^.auctioneer.$/&\\npage = \"127.0.0.1:8080\"/' TREE.toml")
         self.run(steps[2])
-        for name in ("broker", *NODES, "operator", "house.control", "store.control"):
+        for name in ("broker", *NODES, "operator", "house.control", "store.control", "history"):
             self.run(f"cd market; {steps[3].replace('street', name)}")
         self.listen()
         self.all_are_up()
@@ -297,6 +297,28 @@ def booted_again(market, units):
     return f"all are up {took:.1f} s after the order, in the same session; the next clearing is {market.offer()['clearing']}"
 
 
+# The least power that the history has of the store's setpoints.
+LEAST_KEPT = """python3 -c "import sqlite3; one = sqlite3.connect('file:/var/lib/market/history/market.db?mode=ro', uri=True)
+print(one.execute('SELECT min(power) FROM setpoints WHERE device = ?', ('store',)).fetchone()[0])" || true"""
+
+
+def history_kept(market):
+    """That the unit of the history runs, is started again after a kill, and has what the store was told since."""
+    unit = "market-history-history"
+
+    def process():
+        return market.run(f"systemctl show -P MainPID {unit}").strip()
+
+    wait_for(lambda: market.run(LEAST_KEPT).strip().startswith("-"), PATIENCE, "the history has no setpoint of the store")
+    before = process()
+    market.run(f"systemctl kill -s KILL {unit}")
+    wait_for(lambda: process() not in ("0", before), PATIENCE, "it is not started again")
+    power = market.offer()["power"]
+    wait_for(lambda: market.run(LEAST_KEPT).strip() == str(power), PATIENCE, f"the history does not have {power} W")
+    exposed = market.run(f"systemd-analyze security --no-pager {unit}").strip().splitlines()[-1].strip("→ ")
+    return f"killed and started again, it has the {power} W since; {exposed}"
+
+
 def limits(units, name):
     """Whether a unit came to its limits."""
     peak = units.cgroup(name, ("memory", "memory.max_usage_in_bytes"), ("", "memory.peak"))
@@ -329,6 +351,7 @@ def try_nodes(found, machine):
     market, units = Market(machine), Units(machine)
     found.part("the market, by the words of OPERATE.md", market.set_up)
     found.part("offers", lambda: f"told {json.dumps(market.offer())}")
+    found.part("the unit of the history", lambda: history_kept(market))
     found.part("a node does not see what is another's", lambda: hides(machine, units))
     for name in NODES:
         found.part(f"{unit_of(name)} is killed", lambda unit=name: killed(market, units, unit))

@@ -53,7 +53,7 @@ def main(arguments: argparse.Namespace) -> int:
     """Keeps the history until a signal ends it."""
     try:
         if arguments.day is not None:
-            return _tell_day(open_database(arguments.to), arguments.day)
+            return _tell_day(open_database(arguments.to, is_reader=True), arguments.day)
         if arguments.config is None:
             raise BadSettings("give --config FILE, or --day DATE for what is kept")
         table = dict(read_toml(arguments.config).get("broker", {}))

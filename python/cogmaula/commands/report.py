@@ -14,8 +14,7 @@ from ..data.supply import read_supply
 from ..history import open_database
 from ..live.errors import BadSettings
 from ..money import rate_of
-from ..report import Currency, report
-from ..report.history_day import history_page
+from ..report import Currency, history_page, report
 
 HELP = "writes a page of prices, loads, powers and bills: of a cluster file that it runs, or of a day of a market's history"
 MORE = (

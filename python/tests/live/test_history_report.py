@@ -130,6 +130,19 @@ def test_one_who_reads_makes_no_tables_and_writes_none(url, history):
         open_database(missing, is_reader=True)
 
 
+def test_a_login_that_may_only_read_is_enough(url, history):
+    if not url.startswith("postgresql"):
+        pytest.skip("a file of SQLite has no logins")
+    import psycopg
+
+    with psycopg.connect(url, autocommit=True) as owner:
+        owner.execute("DO $$ BEGIN CREATE ROLE looks LOGIN; EXCEPTION WHEN duplicate_object THEN NULL; END $$")
+        owner.execute("GRANT SELECT ON ALL TABLES IN SCHEMA public TO looks")
+    database = open_database(url.replace("postgres@", "looks@"), is_reader=True)
+    assert course_of(database, DAY * 1000, (DAY + 86_400) * 1000).accounts == DUE
+    database.close()
+
+
 # Against a model.
 
 SPAN = 2 * SLOT // 1000
