@@ -12,6 +12,7 @@ from datetime import datetime, timedelta
 
 import pytest
 from brokers import SECONDS, TOP, Mosquitto, free_port, require_broker, wait_until
+from logged import log_to
 
 from cogmaula.agent import Agent, read_agent_toml
 from cogmaula.agent.links import HubPlace
@@ -71,7 +72,7 @@ class Driving:
         if told.entities is not None:
             servers["entities"] = replace(told.entities, place=replace(told.entities.place, port=port))
         settings = replace(told, limits=limits, market=market, times=replace(told.times, every=0.1), **servers)
-        self.agent = Agent(settings, self.said.append)
+        self.agent = Agent(settings, log_to(self.said.append))
         self.thread = threading.Thread(target=self.agent.run)
 
     def __enter__(self):

@@ -10,6 +10,7 @@ from datetime import datetime, timedelta
 
 import pytest
 from brokers import SECONDS, Mosquitto, require_broker, wait_until
+from logged import log_to
 
 from cogmaula.agent import Agent, agent_settings_of
 from cogmaula.agent.homeassistant import Entities, HomeAssistantPlace, Shown, range_of
@@ -126,7 +127,7 @@ def test_an_agent_appears_and_is_switched_off_and_on(tmp_path):
     require_broker()
     with Mosquitto(tmp_path / "broker") as broker:
         home, said = Home(broker.port), []
-        agent = Agent(agent_settings_of(tables(broker.port)), said.append)
+        agent = Agent(agent_settings_of(tables(broker.port)), log_to(said.append))
         thread = threading.Thread(target=agent.run)
         thread.start()
         try:
@@ -174,7 +175,7 @@ def test_the_state_of_the_node_is_shown(tmp_path):
     payload = village().messages["market/mill/state"].payload
     with Mosquitto(tmp_path / "broker") as broker:
         home = Home(broker.port)
-        agent = Agent(agent_settings_of(tables(broker.port)), lambda _: None)
+        agent = Agent(agent_settings_of(tables(broker.port)), log_to([].append))
         thread = threading.Thread(target=agent.run)
         thread.start()
         try:
