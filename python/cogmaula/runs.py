@@ -4,7 +4,7 @@ from __future__ import annotations
 
 import json
 import os
-from collections.abc import Callable, Iterator
+from collections.abc import Callable, Iterator, Mapping, Sequence
 from datetime import datetime
 from functools import cached_property
 from pathlib import Path
@@ -265,6 +265,27 @@ class Run:
                 store.put(name, frames.simple(frame))
         return Path(path)
 
+    def dataset(self, households: Mapping[str, Sequence[str]] | None = None) -> Any:
+        """The run as a dataset of xarray, with units and coordinates, as `cogmaula.datasets` describes.
+
+        households: the devices of each household, such as `read_supply(path).households`; a coordinate `household` is then beside `device`
+
+        Raises ValueError if the cluster lacks a device of a household, or two households have it; NoPackage without xarray.
+        """
+        from .datasets import dataset_of
+
+        return dataset_of(self, households)
+
+    def to_netcdf(self, path: str | os.PathLike[str], households: Mapping[str, Sequence[str]] | None = None) -> Path:
+        """Writes the `dataset` into a file of netCDF 4, and returns its path. It needs xarray and netCDF4.
+
+        Raises what `dataset` raises, NoPackage without netCDF4, and OSError.
+        """
+        from .datasets import write_netcdf
+
+        write_netcdf(self, path, households)
+        return Path(path)
+
     def _write(self, folder: str | os.PathLike[str], ending: str, write: Any) -> list[Path]:
         place = Path(folder)
         place.mkdir(parents=True, exist_ok=True)
@@ -275,7 +296,7 @@ class Run:
         return paths
 
     def write(self, place: str | os.PathLike[str], kind: str) -> None:
-        """Writes the run as `csv` or `parquet` into a folder, or as `json-lines` or `hdf5` into a file."""
+        """Writes the run as `csv` or `parquet` into a folder, or as `json-lines`, `hdf5` or `netcdf` into a file."""
         match kind:
             case "csv":
                 self.to_csv(place)
@@ -285,6 +306,8 @@ class Run:
                 self.to_json_lines(place)
             case "hdf5":
                 self.to_hdf5(place)
+            case "netcdf":
+                self.to_netcdf(place)
             case _:
                 raise ValueError(f"no format is called {kind}")
 

@@ -25,8 +25,10 @@ def add_arguments(parser: argparse.ArgumentParser) -> None:
     """Adds the arguments of chain."""
     parser.add_argument("file", metavar="FILE", help="the cluster file")
     parser.add_argument("more", metavar="MORE", nargs="*", help="files of the days behind it, with the same tree")
-    parser.add_argument("-o", "--output", metavar="FOLDER", help="where to write the tables: a folder, or a file for json-lines and hdf5")
-    parser.add_argument("--format", choices=["csv", "json-lines", "parquet", "hdf5"], default="csv", help="of the tables; default csv")
+    place = "where to write the tables: a folder, or a file for json-lines, hdf5 and netcdf"
+    parser.add_argument("-o", "--output", metavar="FOLDER", help=place)
+    kinds = ["csv", "json-lines", "parquet", "hdf5", "netcdf"]
+    parser.add_argument("--format", choices=kinds, default="csv", help="of the tables; default csv")
     parser.add_argument("--minutes", type=cli.whole_positive, metavar="N", help="the most minutes of a part, such as 1440 for days")
     parser.add_argument("--parts", metavar="FOLDER", help="where to keep the cluster file of each part, to run or judge it alone")
     parser.add_argument("--start", type=cli.moment, metavar="MOMENT", help="the moment before the first phase; default 2000-01-01")

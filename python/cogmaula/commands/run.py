@@ -18,8 +18,10 @@ MORE = (
 def add_arguments(parser: argparse.ArgumentParser) -> None:
     """Adds the arguments of run."""
     parser.add_argument("file", metavar="FILE", help="the cluster file; - for standard input")
-    parser.add_argument("-o", "--output", metavar="FOLDER", help="where to write the tables: a folder, or a file for json-lines and hdf5")
-    parser.add_argument("--format", choices=["csv", "json-lines", "parquet", "hdf5"], default="csv", help="of the tables; default csv")
+    place = "where to write the tables: a folder, or a file for json-lines, hdf5 and netcdf"
+    parser.add_argument("-o", "--output", metavar="FOLDER", help=place)
+    kinds = ["csv", "json-lines", "parquet", "hdf5", "netcdf"]
+    parser.add_argument("--format", choices=kinds, default="csv", help="of the tables; default csv")
     parser.add_argument("--start", type=cli.moment, metavar="MOMENT", help="the moment before the first phase; default 2000-01-01")
 
 
