@@ -49,7 +49,7 @@ class Members:
 
 def _size(phase: Phase) -> int:
     """The bytes of a phase in the file, with what stands behind it."""
-    return len(json.dumps(phase.members())) + 2
+    return len(phase.line) + 2
 
 
 def _head_size(cluster: Cluster) -> int:

@@ -83,7 +83,8 @@ class Cluster:
 
     def to_json(self) -> str:
         """The text of the cluster file, with a node or a phase in each line."""
-        nodes, phases = (",\n".join(json.dumps(part.members()) for part in them) for them in (self.nodes, self.phases))
+        nodes = ",\n".join(json.dumps(node.members()) for node in self.nodes)
+        phases = ",\n".join(phase.line for phase in self.phases)
         basis = {"min": self.basis.min, "max": self.basis.max, "steps": self.basis.steps}
         return (
             f'{{\n"version": {json.dumps(self.version)},\n"basis": {json.dumps(basis)},\n'

@@ -5,7 +5,7 @@ from __future__ import annotations
 import operator
 from collections.abc import Callable, Iterable
 from dataclasses import MISSING, fields
-from typing import Any, TypeVar
+from typing import Any, NamedTuple, TypeVar
 
 T = TypeVar("T")
 Demand = tuple[int, ...]
@@ -49,19 +49,49 @@ def points(place: str, given: Iterable[Iterable[object]]) -> Points:
 _KEEP: dict[str, Callable[[str, Any], object]] = {"int": whole, "str": text, "Demand": demand, "Points": points}
 
 
+class Rule(NamedTuple):
+    """What a frozen dataclass says of a member: its name, the class and the name as errors tell them, its type, and whether None is one."""
+
+    name: str
+    place: str
+    keep: Callable[[str, Any], object]
+    is_optional: bool
+
+
+# Of each class what `rules_of` and `defaults_of` gave: a script makes thousands of events.
+_RULES: dict[type, tuple[Rule, ...]] = {}
+_DEFAULTS: dict[type, dict[str, Any]] = {}
+
+
+def rules_of(kind: type) -> tuple[Rule, ...]:
+    """The rule of each member of a frozen dataclass."""
+    if kind not in _RULES:
+        words = [(field.name, str(field.type)) for field in fields(kind)]
+        _RULES[kind] = tuple(
+            Rule(name, f"{kind.__name__}.{name}", _KEEP[word.removesuffix(" | None")], word.endswith(" | None")) for name, word in words
+        )
+    return _RULES[kind]
+
+
+def defaults_of(kind: type) -> dict[str, Any]:
+    """What each member of a frozen dataclass is if nothing is given; None without a default."""
+    if kind not in _DEFAULTS:
+        _DEFAULTS[kind] = {field.name: None if field.default is MISSING else field.default for field in fields(kind)}
+    return _DEFAULTS[kind]
+
+
 def look(owner: Any) -> None:
     """Looks at each member of a frozen dataclass, and keeps it as its type. Raises TypeError with the class and the member."""
-    for field in fields(owner):
-        found, kind = getattr(owner, field.name), str(field.type)
-        if found is not None or not kind.endswith(" | None"):
-            keep = _KEEP[kind.removesuffix(" | None")]
-            object.__setattr__(owner, field.name, keep(f"{type(owner).__name__}.{field.name}", found))
+    members = vars(owner)
+    for name, place, keep, is_optional in rules_of(type(owner)):
+        found = members[name]
+        if found is not None or not is_optional:
+            # As the dataclass is frozen, it takes no assignment.
+            members[name] = keep(place, found)
 
 
 def kept(kind: type[T], **members: Any) -> T:
     """An object of a frozen dataclass with these members as they are, of whatever type: the program looks at them."""
     made = object.__new__(kind)
-    for field in fields(kind):
-        default = None if field.default is MISSING else field.default
-        object.__setattr__(made, field.name, members.get(field.name, default))
+    vars(made).update(defaults_of(kind), **members)
     return made

@@ -2,8 +2,10 @@
 
 from __future__ import annotations
 
+import json
 from collections.abc import Iterable
 from dataclasses import dataclass
+from functools import cached_property
 from typing import Any
 
 from .members import Demand, Points, look
@@ -46,6 +48,8 @@ class State:
 
     def members(self) -> dict[str, Any]:
         """The members of the event in the cluster file."""
+        if self.demand is None and self.points is None and self.value is not None:
+            return {"state": self.device, "value": self.value}
         given = {"value": self.value, "demand": self.demand, "points": self.points}
         return {"state": self.device, **{name: value for name, value in given.items() if value is not None}}
 
@@ -66,6 +70,11 @@ class Events:
         """The members of the phase in the cluster file."""
         return {"events": [event.members() for event in self.events]}
 
+    @cached_property
+    def line(self) -> str:
+        """The phase as JSON in a line. It is kept, since a script in parts is measured, run and billed."""
+        return json.dumps(self.members())
+
 
 @dataclass(frozen=True)
 class Tick:
@@ -80,6 +89,11 @@ class Tick:
     def members(self) -> dict[str, Any]:
         """The members of the phase in the cluster file."""
         return {"tick": self.minutes}
+
+    @property
+    def line(self) -> str:
+        """The phase as JSON in a line."""
+        return json.dumps(self.members())
 
 
 Phase = Events | Tick

@@ -98,6 +98,9 @@ def node_of(path: str, value: Any) -> Node:
 def _event(path: str, value: Any) -> Event:
     if not isinstance(value, dict):
         raise Unreadable(path, "an object is due")
+    if len(value) == 2 and "state" in value and value.get("value") is not None:
+        # Nearly all events of a long script are of this form.
+        return kept(State, device=value["state"], value=value["value"])
     makers: dict[str, Callable[[str], Event]] = {"join": Join, "leave": Leave}
     for word, maker in makers.items():
         if word in value:
@@ -113,6 +116,7 @@ def _phase(path: str, value: Any) -> Phase:
     if not isinstance(value, dict):
         raise Unreadable(path, "an object is due")
     if "events" in value:
-        events = _list(f"{path}.events", _object(path, value, ("events",))["events"])
-        return Events(_event(f"{path}.events[{at}]", value) for at, value in enumerate(events))
+        place = f"{path}.events"
+        events = _list(place, _object(path, value, ("events",))["events"])
+        return Events([_event(f"{place}[{at}]", event) for at, event in enumerate(events)])
     return kept(Tick, minutes=_object(path, value, ("tick",))["tick"])

@@ -75,9 +75,8 @@ def _after_events(now: Snapshot, phase: Events) -> Snapshot:
                 members.add(event.device)
             case Leave():
                 members.discard(event.device)
-            case State():
-                bid = Bid(event.demand, event.points)
-                states[event.device] = bid if event.value is None else event.value
+            case State(device, value):
+                states[device] = Bid(event.demand, event.points) if value is None else value
     return Snapshot(states, frozenset(members))
 
 

@@ -5,9 +5,10 @@ from __future__ import annotations
 from concurrent.futures import ThreadPoolExecutor
 from datetime import date
 
+from . import schema
 from .calls import bill, run
 from .chains import chain
-from .cluster import Source
+from .cluster import Cluster, Source
 from .errors import Refused, TooLong
 from .program import Program, chosen
 from .runs import Run
@@ -30,6 +31,9 @@ def whole_run(
     Raises what `run` and `chain` raise.
     """
     found = chosen(program)
+    if isinstance(source, Cluster) and len(source.phases) > schema.counts_of("document", "phases"):
+        # The program would read the whole file to refuse it.
+        return chain(source, start=start, program=found, quiet=quiet, with_bill=with_bill)
     with ThreadPoolExecutor(1) as pool:
         asked = pool.submit(bill, source, program=found) if with_bill else None
         try:

@@ -245,7 +245,7 @@ def test_the_page_of_the_feeder_tells_its_violation(program: Program) -> None:
     assert "<title>A &lt;b&gt; &amp; c: report of a run</title>" in text
     assert text == report(FEEDER, title="A <b> & c", start=datetime(2026, 6, 21, 12), currency=money, program=program)
     # The price is 9 over 115 of 130 minutes, and 0 while the house takes nothing.
-    assert "8.0 (0.0796 EUR/kWh)" in text
+    assert "0.0796 EUR/kWh (price 8.0)" in text
     # The house takes 500 W, 1500 W, 2000 W, 0 W and 100 W over 30, 60, 15, 15 and 10 minutes: 2.267 kWh at price 9.
     assert "<td>2.267</td><td>0.000</td><td>0.20</td>" in text
     assert "1 is 0.01 EUR/kWh" in text and not outside_addresses(text)

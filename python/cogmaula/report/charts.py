@@ -17,6 +17,7 @@ import numpy
 from matplotlib.axes import Axes
 from matplotlib.colors import SymLogNorm
 from matplotlib.figure import Figure
+from matplotlib.patches import StepPatch
 from matplotlib.ticker import FixedLocator, FuncFormatter, MaxNLocator
 
 from ..moments import later
@@ -113,13 +114,26 @@ def set_powers(axes: Axes) -> None:
     axes.axhline(0, color="0.6", linewidth=0.8, zorder=0)
 
 
+def put_steps(axes: Axes, values: Any, edges: Any, *, baseline: Any, color: str, fill: bool = False, **look: Any) -> None:
+    """Draws values between edges, as `Axes.stairs` does.
+
+    That call follows the outline of a patch a piece at a time to know its limits, which are known. For a year that takes seconds.
+    """
+    colours = {"facecolor": color, "linewidth": 0} if fill else {"edgecolor": color}
+    patch = StepPatch(values, edges, baseline=baseline, fill=fill, **{**colours, **look})
+    axes.add_artist(patch)
+    lowest, known = (0, values) if baseline is None else (baseline, numpy.concatenate([numpy.ravel(values), numpy.ravel(baseline)]))
+    patch.sticky_edges.y.append(numpy.min(lowest))
+    axes.update_datalim([(edges[0], numpy.min(known)), (edges[-1], numpy.max(known)), (edges[0], numpy.min(lowest))])
+    axes.autoscale_view()
+
+
 def draw_line(axes: Axes, hours: Hours, values: Any, **look: Any) -> None:
     """A line of the values over the hours; of a long run their means, on a band from the least to the greatest."""
     course = hours.course
     if course.word:
-        band = {"fill": True, "color": look["color"], "alpha": 0.25, "linewidth": 0}
-        axes.stairs(course.greatest(values), hours.edges, baseline=course.least(values), **band)
-    axes.stairs(course.mean(values), hours.edges, baseline=None, **look)
+        put_steps(axes, course.greatest(values), hours.edges, baseline=course.least(values), color=look["color"], fill=True, alpha=0.25)
+    put_steps(axes, course.mean(values), hours.edges, baseline=None, **look)
 
 
 def draw_prices(hours: Hours, market: Any, groups: Mapping[str, Any], unit: str) -> Figure:
@@ -127,7 +141,7 @@ def draw_prices(hours: Hours, market: Any, groups: Mapping[str, Any], unit: str)
     own = {name: prices for name, prices in groups.items() if list(prices) != list(market)}
     figure, axes = timed_axes(hours, **(legend_above(1 + min(len(own), MOST_LINES)) if own else {}))
     for at, (name, prices) in enumerate(list(own.items())[:MOST_LINES]):
-        axes.stairs(hours.course.mean(prices), hours.edges, baseline=None, color=COLOURS[at % 8], linewidth=1.2, label=f"below {name}")
+        put_steps(axes, hours.course.mean(prices), hours.edges, baseline=None, color=COLOURS[at % 8], linewidth=1.2, label=f"below {name}")
     draw_line(axes, hours, market, color=LINE, linewidth=1.8, label="market")
     # A unit may have a dollar sign, which would begin a formula.
     axes.set_ylabel(f"price ({unit})", parse_math=False)
@@ -155,7 +169,7 @@ def draw_load(hours: Hours, load: Sequence[int], floor: int, ceiling: int) -> Fi
         axes.axvspan(hours.edges[begin], hours.edges[end], color=LIMIT, alpha=0.15, linewidth=0)
     for limit, beyond in ((ceiling, numpy.maximum(highest, ceiling)), (floor, numpy.minimum(lowest, floor))):
         if any(beyond != limit):
-            axes.stairs(beyond, hours.edges, baseline=limit, fill=True, color=LIMIT, alpha=0.55, linewidth=0)
+            put_steps(axes, beyond, hours.edges, baseline=limit, color=LIMIT, fill=True, alpha=0.55)
     set_powers(axes)
     axes.margins(y=0.15)
     return figure
@@ -184,9 +198,9 @@ def draw_stack(hours: Hours, powers: Mapping[str, Any]) -> Figure:
     up, down = numpy.zeros(count), numpy.zeros(count)
     for at, (name, row) in enumerate(powers.items()):
         taken, given = mean(numpy.maximum(row, 0)), mean(numpy.minimum(row, 0))
-        look = {"fill": True, "color": COLOURS[at % 8], "linewidth": 0}
-        axes.stairs(up + taken, hours.edges, baseline=up, label=name, **look)
-        axes.stairs(down + given, hours.edges, baseline=down, **look)
+        color = COLOURS[at % 8]
+        put_steps(axes, up + taken, hours.edges, baseline=up, color=color, fill=True, label=name)
+        put_steps(axes, down + given, hours.edges, baseline=down, color=color, fill=True)
         up, down = up + taken, down + given
     set_powers(axes)
     axes.margins(y=0.1)
@@ -233,8 +247,8 @@ def draw_exchange(hours: Hours, totals: Any) -> Figure:
     """What the devices take together, less what they deliver: above 0 it comes from outside, below 0 it goes there."""
     figure, axes = timed_axes(hours, left=0.16)
     means = hours.course.mean(totals)
-    axes.stairs(numpy.maximum(means, 0), hours.edges, baseline=0, fill=True, color=COLOURS[4], alpha=0.6, linewidth=0)
-    axes.stairs(numpy.minimum(means, 0), hours.edges, baseline=0, fill=True, color=COLOURS[1], alpha=0.6, linewidth=0)
+    put_steps(axes, numpy.maximum(means, 0), hours.edges, baseline=0, color=COLOURS[4], fill=True, alpha=0.6)
+    put_steps(axes, numpy.minimum(means, 0), hours.edges, baseline=0, color=COLOURS[1], fill=True, alpha=0.6)
     draw_line(axes, hours, totals, color=COLOURS[0], linewidth=1.4)
     set_powers(axes)
     axes.margins(y=0.1)

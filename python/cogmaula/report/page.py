@@ -5,6 +5,9 @@ from __future__ import annotations
 from collections.abc import Iterable, Sequence
 from html import escape
 
+# A table of so many rows is printed on one page.
+MOST_UNBROKEN = 20
+
 STYLE = """
 :root { color-scheme: light dark; --paper: #fff; --ink: #1a1a1a; --soft: #5a5a5a; --line: #d9d9d9; --head: #f4f4f4; --link: #00548a;
   --bad: #b3400a; --good: #00664a; --warn: #fdf3d8; --blue: #0072b2; }
@@ -39,6 +42,7 @@ main { display: grid; grid-template-columns: minmax(0, 1fr); gap: 0 3rem; }
 .beside > * { min-width: 0; }
 figure { margin: .5rem 0; max-width: 42rem; }
 figure svg { display: block; width: 100%; height: auto; }
+figure.detailed > div { overflow-x: auto; }
 figure svg text { fill: currentColor; }
 figcaption { font-size: .9rem; }
 .wide { overflow-x: auto; max-width: 100%; max-height: 36rem; overflow-y: auto; margin: .5rem 0; }
@@ -58,21 +62,37 @@ caption { caption-side: top; position: sticky; left: 0; white-space: normal; max
 summary { cursor: pointer; padding: .4rem 0; color: var(--link); }
 footer { margin-top: 2.5rem; border-top: 1px solid var(--line); font-size: .85rem; color: var(--soft); overflow-wrap: anywhere; }
 @media (max-width: 30rem) { th, td { padding: .2rem .3rem; } .wide thead th { min-width: 3.2rem; } .wide table { font-size: .8rem; }
-  tbody th { white-space: normal; overflow-wrap: break-word; } .facts { grid-template-columns: 1fr 1fr; } }
+  .wide tbody th { white-space: normal; overflow-wrap: anywhere; min-width: 7.5rem; } .facts { grid-template-columns: 1fr 1fr; }
+  figure.detailed svg { min-width: 34rem; } }
 @media print {
   :root { color-scheme: light; --paper: #fff; --ink: #000; --soft: #444; --line: #bbb; --head: #eee; --link: #000; --bad: #8a2f00;
     --good: #00553d; --warn: #fff; --blue: #0072b2; }
   @page { margin: 14mm; }
   body { padding: 0; font-size: 10pt; max-width: none; }
-  nav, details:not([open]) { display: none; }
+  nav { display: none; }
+  details:not([open]) > summary { list-style: none; color: var(--soft); }
+  details:not([open]) > summary::after { content: ": folded, so not printed. Open it first."; }
   main { display: block; }
+  h2 { margin-top: 1.2rem; }
+  figure { max-width: 12.5cm; }
+  figure.detailed { max-width: 15.5cm; }
+  /* A border at the edge of the paper's area would be cut off. */
+  .cards, .facts { padding-right: 1px; gap: .4rem; margin: .6rem 0; }
+  .cards { grid-template-columns: repeat(3, minmax(0, 1fr)); }
+  .facts { grid-template-columns: repeat(4, minmax(0, 1fr)); }
+  .facts dd { font-size: 10pt; }
+  .facts div { padding: .3rem .5rem; }
   .wide { overflow: visible; max-height: none; }
   .wide th, .wide td, .wide tr.sum > *, .wide tbody th, .wide thead th, caption { position: static; }
-  table { font-size: 8pt; }
-  th, td { padding: .1rem .3rem; }
+  table, main section:not(.wide-part) .wide :is(th, td) { font-size: 8pt; }
+  th, td, main section:not(.wide-part) .wide :is(th, td) { padding: .1rem .3rem; }
   thead { display: table-header-group; }
-  tr, figure, .cards section, .facts div, .warning { break-inside: avoid; }
+  tr, figure, .cards section, .facts div, .warning, .wide.short, footer { break-inside: avoid; }
   h1, h2, h3, caption { break-after: avoid; }
+  footer { break-before: avoid; margin-top: 1.2rem; }
+  /* No row stands alone before or behind the end of a page. */
+  tbody tr:nth-child(-n + 3) { break-after: avoid; }
+  tbody tr:nth-last-child(-n + 3) { break-before: avoid; }
   .beside { display: block; }
   .beside > * { margin-bottom: 1rem; }
   p { orphans: 3; widows: 3; }
@@ -123,9 +143,14 @@ def facts(pairs: Iterable[tuple[str, str]]) -> str:
     return '<dl class="facts">' + "".join(f"<div><dt>{escape(name)}</dt><dd>{escape(value)}</dd></div>" for name, value in pairs) + "</dl>"
 
 
-def figure(svg: str, caption: str, told: str) -> str:
-    """A figure with its caption; `told` says in words what it shows, for readers who do not see it."""
-    return f'<figure><div role="img" aria-label="{escape(told)}">{svg}</div><figcaption>{escape(caption)}</figcaption></figure>'
+def figure(svg: str, caption: str, told: str, *, is_detailed: bool = False) -> str:
+    """A figure with its caption; `told` says in words what it shows, for readers who do not see it.
+
+    is_detailed: whether it has small text, so that a narrow screen scrolls it rather than making it smaller
+    """
+    style = ' class="detailed"' if is_detailed else ""
+    scrolled = ' tabindex="0"' if is_detailed else ""
+    return f'<figure{style}><div role="img" aria-label="{escape(told)}"{scrolled}>{svg}</div><figcaption>{escape(caption)}</figcaption></figure>'
 
 
 def cards(them: Iterable[tuple[str, str]]) -> str:
@@ -148,9 +173,10 @@ def table(caption: str, head: Sequence[str], rows: Iterable[Sequence[str]], sums
     """A table whose first column names its rows; `sums` are rows at its end that stand out."""
     top = "".join(f'<th scope="col">{escape(title)}</th>' for title in head)
     lines = [f"<tr>{row_of(row)}</tr>" for row in rows] + [f'<tr class="sum">{row_of(summed)}</tr>' for summed in sums]
+    style = "wide short" if len(lines) <= MOST_UNBROKEN else "wide"
     # A keyboard can scroll what has the focus.
     return (
-        f'<div class="wide" tabindex="0" role="region" aria-label="{escape(caption)}"><table><caption>{escape(caption)}</caption>'
+        f'<div class="{style}" tabindex="0" role="region" aria-label="{escape(caption)}"><table><caption>{escape(caption)}</caption>'
         f"<thead><tr>{top}</tr></thead><tbody>\n" + "\n".join(lines) + "\n</tbody></table></div>"
     )
 

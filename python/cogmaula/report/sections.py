@@ -8,13 +8,13 @@ from typing import Any
 
 from ..texts import Account
 from . import page
-from .charts import MOST_LINES, Hours, draw_curve, draw_exchange, draw_load, draw_powers, draw_prices, number, watts
+from .charts import MOST_LINES, MOST_STACKED, Hours, draw_curve, draw_exchange, draw_load, draw_powers, draw_prices, number, watts
 from .glance import compared, facts, glance
 from .grouping import MOST_NAMED, rows_of
 from .limits import Group, Violation
 from .making import Findings
 from .svg import svg_of
-from .words import count, duration, hours, in_money, kilowatt_hours, moment, money, unit_of
+from .words import count, duration, hours, kilowatt_hours, moment, money, price_words, span_words, unit_of
 
 # So many limited groups get a figure, those that were outside their limits first; a table has all.
 MOST_FIGURES = 12
@@ -87,10 +87,9 @@ def price_facts(found: Findings) -> Iterator[tuple[str, str]]:
     held, minutes = found.run.held.prices[:, 0], found.run.held.minutes
     if len(held):
         mean = Fraction(sum(price * length for price, length in zip(held.tolist(), minutes.tolist(), strict=True)), int(minutes.sum()))
-        low, high, unit = Fraction(int(min(held))), Fraction(int(max(held))), " price units"
-        yield "Lowest price", number(float(low)) + (in_money(found.currency, low) or unit)
-        yield "Highest price", number(float(high)) + (in_money(found.currency, high) or unit)
-        yield "Mean price over the time", number(float(mean), 1) + (in_money(found.currency, mean) or unit)
+        yield "Lowest price", price_words(found.currency, Fraction(int(min(held))))
+        yield "Highest price", price_words(found.currency, Fraction(int(max(held))))
+        yield "Mean price over the time", price_words(found.currency, mean, 1)
 
 
 def foot(found: Findings) -> str:
@@ -199,8 +198,9 @@ def powers(found: Findings) -> Iterator[str]:
         caption = f"The power of each of {devices} over each tick: taken above 0, delivered below. "
     if found.connection is not None:
         caption += f"The connection ({found.connection}) is not drawn. "
-    caption += "Who is no member has 0." if len(rows) <= 8 else "Who is no member has 0. The scale also tells small powers apart."
-    yield page.figure(svg_of(draw_powers(hours_of(found), rows), "powers"), caption + means(found), caption)
+    caption += "Who is no member has 0." if len(rows) <= MOST_STACKED else "Who is no member has 0. The scale also tells small powers apart."
+    svg = svg_of(draw_powers(hours_of(found), rows), "powers")
+    yield page.figure(svg, caption + means(found), caption, is_detailed=len(rows) > MOST_STACKED)
 
 
 def exchange(found: Findings) -> Iterator[str]:
@@ -250,7 +250,8 @@ def use(found: Findings) -> Iterator[str]:
     if moved:
         rows = [[name, hours(energy)] for name, energy in sorted(moved, key=lambda move: -move[1])]
         tables.append(long_table("Energy at another time than by the device's plain rule *", ["device", "shifted (kWh)"], rows))
-    yield page.beside(*tables)
+    # The long table of batteries is beside the two short ones.
+    yield page.beside(*tables) if len(tables) < 3 else page.beside(tables[0] + tables[2], tables[1])
     yield page.words(
         "Costs at the connection's prices: what the connection asks for the power that is bought or sold over each tick, as the program answers. "
         "What a battery holds more or less at the end than at the begin is not paid for in any of them. "
@@ -341,8 +342,8 @@ def span_row(found: Findings, at: int) -> list[str]:
     devices = span.bill.devices.values()
     taken, given = sum(one.taken for one in devices), sum(one.given for one in devices)
     amount = currency.money(sum(one.amount for one in devices))
-    name = f"{moment(found, span.begin)} to {moment(found, span.end)}"
-    return [name, kilowatt_hours(taken), kilowatt_hours(given), money(amount), money(currency.money(span.bill.grid.amount))]
+    amounts = [money(amount), money(currency.money(span.bill.grid.amount))]
+    return [span_words(found, span.begin, span.end), kilowatt_hours(taken), kilowatt_hours(given), *amounts]
 
 
 def flexibility(found: Findings) -> Iterator[str]:

@@ -18,6 +18,12 @@ def moment(found: Findings, at: int | datetime) -> str:
     return f"{time:%H:%M}" if minutes <= 1440 else f"{time:%d %b %H:%M}" if minutes <= 366 * 1440 else f"{time:%d %b %Y %H:%M}"
 
 
+def span_words(found: Findings, begin: int, end: int) -> str:
+    """A span of time, each end in minutes after the start. The day is told once if both are in it."""
+    first, last = later(found.run.start, begin), later(found.run.start, end)
+    return f"{moment(found, begin)} to {last:%H:%M}" if first.date() == last.date() else f"{moment(found, begin)} to {moment(found, end)}"
+
+
 def duration(minutes: int) -> str:
     """A number of minutes in hours and minutes, and in days if it is long."""
     hours, rest = divmod(minutes, 60)
@@ -46,8 +52,6 @@ def money(amount: Fraction | float) -> str:
     return number(float(amount), 2)
 
 
-
-
 def money_of(currency: Currency, amount: Fraction | float | None) -> str:
     """An amount with its unit."""
     return "unknown" if amount is None else f"{money(amount)} {currency.unit}"
@@ -60,6 +64,7 @@ def unit_of(currency: Currency) -> str:
     return f"1 is {number(float(currency.at_price_one), 6).rstrip('0').rstrip('.')} {currency.unit}/kWh"
 
 
-def in_money(currency: Currency, price: Fraction) -> str:
-    """What a kilowatt-hour costs at a price, behind it; nothing if the user named no currency."""
-    return "" if currency == Currency() else f" ({number(float(currency.price(price)), 4)} {currency.unit}/kWh)"
+def price_words(currency: Currency, price: Fraction, digits: int = 0) -> str:
+    """A price with its unit: in money with the price behind it, and in price units if the user named no currency."""
+    plain = number(float(price), digits)
+    return f"{plain} price units" if currency == Currency() else f"{number(float(currency.price(price)), 4)} {currency.unit}/kWh (price {plain})"
