@@ -14,7 +14,7 @@ from __future__ import annotations
 
 import os
 from collections.abc import Mapping, Sequence
-from datetime import UTC, datetime
+from datetime import UTC, datetime, timedelta
 from importlib.util import find_spec
 from typing import TYPE_CHECKING, Any
 from zoneinfo import ZoneInfo
@@ -55,7 +55,7 @@ def dataset_of(run: Run, households: Mapping[str, Sequence[str]] | None = None) 
     """
     parts = [phase_values(run), device_values(run), group_values(run), party_values(run)]
     coordinates = {**phase_coordinates(run), **device_coordinates(run, households), **group_coordinates(run), **party_coordinates(run)}
-    values = {name: it for part in parts for name, it in part.items()}
+    values = {name: value for part in parts for name, value in part.items()}
     return xarray().Dataset(values, coordinates, attributes(run))
 
 
@@ -93,13 +93,13 @@ def phase_coordinates(run: Run) -> dict[str, Any]:
     import numpy
 
     zoned = run.start.tzinfo is not None
-    moments = [it.astimezone(UTC).replace(tzinfo=None) if zoned else it for it in run.times]
+    moments = [time.astimezone(UTC).replace(tzinfo=None) if zoned else time for time in run.times]
     found = {
-        "phase": ("phase", numpy.array([it.phase for it in run.ends], dtype="int64"), {"long_name": "number of the phase"}),
+        "phase": ("phase", numpy.array([end.phase for end in run.ends], dtype="int64"), {"long_name": "number of the phase"}),
         "time": ("phase", numpy.array(moments, dtype="datetime64[ns]"), {"standard_name": "time", "time_zone": "UTC" if zoned else ""}),
     }
     if zoned:
-        offsets = [int((it.utcoffset() or it - it).total_seconds() // 60) for it in run.times]
+        offsets = [int((time.utcoffset() or timedelta()).total_seconds() // 60) for time in run.times]
         told = {"long_name": "what to add to the time for the clock of the run's zone", "units": "min"}
         found["utc_offset"] = ("phase", numpy.array(offsets, dtype="int64"), told)
     return found
@@ -122,14 +122,14 @@ def device_coordinates(run: Run, households: Mapping[str, Sequence[str]] | None)
     """The devices, in the order of the cluster file."""
     devices = run.cluster.devices
     found: dict[str, Any] = {
-        "device": ("device", texts(it.name for it in devices)),
-        "kind": ("device", texts(it.kind for it in devices)),
-        "parent": ("device", texts(getattr(it, "parent", "auctioneer") for it in devices)),
-        "state_unit": ("device", texts(STATE_UNITS.get(it.kind, TEMPERATURE) for it in devices)),
+        "device": ("device", texts(device.name for device in devices)),
+        "kind": ("device", texts(device.kind for device in devices)),
+        "parent": ("device", texts(getattr(device, "parent", "auctioneer") for device in devices)),
+        "state_unit": ("device", texts(STATE_UNITS.get(device.kind, TEMPERATURE) for device in devices)),
     }
     if households is not None:
-        owners = owners_of(households, {it.name for it in devices})
-        found["household"] = ("device", texts(owners.get(it.name, "") for it in devices))
+        owners = owners_of(households, {device.name for device in devices})
+        found["household"] = ("device", texts(owners.get(device.name, "") for device in devices))
     return found
 
 
@@ -148,7 +148,7 @@ def owners_of(households: Mapping[str, Sequence[str]], known: set[str]) -> dict[
 
 def device_values(run: Run) -> dict[str, Any]:
     """Powers, bids and states: of each phase and device, missing where there is none."""
-    names = [it.name for it in run.cluster.devices]
+    names = [device.name for device in run.cluster.devices]
     frames = {
         "power": (run.powers, {"long_name": "power that the device takes, below 0 if it delivers", "units": "W"}),
         "bid": (run.bids, {"long_name": "number of the bid that the price answers", "units": "1"}),
@@ -165,9 +165,9 @@ def group_coordinates(run: Run) -> dict[str, Any]:
     groups = limited_of(run)
     watts = {"units": "W"}
     return {
-        "group": ("group", texts(it.name for it in groups)),
-        "floor": ("group", numpy.array([it.floor for it in groups], dtype="int64"), watts),
-        "ceiling": ("group", numpy.array([it.ceiling for it in groups], dtype="int64"), watts),
+        "group": ("group", texts(group.name for group in groups)),
+        "floor": ("group", numpy.array([group.floor for group in groups], dtype="int64"), watts),
+        "ceiling": ("group", numpy.array([group.ceiling for group in groups], dtype="int64"), watts),
     }
 
 
@@ -179,12 +179,13 @@ def group_values(run: Run) -> dict[str, Any]:
         "group_excess": ("excess_W", {"long_name": "load above the ceiling, or below the floor if it is below 0", "units": "W"}),
     }
     shape = (len(run.ends), len(limited_of(run)))
-    return {name: (("phase", "group"), run.limited_groups[it].to_numpy().reshape(shape), told) for name, (it, told) in columns.items()}
+    groups = run.limited_groups
+    return {name: (("phase", "group"), groups[column].to_numpy().reshape(shape), told) for name, (column, told) in columns.items()}
 
 
 def limited_of(run: Run) -> list[Limited]:
     """The limited concentrators, in the order of the report."""
-    return [it for it in run.cluster.nodes if isinstance(it, Limited)]
+    return [node for node in run.cluster.nodes if isinstance(node, Limited)]
 
 
 def party_coordinates(run: Run) -> dict[str, Any]:
@@ -201,10 +202,10 @@ def party_values(run: Run) -> dict[str, Any]:
     energy = {"units": "W min"}
     paid = {"long_name": "amount that the party pays, in price units times W min", "units": "W min"}
     return {
-        "amount": ("party", numpy.array([float(it.amount) for it in accounts]), paid),
-        "amount_digits": ("party", texts(str(it.amount) for it in accounts), {"long_name": "the amount, exact"}),
-        "taken": ("party", numpy.array([it.taken for it in accounts], dtype="int64"), {"long_name": "energy taken", **energy}),
-        "given": ("party", numpy.array([it.given for it in accounts], dtype="int64"), {"long_name": "energy given", **energy}),
+        "amount": ("party", numpy.array([float(account.amount) for account in accounts]), paid),
+        "amount_digits": ("party", texts(str(account.amount) for account in accounts), {"long_name": "the amount, exact"}),
+        "taken": ("party", numpy.array([account.taken for account in accounts], dtype="int64"), {"long_name": "energy taken", **energy}),
+        "given": ("party", numpy.array([account.given for account in accounts], dtype="int64"), {"long_name": "energy given", **energy}),
     }
 
 

@@ -2,7 +2,6 @@
 
 from __future__ import annotations
 
-import json
 import math
 
 from .broker import Link, Publication
@@ -10,7 +9,7 @@ from .frames import Bid
 from .keeping import Keeping
 from .sessions import now_text
 from .settings import Settings
-from .silence import Silence, heartbeat_of
+from .silence import Heartbeat, Silence
 from .times import Times
 
 
@@ -23,21 +22,24 @@ class Beating:
         self._keeping = keeping
         self._link = link
         self.silence = Silence()
-        self._passed = ""
+        # The heartbeat that was passed on last; the auctioneer's start, and how many heartbeats it has made since.
+        self._passed: Heartbeat | None = None
+        self._start = self._made = 0
         self._next = -math.inf
         # The bid that was published last, and when.
         self._bid: Publication | None = None
         self._sent = 0.0
 
-    def begin(self, times: Times, now: float) -> None:
-        """Begins a session."""
+    def begin(self, times: Times, now: float, start: int) -> None:
+        """Begins a session. `start` is the count of the node's starts, by which the auctioneer's heartbeats rise from start to start."""
         self.silence.begin(times, now)
-        self._passed, self._next, self._bid = "", -math.inf, None
+        self._start = start
+        self._passed, self._next, self._bid = None, -math.inf, None
 
     def hear(self, data: bytes, now: float, retained: bool) -> None:
         """Takes a heartbeat of the parent. Raises BadMessage."""
         if data:
-            self.silence.hear(heartbeat_of(data), now, retained)
+            self.silence.hear(Heartbeat.of(data), now, retained)
 
     def tick(self, now: float, is_up: bool) -> None:
         """Does what is due. `is_up` says whether the node's service works: without it no heartbeat goes further down."""
@@ -45,7 +47,8 @@ class Beating:
             case "auctioneer":
                 if is_up and now >= self._next:
                     self._next = now + self.silence.times.heartbeat
-                    self.silence.hear(now_text(), now, False)
+                    self._made += 1
+                    self.silence.hear(Heartbeat(self._start, self._made, now_text()), now, False)
                     self._pass_on()
             case "relay":
                 if is_up and self.silence.newest != self._passed and now <= self.silence.heard + self.silence.times.heartbeat:
@@ -55,7 +58,8 @@ class Beating:
 
     def _pass_on(self) -> None:
         self._passed = self.silence.newest
-        self._keeping.publish(self._settings.own_topic("heartbeat"), json.dumps({"time": self._passed}).encode(), now_text())
+        if self._passed is not None:
+            self._keeping.publish(self._settings.own_topic("heartbeat"), self._passed.to_bytes(), now_text())
 
     @property
     def has_bid(self) -> bool:

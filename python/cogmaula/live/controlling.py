@@ -11,7 +11,7 @@ from .messages import SilentMessage, back_bytes, is_same_setpoint, session_bytes
 from .offers import Offers
 from .sessions import Session, now_text
 from .settings import Settings
-from .silence import Silence
+from .silence import Heartbeat, Silence
 
 
 class Controlling:
@@ -34,7 +34,7 @@ class Controlling:
         self._control = control
         self._log = log
         # The stored setpoint and the heartbeat that the control was told last.
-        self._told: tuple[str, str] | None = None
+        self._told: tuple[str, Heartbeat | None] | None = None
         self.is_silent = False
 
     def begin(self) -> None:
@@ -81,14 +81,14 @@ class Controlling:
         if self.is_silent:
             self.is_silent, self._told = False, None
             self._log.info("the market is back")
-            self._write(back_bytes(self._silence.newest or now_text()))
+            self._write(back_bytes(self._silence.heard_at or now_text()))
         stored = self._keeping.stored
         if stored is None or not stored.setpoint:
             return
         due = stored.setpoint, self._silence.newest
         if due != self._told:
             self._told = due
-            told = with_until(stored.setpoint, self._silence.until)
+            told = with_until(stored.setpoint, self._silence.until(now))
             self._write(told)
             self._keeping.publish(self._settings.own_topic("setpoint"), told, now_text())
 

@@ -72,7 +72,7 @@ class NodeFacts:
     counts:        what it has done
     stores:        how often it made something safe on disk, and `store_seconds` how long that took in all
     lapsed:        how many children are let go
-    heartbeat:     the time of the newest heartbeat that it made or heard (RFC 3339), "" before the first
+    heartbeat:     when it made or heard the newest heartbeat, by its own clock (RFC 3339), "" before the first
     loop_age:      the seconds since its loop turned last
     """
 

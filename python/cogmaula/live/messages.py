@@ -300,7 +300,7 @@ class SetpointMessage:
 class SilentMessage:
     """What a device's control is told in place of a setpoint while the market is silent.
 
-    since: when the newest heartbeat was (RFC 3339), or when the device was let go
+    since: when the newest heartbeat was heard (RFC 3339), or when the device was let go
     power: the fallback in watts
     why:   in words
     """
@@ -356,7 +356,7 @@ def session_bytes(session: Session) -> bytes:
 
 
 def back_bytes(since: str) -> bytes:
-    """What a control is told once the market is back. `since` is when its heartbeat was."""
+    """What a control is told once the market is back. `since` is when its heartbeat was heard."""
     return json.dumps({"market": "live", "since": since}).encode()
 
 

@@ -23,7 +23,7 @@ OF_NODE: dict[str, tuple[str, tuple[str, ...], str]] = {
     "market_connected": ("gauge", (), "Whether the node's broker is there"),
     "market_children_waiting": ("gauge", (), "How many children a restarted parent waits for"),
     "market_children_lapsed": ("gauge", (), "How many children are let go"),
-    "market_heartbeat_timestamp_seconds": ("gauge", (), "The time of the newest heartbeat that the node made or heard"),
+    "market_heartbeat_timestamp_seconds": ("gauge", (), "When the node made or heard the newest heartbeat, by its own clock"),
     "market_loop_age_seconds": ("gauge", (), "The seconds since the node's loop turned last"),
 }
 OF_MARKET: dict[str, tuple[str, tuple[str, ...], str]] = {

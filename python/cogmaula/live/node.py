@@ -153,7 +153,7 @@ class Node:
             stores=self._store.saves,
             store_seconds=self._store.seconds,
             lapsed=0 if stored is None else len(stored.lapsed),
-            heartbeat=serving.beating.silence.newest,
+            heartbeat=serving.beating.silence.heard_at,
             loop_age=time.monotonic() - serving.counts.turned,
         )
 
@@ -406,7 +406,8 @@ class Node:
         self._tell_basis()
         told = beginning.basis()
         times = self.settings.times if self.settings.sort == "auctioneer" or told is None else told.times
-        self.serving.begin(stored, resume, times, time.monotonic(), beginning.bids_of_sum(stored.session, stored.frame))
+        known = beginning.bids_of_sum(stored.session, stored.frame)
+        self.serving.begin(stored, resume, times, time.monotonic(), self._starts, known)
         if self.settings.leave:
             self.serving.offers.want(Leave())
         elif is_later and self.settings.sort == "device":

@@ -116,14 +116,15 @@ class Serving:
 
     # From a session's begin to its end.
 
-    def begin(self, stored: Stored, resume: Resume | None, times: Times, now: float, known: str = "") -> None:
+    def begin(self, stored: Stored, resume: Resume | None, times: Times, now: float, start: int, known: str = "") -> None:
         """Begins a session with what is stored of it, and the times of the market.
 
+        start: how often the node has started
         known: of the bids in the Resume, what the broker's copy of it tells
         """
         self.keeping.begin(stored)
         self.resume = resume
-        self.beating.begin(times, now)
+        self.beating.begin(times, now, start)
         self.offers.begin(resume if isinstance(resume, DeviceResume | ResumeGone) else None, now, stored.references, stored.until)
         self.offers.digest = self.offers.digest or stored.offer
         self.controlling.begin()

@@ -1,13 +1,17 @@
 """Whether a node hears its market: heartbeats come down the tree, and a device's bid is renewed.
 
-The auctioneer makes a heartbeat each few seconds. A relay passes the newest one on while its service works. So a heartbeat tells that
-the whole path above has lived at its time. Times without a zone here are seconds of a clock that only rises.
+The auctioneer makes a heartbeat each few seconds. A relay passes the newest one on while its service works. So a new heartbeat tells that
+the whole path above lives. Which one is new is told by counts, and never by a clock, which may be set back. Its age is counted from when
+this node heard it. Times without a zone here are seconds of a clock that only rises.
 """
 
 from __future__ import annotations
 
+import json
 import time
+from dataclasses import dataclass, field
 from datetime import datetime, timedelta, timezone
+from typing import Any
 
 from .errors import BadMessage
 from .messages import object_of
@@ -15,13 +19,38 @@ from .sessions import now_text, time_of, time_text
 from .times import Times
 
 
-def heartbeat_of(data: bytes) -> str:
-    """The time of the auctioneer that a heartbeat tells (RFC 3339). Raises BadMessage."""
-    told = object_of(data, "the heartbeat").get("time")
-    if not isinstance(told, str):
-        raise BadMessage("the heartbeat has no time")
-    time_of(told)
-    return told
+@dataclass(frozen=True, order=True)
+class Heartbeat:
+    """A heartbeat of the auctioneer. The greater one is the newer one, by `start` and then by `count`.
+
+    start: how often the auctioneer has started, as its state tells it
+    count: of this heartbeat since that start, from 1
+    time:  when it was made by the auctioneer's clock (RFC 3339), which may be wrong
+    """
+
+    start: int
+    count: int
+    time: str = field(compare=False)
+
+    def to_bytes(self) -> bytes:
+        """The message."""
+        return json.dumps({"time": self.time, "start": self.start, "count": self.count}).encode()
+
+    @staticmethod
+    def of(data: bytes) -> Heartbeat:
+        """The heartbeat that a message tells. Raises BadMessage."""
+        told = object_of(data, "the heartbeat")
+        if not isinstance(told.get("time"), str):
+            raise BadMessage("the heartbeat has no time")
+        time_of(told["time"])
+        return Heartbeat(_count(told, "start"), _count(told, "count"), told["time"])
+
+
+def _count(told: dict[str, Any], name: str) -> int:
+    value = told.get(name)
+    if type(value) is not int or value < 0:
+        raise BadMessage(f"the heartbeat has no whole number {name}")
+    return value
 
 
 class Silence:
@@ -34,23 +63,28 @@ class Silence:
     def begin(self, times: Times, now: float) -> None:
         """Begins a session: for a while it counts as if a heartbeat had come now."""
         self.times = times
-        # The time of the newest heartbeat, "" before the first; when it came; and when the bid was sent that the broker confirmed last.
-        self.newest = ""
-        self._began = now_text()
+        # The newest heartbeat, when it came, the same by the clock of this machine (RFC 3339), and when the bid was sent that the
+        # broker confirmed last.
+        self.newest: Heartbeat | None = None
         self.heard = self._renewed = now
+        self.heard_at, self._began = "", now_text()
         # Since when the device is let go (RFC 3339), "" if it counts, why, and under which number it counts as gone.
         self.let_go_since = self._why = ""
         self._gone = 0
 
-    def hear(self, moment: str, now: float, retained: bool) -> bool:
+    def hear(self, beat: Heartbeat, now: float, retained: bool) -> bool:
         """Takes a heartbeat, and says whether it is newer than the one before.
 
-        The age of one that the broker had kept is taken from the clock of this machine.
+        One that the broker had kept may have been made long ago. Only its age is taken from the clocks of two machines: it is no younger
+        than now, and no older than the one that this node heard before it.
         """
-        if self.newest and time_of(moment) <= time_of(self.newest):
+        if self.newest is not None and beat <= self.newest:
             return False
-        age = (datetime.now(timezone.utc) - time_of(moment)).total_seconds() if retained else 0.0
-        self.newest, self.heard = moment, now - max(0.0, age)
+        wall, heard = datetime.now(timezone.utc), now
+        if retained:
+            heard -= max(0.0, (wall - time_of(beat.time)).total_seconds())
+            heard = heard if self.newest is None else max(heard, self.heard)
+        self.newest, self.heard, self.heard_at = beat, heard, time_text(wall - timedelta(seconds=now - heard))
         return True
 
     def renewed(self, sent: float) -> None:
@@ -75,15 +109,15 @@ class Silence:
 
     @property
     def since(self) -> str:
-        """Since when it is silent: the newest heartbeat, or when the device was let go (RFC 3339)."""
-        return self.let_go_since or self.newest or self._began
+        """Since when it is silent: when the newest heartbeat was heard, or when the device was let go (RFC 3339)."""
+        return self.let_go_since or self.heard_at or self._began
 
     @property
     def why(self) -> str:
         """Why it is silent, in words."""
         return self._why or f"no heartbeat of the auctioneer came for {self.times.validity:g} s"
 
-    @property
-    def until(self) -> str:
-        """Until when a setpoint holds that is told now (RFC 3339)."""
-        return time_text(time_of(self.newest or self._began) + timedelta(seconds=self.times.validity))
+    def until(self, now: float) -> str:
+        """Until when a setpoint holds that is told now, by the clock of this machine (RFC 3339)."""
+        left = self.heard + self.times.validity - now
+        return time_text(datetime.now(timezone.utc) + timedelta(seconds=left))

@@ -7,14 +7,12 @@ what flows is compared with what the parent counts, under which its announced po
 from __future__ import annotations
 
 from dataclasses import dataclass, field
-from datetime import datetime, timedelta, timezone
 
 from hypothesis import find, given, settings
 from hypothesis import strategies as st
 
 from cogmaula.live.lapses import Lapses
-from cogmaula.live.sessions import time_text
-from cogmaula.live.silence import Silence
+from cogmaula.live.silence import Heartbeat, Silence
 from cogmaula.live.times import Times
 
 TIMES = Times.of(None, None, None)
@@ -23,7 +21,8 @@ SECONDS = 600
 POWER = 1000
 # The broker tells the last will so many seconds after the last packet of a node.
 LAST_WILL = 45
-START = datetime(2026, 1, 31, 6, 30, tzinfo=timezone.utc)
+# What the auctioneer's clock says throughout: which heartbeat is new does not hang on it.
+START = "2026-01-31T06:30:00Z"
 
 
 @dataclass(frozen=True)
@@ -59,7 +58,7 @@ class House:
     def hear(self, beat: float, now: int) -> None:
         """Hears the heartbeat of this second, if its wire is whole."""
         if not self.wire.is_cut(now):
-            self.silence.hear(time_text(START + timedelta(seconds=beat)), now * self.rate, retained=False)
+            self.silence.hear(Heartbeat(1, int(beat), START), now * self.rate, retained=False)
 
     def renews(self, now: int) -> bool:
         """Renews its bid if it is time and the wire is whole, which the broker confirms, and says whether it did."""

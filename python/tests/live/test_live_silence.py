@@ -2,6 +2,7 @@
 
 from __future__ import annotations
 
+import fcntl
 import json
 from datetime import datetime, timedelta, timezone
 
@@ -10,8 +11,8 @@ from pretended import BASIS_TOPIC, MARKED, basis_payload, bid, device_resume, pr
 
 from cogmaula.live.frames import Setpoint
 from cogmaula.live.messages import BasisMessage
-from cogmaula.live.sessions import time_text
-from cogmaula.live.silence import Silence
+from cogmaula.live.sessions import time_of, time_text
+from cogmaula.live.silence import Heartbeat, Silence
 from cogmaula.live.times import Times
 
 TIMES = Times(validity=100, heartbeat=25, grace=125)
@@ -22,6 +23,21 @@ def at(seconds):
     return time_text(NOW + timedelta(seconds=seconds))
 
 
+def ago(seconds):
+    """The time so many seconds ago, by the clock of this machine."""
+    return time_text(datetime.now(timezone.utc) - timedelta(seconds=seconds))
+
+
+def seconds_to(text):
+    """How many seconds from now a time of this machine is."""
+    return (time_of(text) - datetime.now(timezone.utc)).total_seconds()
+
+
+def heartbeat(count, time=None, start=1):
+    """The message of a heartbeat. The time is that of the auctioneer's clock."""
+    return json.dumps({"time": time or at(count), "start": start, "count": count}).encode()
+
+
 def begun():
     one = Silence()
     one.begin(TIMES, 1000.0)
@@ -30,33 +46,50 @@ def begun():
 
 def test_silence_begins_validity_after_the_newest_heartbeat():
     one = begun()
-    assert one.hear(at(0), 1010.0, retained=False)
+    assert one.hear(Heartbeat(1, 1, at(0)), 1010.0, retained=False)
     assert not one.is_silent(1109.9, renews=False)
     assert one.is_silent(1110.0, renews=False)
-    assert one.since == at(0)
-    assert one.until == at(100)
+    assert -1 < seconds_to(one.since) <= 0
+    assert 29 < seconds_to(one.until(1080.0)) <= 30
 
 
-def test_an_older_heartbeat_or_the_same_one_again_says_nothing():
+# Of each heartbeat that comes after start 3, count 7: its start, its count and what the auctioneer's clock adds to the first one's time.
+NEWER = {"the next one": (3, 8, 25), "the clock was set back": (3, 8, -86_400), "a start with a clock that is behind": (4, 1, -86_400)}
+OLDER = {"the same one": (3, 7, 0), "an older one with a later time": (3, 6, 86_400), "one of an earlier start": (2, 900, 86_400)}
+
+
+@pytest.mark.parametrize(
+    ("start", "count", "later", "is_newer"),
+    [*((*row, True) for row in NEWER.values()), *((*row, False) for row in OLDER.values())],
+    ids=[*NEWER, *OLDER],
+)
+def test_counts_and_no_clock_say_which_heartbeat_is_new(start, count, later, is_newer):
     one = begun()
-    one.hear(at(25), 1010.0, retained=False)
-    assert not one.hear(at(25), 1050.0, retained=False)
-    assert not one.hear(at(0), 1060.0, retained=False)
-    assert one.is_silent(1110.0, renews=False)
+    one.hear(Heartbeat(3, 7, at(0)), 1010.0, retained=False)
+    assert one.hear(Heartbeat(start, count, at(later)), 1050.0, retained=False) == is_newer
+    assert one.is_silent(1110.0, renews=False) != is_newer
+    assert one.is_silent(1150.0, renews=False)
 
 
-def test_a_heartbeat_that_the_broker_had_kept_is_as_old_as_it_says():
+# How old a first heartbeat of the broker is that says so many seconds ago, and one that comes 40 s after another one was heard.
+KEPT = {"in time": (30, 30, 30), "from a clock that is ahead": (-500, 0, 0), "from a clock that is behind": (500, 500, 40)}
+
+
+@pytest.mark.parametrize(("said", "first", "later"), KEPT.values(), ids=KEPT)
+def test_a_heartbeat_that_the_broker_had_kept_is_no_older_than_the_one_before_it(said, first, later):
     one = begun()
-    old = time_text(datetime.now(timezone.utc) - timedelta(seconds=90))
-    one.hear(old, 1010.0, retained=True)
-    assert not one.is_silent(1019.0, renews=False)
-    assert one.is_silent(1021.0, renews=False)
+    one.hear(Heartbeat(1, 8, ago(said)), 1050.0, retained=True)
+    assert 1050 - one.heard == pytest.approx(first, abs=1)
+    one = begun()
+    one.hear(Heartbeat(1, 7, at(0)), 1010.0, retained=False)
+    one.hear(Heartbeat(1, 8, ago(said)), 1050.0, retained=True)
+    assert 1050 - one.heard == pytest.approx(later, abs=1)
 
 
 def test_a_bid_whose_renewal_the_broker_does_not_confirm_counts_as_silence():
     one = begun()
     one.renewed(1010.0)
-    one.hear(at(25), 1050.0, retained=False)
+    one.hear(Heartbeat(1, 1, at(25)), 1050.0, retained=False)
     assert not one.is_silent(1109.9, renews=True)
     assert one.is_silent(1110.0, renews=True)
     assert not one.is_silent(1110.0, renews=False)
@@ -76,7 +109,7 @@ def test_a_device_that_was_let_go_is_silent_until_a_clearing_counts_it():
 
 
 def beat(node):
-    return [json.loads(message)["time"] for message in node.link.of(f"market/{node.node.settings.name}/heartbeat")]
+    return [json.loads(message)["count"] for message in node.link.of(f"market/{node.node.settings.name}/heartbeat")]
 
 
 def passes(one, seconds):
@@ -99,6 +132,34 @@ def test_the_auctioneer_makes_heartbeats_and_tells_the_times_with_the_basis(join
     assert len(beat(one)) == 2
 
 
+def test_heartbeats_of_an_auctioneer_whose_clock_was_set_back_are_new_to_all(joined, monkeypatch):
+    """Its clock goes back by a day while it runs, and by another one at its next start. A relay and a device below it hear each one."""
+    first = joined("auctioneer", validity=100.0).begun()
+    monkeypatch.setattr("cogmaula.live.beating.now_text", lambda: ago(86_400))
+    passes(first, 26)
+    # The folder is free for the next start, as if the process had ended.
+    fcntl.flock(first.node._store._lock, fcntl.LOCK_UN)
+    second = joined("auctioneer", validity=100.0)
+    # What the broker retains of the session.
+    for topic in ("market/basis", "market/auctioneer/resume", "market/auctioneer/state"):
+        if topic in first.link.newest:
+            second.link.comes(topic, first.link.newest[topic].payload, first.link.newest[topic].properties, retained=True)
+    monkeypatch.setattr("cogmaula.live.beating.now_text", lambda: ago(2 * 86_400))
+    second.link.settles()
+    second.turned()
+    # After a connection was made, the newest of all is published again.
+    beats = list(dict.fromkeys([*first.link.of("market/auctioneer/heartbeat"), *second.link.of("market/auctioneer/heartbeat")]))
+    relay = joined("relay").begun()
+    for payload in beats:
+        relay.link.comes("market/auctioneer/heartbeat", payload)
+        relay.turned()
+    assert relay.link.of("market/street/heartbeat") == beats
+    device = begun()
+    heard = [device.hear(Heartbeat.of(payload), 1000.0 + 90 * at, retained=False) for at, payload in enumerate(beats)]
+    assert heard == [True, True, True]
+    assert not device.is_silent(1279.0, renews=False)
+
+
 def test_an_auctioneer_without_a_service_makes_none(joined):
     one = joined("auctioneer").begun()
     one.service.ends()
@@ -109,22 +170,25 @@ def test_an_auctioneer_without_a_service_makes_none(joined):
 
 def test_a_relay_passes_a_heartbeat_on_as_it_came_while_its_service_works(joined):
     one = joined("relay").begun()
-    one.link.comes("market/auctioneer/heartbeat", json.dumps({"time": at(0)}).encode())
+    one.link.comes("market/auctioneer/heartbeat", heartbeat(1))
     one.turned()
-    assert beat(one) == [at(0)]
+    assert beat(one) == [1]
     one.service.ends()
     one.turned()
-    one.link.comes("market/auctioneer/heartbeat", json.dumps({"time": at(30)}).encode())
+    one.link.comes("market/auctioneer/heartbeat", heartbeat(30))
     one.turned()
-    assert beat(one) == [at(0)]
+    assert beat(one) == [1]
     passes(one, 31)
     one.node.serving._restart_at = 0
     one.turned()
     assert one.service is not None
-    assert beat(one) == [at(0)], "one that waited for longer than a heartbeat says nothing of the path"
+    assert beat(one) == [1], "one that waited for longer than a heartbeat says nothing of the path"
 
 
-@pytest.mark.parametrize("payload", [b"nonsense", b"{}", b'{"time": "noon"}'])
+NONE = [b"nonsense", b"{}", heartbeat(1, "noon"), heartbeat(-1, at(0)), heartbeat(True, at(0)), json.dumps({"time": at(0)}).encode()]
+
+
+@pytest.mark.parametrize("payload", NONE)
 def test_a_heartbeat_that_is_none_is_told(joined, payload):
     one = joined("relay").begun()
     one.link.comes("market/auctioneer/heartbeat", payload)
@@ -143,7 +207,7 @@ def with_setpoint(joined, **more):
     one.control.offer(b'{"power": [500, -300]}')
     one.turned()
     one.writes(device_resume(2, 0, (500, -300)), bid(2, 2, 500, -300))
-    one.link.comes("market/street/heartbeat", json.dumps({"time": at(0)}).encode())
+    one.link.comes("market/street/heartbeat", heartbeat(1))
     one.link.comes("market/street/price/2", price(2, 2, 7, 1).to_bytes())
     one.turned()
     one.writes(Setpoint(2, 7, 1, -300), device_resume(2, 7, (500, -300)))
@@ -155,11 +219,16 @@ def told(one):
 
 
 def test_each_heartbeat_says_anew_until_when_the_setpoint_holds(joined):
+    """The clock of this machine says it, whatever that of the auctioneer says."""
     one = with_setpoint(joined)
-    assert [message["until"] for message in told(one)] == [at(100)]
-    one.link.comes("market/street/heartbeat", json.dumps({"time": at(25)}).encode())
+    passes(one, 40)
+    one.link.comes("market/street/price/2", price(2, 2, 8, 0).to_bytes())
     one.turned()
-    assert [(message["power"], message["clearing"], message["until"]) for message in told(one)] == [(-300, 7, at(100)), (-300, 7, at(125))]
+    one.writes(Setpoint(2, 8, 0, 500), device_resume(2, 8, (500, -300)))
+    one.link.comes("market/street/heartbeat", heartbeat(2, at(-86_400)))
+    one.turned()
+    assert [(message["power"], message["clearing"]) for message in told(one)] == [(-300, 7), (500, 8), (500, 8)]
+    assert [seconds_to(message["until"]) for message in told(one)] == pytest.approx([100, 60, 100], abs=5)
     assert one.link.newest["market/house/setpoint"].payload == one.control.told[-1]
 
 
@@ -170,18 +239,20 @@ def test_a_control_is_told_silence_with_its_fallback_once_and_then_that_the_mark
     passes(one, 2)
     passes(one, 50)
     (silent,) = told(one)[1:]
-    assert silent == {"market": "silent", "since": at(0), "power": -100, "why": "no heartbeat of the auctioneer came for 100 s"}
+    since = silent.pop("since")
+    assert silent == {"market": "silent", "power": -100, "why": "no heartbeat of the auctioneer came for 100 s"}
+    assert seconds_to(since) == pytest.approx(0, abs=5), "when it was heard, by the clock of this machine"
     assert one.link.newest["market/house/setpoint"].payload == one.control.told[-1]
     one.link.confirm()
-    one.link.comes("market/street/heartbeat", json.dumps({"time": at(200)}).encode())
+    one.link.comes("market/street/heartbeat", heartbeat(200))
     one.turned()
     one.link.confirm()
     one.turned()
     back, setpoint = told(one)[2:]
-    assert back == {"market": "live", "since": at(200)}
-    assert (setpoint["power"], setpoint["clearing"], setpoint["until"]) == (-300, 7, at(300))
+    assert (back["market"], setpoint["power"], setpoint["clearing"]) == ("live", -300, 7)
+    assert [seconds_to(back["since"]), seconds_to(setpoint["until"])] == pytest.approx([0, 100], abs=5)
     states = [json.loads(message)["silent"] for message in one.link.of("market/house/state")]
-    assert at(0) in states
+    assert since in states
     assert states[-1] is None
 
 
@@ -250,6 +321,6 @@ def test_an_auctioneer_is_never_silent(joined):
 
 def test_a_device_that_starts_in_a_dead_market_is_told_silence_and_not_its_setpoint(joined, tmp_path):
     saved(tmp_path, "device", "house", device_resume(2, 7, (500, -300)), setpoint='{"power": -300, "bid": 2, "time": "t"}')
-    one = joined("device").begun(("market/street/heartbeat", json.dumps({"time": at(-900)}).encode()))
+    one = joined("device").begun(("market/street/heartbeat", heartbeat(1, at(-900))))
     assert [message.get("market") for message in told(one)] == ["silent"]
     assert told(one)[0]["since"] == at(-900)
