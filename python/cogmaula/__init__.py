@@ -7,7 +7,7 @@ Build or load a `Cluster`, `run` it, and look at the data frames of the `Run`:
     day = run("examples/village.json")
     print(day.prices)
 
-The package calls the proved program, and works out nothing that the program proves. docs/PYTHON.md says what each call is for.
+The proved program computes all prices, powers and accounts, and the package reads them. docs/PYTHON.md says what each call is for.
 """
 
 from .calls import Trace, ask, bill, check, run, trace

@@ -1,8 +1,8 @@
 """The proved program: where it is found, how it is run, and what its statuses and lines mean.
 
 A `Program` is only ever one that was proved: the installed command, whose installer takes no other, or the program of a
-checkout whose stamp says that it was proved from the sources of today, there or by the gate elsewhere. Whoever names another program
-by a path answers for it. `live_command` finds the program `live` of the nodes.
+checkout whose stamp says that it was proved from the sources of today, there or by the gate elsewhere. Nothing here can tell
+whether a program that is named by a path was proved: who names it has to know. `live_command` finds the program `live` of the nodes.
 """
 
 from __future__ import annotations

@@ -17,7 +17,7 @@ from .members import kept
 from .nodes import KINDS, Node
 from .phases import Event, Events, Join, Leave, Phase, State, Tick
 
-# The members of a state of which the first that is there counts.
+# The forms of a new state. If an event has several, it is read by the first of these, and the others are members that are not known.
 FORMS = ("value", "demand", "points")
 
 

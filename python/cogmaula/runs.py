@@ -86,9 +86,9 @@ class Run:
 
     @cached_property
     def durations(self) -> list[int]:
-        """How many minutes the end of each phase lasts: those of the next phase if that is a tick, else 0.
+        """For how many minutes the powers and prices at the end of each phase hold: those of the next phase if that is a tick, else 0.
 
-        The powers and prices of a phase's end hold over the tick behind it. The bill goes by the same.
+        The bill goes by the same.
         """
         following = [phase.minutes if isinstance(phase, Tick) else 0 for phase in self.cluster.phases[1:]]
         return [*following, 0][: len(self.ends)]
@@ -107,7 +107,7 @@ class Run:
         step:    its step, from 0
         total_W: the total that is left over, in watts: above 0 if power is lacking at every price, else what is delivered too much
         members: how many devices are members
-        minutes: how long the end of the phase lasts
+        minutes: how long these hold: the minutes of the tick that follows, 0 if none does
         """
         return frames.prices(self._index, self.ends, self.durations)
 
@@ -160,7 +160,7 @@ class Run:
         total_W:            the sum of the bids below it there, in watts
         floor_W, ceiling_W: its limits
         excess_W:           0 within the limits, else how far the sum is above the ceiling, or below the floor (negative)
-        minutes:            how long the end of the phase lasts
+        minutes:            how long these hold: the minutes of the tick that follows, 0 if none does
         """
         return frames.limited_groups(self.times, self.cluster, self.ends, self.durations)
 

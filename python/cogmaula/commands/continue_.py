@@ -12,7 +12,7 @@ from ..continuing import continued, script_for
 
 HELP = "writes the cluster file that goes on where a run of FILE ended"
 MORE = (
-    "Its devices start with the states that they had at the end, and its first phase joins those that were members. A run of FILE"
+    "Each device starts with the state that it had at the end of FILE, and the first phase joins those that were members. A run of FILE"
     " and then of the new file has the phase ends of one run over both scripts; the numbers of bids begin anew."
 )
 
