@@ -9,10 +9,10 @@ use Rattle.pm_device.specs.Kinds.{is_valid}
 use Rattle.pm_device.specs.declared.kind.Kind.{Kind}
 use Rattle.pm_wire.specs.declared.frame.Frame as bids
 use Rattle.pm_wire.specs.Framing.{IsFraming, HasSize, MayStand}
-use Rattle.pm_wire.specs.Frames.{hello_kind}
+use Rattle.pm_wire.specs.Kinds.{hello_kind, old_kind}
 use Rattle.pm_wire.proofs.OneField.{length-demand_bytes}
 use Rattle.pm_wire.proofs.OneFrame.{parts_same, bid_framing_sound}
-use Rattle.pm_frames.specs.Kinds.{price_kind, old_kind, resume_kind, offer_kind, leave_kind, resume_gone_kind, kind_kind, state_kind, points_kind}
+use Rattle.pm_frames.specs.Kinds.{price_kind, resume_kind, offer_kind, leave_kind, resume_gone_kind, kind_kind, state_kind, points_kind}
 use Rattle.pm_frames.specs.NamedKinds.{kind_of_named, IsValidKind}
 use Rattle.pm_frames.specs.OfferForms.{offer_bytes, points_bytes, points_size, IsOfferFormed}
 use Rattle.pm_frames.specs.ParentFrames.{parent_bytes}

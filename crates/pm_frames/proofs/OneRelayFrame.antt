@@ -3,11 +3,11 @@ use Rattle.std.proofs.Common.{◌≡◌, ap, ℕ, ◌+◌, ◌*◌, ◌≤◌, L
 use Rattle.std.specs.Prelude.{◌==◌, IfSome}
 use Rattle.pm_wire.specs.declared.frame.Frame as bids
 use Rattle.pm_wire.specs.Framing.{IsFraming, HasSize, MayStand}
-use Rattle.pm_wire.specs.Frames.{hello_kind, bid_kind, gone_kind}
+use Rattle.pm_wire.specs.Kinds.{hello_kind, bid_kind, gone_kind, old_kind}
 use Rattle.pm_wire.specs.Memory.{frame_limit}
 use Rattle.pm_wire.proofs.OneField.{two_same}
 use Rattle.pm_wire.proofs.OneFrame.{parts_same, bid_framing_sound}
-use Rattle.pm_frames.specs.Kinds.{price_kind, old_kind, send_kind, resume_kind, expire_kind, limits_kind, bound_kind}
+use Rattle.pm_frames.specs.Kinds.{price_kind, send_kind, resume_kind, expire_kind, limits_kind, bound_kind}
 use Rattle.pm_frames.specs.Places.{bid_place, IsRelayPlace}
 use Rattle.pm_frames.specs.Stored.{relay_resume_bytes, relay_resume_size}
 use Rattle.pm_frames.specs.RelayFrames.{relay_framing, relay_frame_bytes, relay_size, relay_size_open, IsRelayFormed, relay_place_after}

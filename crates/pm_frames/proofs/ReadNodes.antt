@@ -8,7 +8,8 @@ use Rattle.std.specs.Int.{w32, to_be_bytes}
 use Rattle.pm_wire.specs.declared.frame.Frame.{Frame}
 use Rattle.pm_wire.specs.declared.frame.Frame.TheVariants.{Hello, Bid, Gone, Clear}
 use Rattle.pm_wire.specs.Framing.{Framing}
-use Rattle.pm_wire.specs.Frames.{bid_framing, frame_bytes, clear_kind, IsFormed, IsAccepted}
+use Rattle.pm_wire.specs.Kinds.{clear_kind}
+use Rattle.pm_wire.specs.Frames.{bid_framing, frame_bytes, IsFormed, IsAccepted}
 use Rattle.pm_wire.specs.Spelling.{IsOne, IsRefusedFrame, IsFrameAt}
 use Rattle.pm_wire.proofs.OneFrame.{parts_same}
 use Rattle.pm_basis.specs.Prices.{BasisValue}

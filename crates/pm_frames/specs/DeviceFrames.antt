@@ -3,9 +3,11 @@ use Rattle.std.specs.Prelude.{ℕ, ◌+◌, ◌*◌, ◌==◌, if◌then◌else�
 use Rattle.std.specs.Prelude.{Some, None, ⊤}
 use Rattle.pm_base.specs.Limits.{most_steps}
 use Rattle.pm_wire.specs.declared.frame.Frame as bids
-use Rattle.pm_wire.specs.Frames.{hello_kind, frame_bytes, IsFormed, IsAccepted}
+use Rattle.pm_wire.specs.Kinds.{hello_kind, old_kind, hello_size, old_size}
+use Rattle.pm_wire.specs.Frames.{frame_bytes, IsFormed, IsAccepted}
 use Rattle.pm_wire.specs.Framing.{Framing}
-use Rattle.pm_frames.specs.Kinds.{price_kind, old_kind, resume_kind, offer_kind, leave_kind, resume_gone_kind, kind_kind, state_kind}
+use Rattle.pm_frames.specs.Kinds.{price_kind, resume_kind, offer_kind, leave_kind, resume_gone_kind, kind_kind, state_kind}
+use Rattle.pm_frames.specs.Kinds.{leave_size, price_size, kind_size, state_size, resume_gone_size}
 use Rattle.pm_frames.specs.NamedKinds.{kind_bytes, kind_of_named, IsKindFormed, IsValidKind}
 use Rattle.pm_frames.specs.OfferForms.{offer_bytes, points_size, IsOfferFormed, IsOfferAccepted}
 use Rattle.pm_frames.specs.Places.{bid_place, steps_at, IsOpen, IsFresh, stage_behind, with_stage, with_kind, IsNodePlace}
@@ -31,21 +33,23 @@ device_size_open steps kind =
     if kind == offer_kind
     then Some (1 + 4 * steps)
     else (if kind == leave_kind
-    then Some 1
+    then Some leave_size
     else (if kind == price_kind
-    then Some 23
+    then Some price_size
     else (if kind == old_kind
-    then Some 7
-    else (if kind == kind_kind then Some 22 else (if kind == state_kind then Some 5 else points_size kind)))))
+    then Some old_size
+    else (if kind == kind_kind then Some kind_size else (if kind == state_kind then Some state_size else points_size kind)))))
 
 -- and directly after it, where what the agent comes back with may stand
 abbrev pub device_size_fresh : ℕ → ℕ → Option ℕ
 device_size_fresh steps kind =
-    if kind == resume_kind then Some (19 + 4 * steps) else (if kind == resume_gone_kind then Some 19 else device_size_open steps kind)
+    if kind == resume_kind
+    then Some (resume_gone_size + 4 * steps)
+    else (if kind == resume_gone_kind then Some resume_gone_size else device_size_open steps kind)
 
 -- Hello stands first and only there
 abbrev pub device_size : Stage → ℕ → Option ℕ
-device_size Start kind = if kind == hello_kind then Some 11 else None
+device_size Start kind = if kind == hello_kind then Some hello_size else None
 device_size (Opened basis) kind = device_size_fresh basis.steps kind
 device_size (Running basis) kind = device_size_open basis.steps kind
 
@@ -78,7 +82,7 @@ device_place_after place (Resume stored) = with_stage place (stage_behind place.
 
 -- the most bytes of a frame: a Resume over the most steps
 abbrev pub device_frame_limit : ℕ
-device_frame_limit = 19 + 4 * most_steps
+device_frame_limit = resume_gone_size + 4 * most_steps
 
 -- the frames of the stream to a device's agent
 abbrev pub device_framing : Framing NodePlace DeviceFrame

@@ -6,7 +6,8 @@ use Rattle.pm_basis.specs.Prices.{BasisValue}
 use Rattle.pm_bid.specs.declared.head.BidHead.{BidHead}
 use Rattle.pm_wire.specs.Answers.{answer_bytes}
 use Rattle.pm_wire.specs.declared.answer.Reply as Reply
-use Rattle.pm_frames.specs.Kinds.{price_kind, old_kind}
+use Rattle.pm_wire.specs.Kinds.{old_kind, old_size}
+use Rattle.pm_frames.specs.Kinds.{price_kind, price_size}
 use Rattle.pm_frames.specs.NamedBases.{basis_bytes, IsBasisFormed, IsBasisAccepted}
 use Rattle.pm_frames.specs.declared.parent.ParentFrame.{ParentFrame}
 use Rattle.pm_frames.specs.declared.parent.ParentFrame.TheVariants.{Price, Old}
@@ -23,7 +24,7 @@ parent_bytes (Old child kept) = answer_bytes (Reply.TheVariants.Old child kept)
 
 -- how many bytes a frame of this kind has
 abbrev pub parent_size : ℕ → Option ℕ
-parent_size kind = if kind == price_kind then Some 23 else (if kind == old_kind then Some 7 else None)
+parent_size kind = if kind == price_kind then Some price_size else (if kind == old_kind then Some old_size else None)
 
 -- each field has its bytes
 abbrev pub IsParentFormed : ParentFrame → Type 0

@@ -3,10 +3,12 @@
 use Rattle.std.specs.Prelude.{◌≡◌, ℕ, ◌+◌, ◌*◌, ◌==◌, if◌then◌else◌, List, [], ◌∷◌, Option, Some, None, ⊤}
 use Rattle.pm_wire.specs.declared.frame.Frame.{Frame}
 use Rattle.pm_wire.specs.declared.frame.Frame.TheVariants.{Hello, Bid, Gone, Clear}
-use Rattle.pm_wire.specs.Frames.{hello_kind, bid_kind, gone_kind, frame_bytes, IsFormed, IsAccepted}
+use Rattle.pm_wire.specs.Kinds.{hello_kind, bid_kind, gone_kind, old_kind, hello_size, bid_head_size, gone_size, old_size}
+use Rattle.pm_wire.specs.Frames.{frame_bytes, IsFormed, IsAccepted}
 use Rattle.pm_wire.specs.Framing.{Framing}
 use Rattle.pm_wire.specs.Memory.{frame_limit}
-use Rattle.pm_frames.specs.Kinds.{price_kind, old_kind, send_kind, resume_kind, expire_kind, limits_kind, bound_kind}
+use Rattle.pm_frames.specs.Kinds.{price_kind, send_kind, resume_kind, expire_kind, limits_kind, bound_kind}
+use Rattle.pm_frames.specs.Kinds.{price_size, send_size, expire_size, limits_size, bound_size}
 use Rattle.pm_frames.specs.Expiries.{expire_bytes, IsExpireFormed, IsExpireAccepted}
 use Rattle.pm_frames.specs.Places.{bid_place, IsOpen, IsFresh, stage_behind, stage_after, with_relay_stage, IsRelayPlace}
 use Rattle.pm_frames.specs.ParentFrames.{parent_bytes, IsParentFormed, IsParentAccepted}
@@ -32,22 +34,22 @@ relay_frame_bytes (Resume stored) = relay_resume_bytes stored
 abbrev pub relay_size_open : ℕ → ℕ → Option ℕ
 relay_size_open steps kind =
     if kind == bid_kind
-    then Some (7 + 4 * steps)
+    then Some (bid_head_size + 4 * steps)
     else (if kind == gone_kind
-    then Some 7
+    then Some gone_size
     else (if kind == price_kind
-    then Some 23
+    then Some price_size
     else (if kind == old_kind
-    then Some 7
+    then Some old_size
     else (if kind == send_kind
-    then Some 1
+    then Some send_size
     else (if kind == expire_kind
-    then Some 3
-    else (if kind == limits_kind then Some 13 else (if kind == bound_kind then Some 11 else None)))))))
+    then Some expire_size
+    else (if kind == limits_kind then Some limits_size else (if kind == bound_kind then Some bound_size else None)))))))
 
 -- Hello stands first and only there, and Resume directly after it
 abbrev pub relay_size : Stage → ℕ → Option ℕ
-relay_size Start kind = if kind == hello_kind then Some 11 else None
+relay_size Start kind = if kind == hello_kind then Some hello_size else None
 relay_size (Opened basis) kind = if kind == resume_kind then Some relay_resume_size else relay_size_open basis.steps kind
 relay_size (Running basis) kind = relay_size_open basis.steps kind
 

@@ -4,7 +4,7 @@ use Rattle.std.specs.Prelude.{ℕ, ◌==◌, if◌then◌else◌, List, Option, 
 use Rattle.pm_wire.specs.Frames.{size_at, frame_bytes, IsFormed, IsAccepted}
 use Rattle.pm_wire.specs.Framing.{Framing}
 use Rattle.pm_wire.specs.Memory.{frame_limit}
-use Rattle.pm_frames.specs.Kinds.{resume_kind, expire_kind, bound_kind}
+use Rattle.pm_frames.specs.Kinds.{resume_kind, expire_kind, bound_kind, expire_size, bound_size}
 use Rattle.pm_frames.specs.Expiries.{expire_bytes, IsExpireFormed, IsExpireAccepted}
 use Rattle.pm_frames.specs.Places.{bid_place, IsOpen, IsFresh, stage_behind, stage_after, IsStage}
 use Rattle.pm_frames.specs.LimitsFrames.{bound_bytes, IsBoundFormed, IsBoundAccepted}
@@ -23,7 +23,7 @@ root_frame_bytes (Resume stored) = root_resume_bytes stored
 -- how many bytes a frame of this kind has after Hello
 abbrev pub root_size_open : ℕ → ℕ → Option ℕ
 root_size_open steps kind =
-    if kind == expire_kind then Some 3 else (if kind == bound_kind then Some 11 else size_at (Some steps) kind)
+    if kind == expire_kind then Some expire_size else (if kind == bound_kind then Some bound_size else size_at (Some steps) kind)
 
 -- how many bytes a frame of this kind has at a stage, if it may stand there
 abbrev pub root_size : Stage → ℕ → Option ℕ

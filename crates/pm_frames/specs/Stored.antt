@@ -16,7 +16,7 @@ use Rattle.pm_frames.specs.Places.{basis_at}
 use Rattle.pm_frames.specs.Terms.{giver_number}
 use Rattle.pm_frames.specs.declared.place.Stage.{Stage}
 use Rattle.pm_frames.specs.declared.terms.RelayTerms.{RelayTerms}
-use Rattle.pm_frames.specs.Kinds.{resume_kind, resume_gone_kind}
+use Rattle.pm_frames.specs.Kinds.{resume_kind, resume_gone_kind, relay_resume_head_size, root_resume_head_size}
 use Rattle.pm_frames.specs.declared.stored.StoredAgent.{StoredAgent}
 
 -- what a relay keeps: its last number, the limits that this bid was made under, and of each child the number in it; the number answered
@@ -53,7 +53,7 @@ relay_resume_bytes stored =
     ++ (limits_bytes stored.first ++ (to_be_bytes w16 stored.giver ++ (limits_bytes stored.limits ++ number_bytes stored.numbers)))))))
 
 abbrev pub relay_resume_size : ℕ
-relay_resume_size = 41 + 4 * most_nodes
+relay_resume_size = relay_resume_head_size + 4 * most_nodes
 
 abbrev pub IsRelayStored : StoredRelay → Type 0
 IsRelayStored stored = (stored.last < 2 ^ 32) × (stored.answered < 2 ^ 32) × (stored.index < 2 ^ 32)
@@ -75,7 +75,7 @@ abbrev pub root_resume_bytes : StoredRoot → List ℕ
 root_resume_bytes stored = resume_kind ∷ (to_be_bytes w32 stored.last ++ (basis_bytes stored.basis ++ number_bytes stored.numbers))
 
 abbrev pub root_resume_size : ℕ
-root_resume_size = 15 + 4 * most_nodes
+root_resume_size = root_resume_head_size + 4 * most_nodes
 
 abbrev pub IsRootStored : StoredRoot → Type 0
 IsRootStored stored = (stored.last < 2 ^ 32) × IsBasisFormed stored.basis × AreChildNumbers stored.numbers

@@ -9,9 +9,11 @@ ghost use Rattle.pm_bid.specs.Bids.{AllWithinLimit};
 ghost use Rattle.pm_wire.specs.Answers.{answer_bytes};
 ghost use Rattle.pm_relay.specs.Relays.{AreRelayLimits};
 ghost use Rattle.pm_session.specs.Prices.{head_at};
+ghost use Rattle.pm_wire.specs.Kinds.{bid_head_size, gone_size};
 ghost use Rattle.pm_wire.specs.Frames.{frame_bytes, signed_bytes, demand_bytes};
 ghost use Rattle.pm_wire.specs.declared.frame.Frame.{Frame};
-ghost use Rattle.pm_frames.specs.Stored.{number_bytes, relay_resume_bytes, root_resume_bytes, newest_bytes};
+ghost use Rattle.pm_frames.specs.Kinds.{price_size, dropped_size, too_much_size, other_basis_size, out_of_limits_size, setpoint_size};
+ghost use Rattle.pm_frames.specs.Stored.{relay_resume_size, root_resume_size, number_bytes, relay_resume_bytes, root_resume_bytes, newest_bytes};
 ghost use Rattle.pm_frames.specs.Answers.{window_full_bytes, not_caught_up_bytes, out_of_numbers_bytes, dropped_bytes, setpoint_bytes};
 ghost use Rattle.pm_frames.specs.Answers.{too_much_bytes, other_basis_bytes, out_of_limits_bytes};
 ghost use Rattle.pm_frames.specs.LimitsFrames.{limits_bytes};
@@ -132,7 +134,7 @@ fn write_demands(demand: &ArrayBid, out: &mut Vec<u8>)
 /// Appends the bid of a child: its number, and its demand in watts at each step.
 pub fn write_bid(child: u16, number: u32, demand: &ArrayBid, out: &mut Vec<u8>)
     requires small { AllWithinLimit demand_limit demand.now }
-    requires room { vec_len out.old + 7 + 4 * length demand.now ≤ vec_capacity out.old }
+    requires room { vec_len out.old + bid_head_size + 4 * length demand.now ≤ vec_capacity out.old }
     ensures written { out.new.items ≡ out.old.items
         ++ frame_bytes (Frame.Bid child number demand.now) }
     ensures capacity { vec_capacity out.old ≤ vec_capacity out.new }
@@ -145,7 +147,7 @@ pub fn write_bid(child: u16, number: u32, demand: &ArrayBid, out: &mut Vec<u8>)
 
 /// Appends that a child has no bid any more, under this number.
 pub fn write_gone(child: u16, number: u32, out: &mut Vec<u8>)
-    requires room { vec_len out.old + 7 ≤ vec_capacity out.old }
+    requires room { vec_len out.old + gone_size ≤ vec_capacity out.old }
     ensures written { out.new.items ≡ out.old.items ++ frame_bytes (Frame.Gone child number) }
     ensures capacity { vec_capacity out.old ≤ vec_capacity out.new }
 {
@@ -157,7 +159,7 @@ pub fn write_gone(child: u16, number: u32, out: &mut Vec<u8>)
 /// Appends the price for a child: the number of its bid, the index of the clearing, and the step of the basis.
 fn write_price(child: u16, price: PriceUpdate, basis: &Basis, out: &mut Vec<u8>)
     requires step { price.step < 2 ^ 16 }
-    requires room { vec_len out.old + 23 ≤ vec_capacity out.old }
+    requires room { vec_len out.old + price_size ≤ vec_capacity out.old }
     ensures written { out.new.items ≡ out.old.items
         ++ price_bytes child price.number price.index price.step basis.now }
     ensures capacity { vec_capacity out.old ≤ vec_capacity out.new }
@@ -175,7 +177,7 @@ fn write_price_for(clearing: &Prices<'_>, place: usize, basis: &Basis, out: &mut
     requires place { place < length clearing.now.heads.now }
     requires children { length clearing.now.heads.now + 1 < 2 ^ 16 }
     requires step { clearing.now.step < 2 ^ 16 }
-    requires room { vec_len out.old + 23 ≤ vec_capacity out.old }
+    requires room { vec_len out.old + price_size ≤ vec_capacity out.old }
     ensures written { out.new.items ≡ out.old.items ++ price_bytes_for basis.now
         clearing.now.index clearing.now.step (place + 1) (head_at clearing.now.heads.now place) }
     ensures capacity { vec_capacity out.old ≤ vec_capacity out.new }
@@ -189,7 +191,8 @@ fn write_price_for(clearing: &Prices<'_>, place: usize, basis: &Basis, out: &mut
 pub fn write_prices(clearing: &Prices<'_>, basis: &Basis, out: &mut Vec<u8>)
     requires children { length clearing.now.heads.now + 1 < 2 ^ 16 }
     requires step { clearing.now.step < 2 ^ 16 }
-    requires room { vec_len out.old + 23 * length clearing.now.heads.now ≤ vec_capacity out.old }
+    requires room { vec_len out.old + price_size * length clearing.now.heads.now
+        ≤ vec_capacity out.old }
     ensures written { out.new.items ≡ out.old.items ++ prices_bytes basis.now
         clearing.now.index clearing.now.step 1 clearing.now.heads.now }
     ensures capacity { vec_capacity out.old ≤ vec_capacity out.new }
@@ -204,7 +207,7 @@ pub fn write_relay_resume(resume: &Resume<'_>, terms: &RelayTerms, basis: &Basis
     requires children { length resume.now.numbers.now ≡ most_nodes }
     requires limits { AreRelayLimits resume.now.limits }
     requires first { AreRelayLimits terms.now.limits }
-    requires room { vec_len out.old + 41 + 4 * most_nodes ≤ vec_capacity out.old }
+    requires room { vec_len out.old + relay_resume_size ≤ vec_capacity out.old }
     ensures written { out.new.items ≡ out.old.items ++ relay_resume_bytes (record {
       last = resume.now.last;
       answered = resume.now.answered;
@@ -231,7 +234,7 @@ pub fn write_relay_resume(resume: &Resume<'_>, terms: &RelayTerms, basis: &Basis
 /// Appends what an auctioneer keeps over a restart, in a market of this basis.
 pub fn write_root_resume(last: u32, basis: &Basis, numbers: &[u32], out: &mut Vec<u8>)
     requires children { length numbers.now ≡ most_nodes }
-    requires room { vec_len out.old + 15 + 4 * most_nodes ≤ vec_capacity out.old }
+    requires room { vec_len out.old + root_resume_size ≤ vec_capacity out.old }
     ensures written { out.new.items ≡ out.old.items ++ root_resume_bytes (record {
       last = last;
       basis = basis.now;
@@ -275,7 +278,7 @@ pub fn write_agent_resume(resume: &AgentResume<'_>, basis: &Basis, out: &mut Vec
 
 /// Appends that a price was not taken.
 pub fn write_dropped(number: u32, index: u32, out: &mut Vec<u8>)
-    requires room { vec_len out.old + 9 ≤ vec_capacity out.old }
+    requires room { vec_len out.old + dropped_size ≤ vec_capacity out.old }
     ensures written { out.new.items ≡ out.old.items ++ dropped_bytes number index }
     ensures capacity { vec_capacity out.old ≤ vec_capacity out.new }
 {
@@ -286,7 +289,7 @@ pub fn write_dropped(number: u32, index: u32, out: &mut Vec<u8>)
 
 /// Appends that a child's Bid of this number is beyond its bound.
 pub fn write_too_much(child: u16, number: u32, out: &mut Vec<u8>)
-    requires room { vec_len out.old + 7 ≤ vec_capacity out.old }
+    requires room { vec_len out.old + too_much_size ≤ vec_capacity out.old }
     ensures written { out.new.items ≡ out.old.items ++ too_much_bytes child number }
     ensures capacity { vec_capacity out.old ≤ vec_capacity out.new }
 {
@@ -297,7 +300,7 @@ pub fn write_too_much(child: u16, number: u32, out: &mut Vec<u8>)
 
 /// Appends that a price is of another basis.
 pub fn write_other_basis(number: u32, index: u32, out: &mut Vec<u8>)
-    requires room { vec_len out.old + 9 ≤ vec_capacity out.old }
+    requires room { vec_len out.old + other_basis_size ≤ vec_capacity out.old }
     ensures written { out.new.items ≡ out.old.items ++ other_basis_bytes number index }
     ensures capacity { vec_capacity out.old ≤ vec_capacity out.new }
 {
@@ -308,7 +311,7 @@ pub fn write_other_basis(number: u32, index: u32, out: &mut Vec<u8>)
 
 /// Appends that no step of the sum in the relay's bid of this number is within its limits.
 pub fn write_out_of_limits(number: u32, out: &mut Vec<u8>)
-    requires room { vec_len out.old + 5 ≤ vec_capacity out.old }
+    requires room { vec_len out.old + out_of_limits_size ≤ vec_capacity out.old }
     ensures written { out.new.items ≡ out.old.items ++ out_of_limits_bytes number }
     ensures capacity { vec_capacity out.old ≤ vec_capacity out.new }
 {
@@ -320,7 +323,7 @@ pub fn write_out_of_limits(number: u32, out: &mut Vec<u8>)
 pub fn write_setpoint(setpoint: Setpoint, out: &mut Vec<u8>)
     requires step { setpoint.step < 2 ^ 16 }
     requires power { FitsSigned w32 setpoint.power }
-    requires room { vec_len out.old + 15 ≤ vec_capacity out.old }
+    requires room { vec_len out.old + setpoint_size ≤ vec_capacity out.old }
     ensures written { out.new.items ≡ out.old.items
         ++ setpoint_bytes setpoint.number setpoint.index setpoint.step setpoint.power }
     ensures capacity { vec_capacity out.old ≤ vec_capacity out.new }

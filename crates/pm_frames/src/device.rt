@@ -2,7 +2,7 @@
 
 ghost use Rattle.std.specs.Prelude.{◌≡◌, ◌+◌, ◌*◌, ◌%◌, ◌≤◌, ◌∷◌, ◌↔◌, IsTrue, length, Some, IfOk};
 ghost use Rattle.pm_base.specs.Limits.{AreSteps};
-ghost use Rattle.pm_wire.specs.Frames.{hello_kind};
+ghost use Rattle.pm_wire.specs.Kinds.{hello_kind};
 ghost use Rattle.pm_wire.specs.Spelling.{IsOne};
 ghost use Rattle.pm_frames.specs.Kinds.{kind_kind, resume_kind, resume_gone_kind};
 ghost use Rattle.pm_frames.specs.Places.{basis_at, steps_at, IsOpen, IsFresh, IsStage, IsNodePlace};
@@ -11,7 +11,10 @@ ghost use Rattle.pm_frames.specs.DeviceFrames.{device_size, device_size_open, de
 
 use crate::basis::{NamedBasis, read_basis};
 use crate::form::OfferForm;
-use crate::kinds::{HELLO, KIND, LEAVE, OFFER, OLD, PRICE, RESUME, RESUME_GONE, STATE};
+use crate::kinds::{
+    HELLO, HELLO_SIZE, KIND, KIND_SIZE, LEAVE, LEAVE_SIZE, OFFER, OLD, OLD_SIZE, PRICE, PRICE_SIZE,
+    RESUME, RESUME_GONE, RESUME_GONE_SIZE, STATE, STATE_SIZE,
+};
 use crate::named_kind::{NamedKind, read_named_kind};
 use crate::offer::{read_offer, read_offered, read_points, read_state, size_points};
 use crate::parent::{ParentFrame, read_accepted};
@@ -46,11 +49,11 @@ fn size_open(steps: usize, kind: u8) -> Option<usize>
 {
     match kind {
         OFFER => Some(1 + 4 * steps),
-        LEAVE => Some(1),
-        PRICE => Some(23),
-        OLD => Some(7),
-        KIND => Some(22),
-        STATE => Some(5),
+        LEAVE => Some(LEAVE_SIZE),
+        PRICE => Some(PRICE_SIZE),
+        OLD => Some(OLD_SIZE),
+        KIND => Some(KIND_SIZE),
+        STATE => Some(STATE_SIZE),
         _ => size_points(kind),
     }
 }
@@ -59,7 +62,11 @@ fn size_open(steps: usize, kind: u8) -> Option<usize>
 fn size_first(kind: u8) -> Option<usize>
     ensures { result ≡ device_size Stage.Start kind }
 {
-    if kind == HELLO { Some(11) } else { None }
+    if kind == HELLO {
+        Some(HELLO_SIZE)
+    } else {
+        None
+    }
 }
 
 /// How many bytes a frame of this kind has directly after a Hello of so many steps.
@@ -68,8 +75,8 @@ fn size_fresh(steps: usize, kind: u8) -> Option<usize>
     ensures { result ≡ device_size_fresh steps kind }
 {
     match kind {
-        RESUME => Some(19 + 4 * steps),
-        RESUME_GONE => Some(19),
+        RESUME => Some(RESUME_GONE_SIZE + 4 * steps),
+        RESUME_GONE => Some(RESUME_GONE_SIZE),
         _ => size_open(steps, kind),
     }
 }

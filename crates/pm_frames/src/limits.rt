@@ -4,7 +4,7 @@ ghost use Rattle.std.specs.Prelude.{◌≡◌, ◌+◌, ◌≤◌, ◌∷◌, �
 ghost use Rattle.pm_relay.specs.Relays.{AreRelayLimits};
 ghost use Rattle.pm_frames.specs.LimitsFrames.{limits_bytes, AreLimitsFormed, given_bytes, IsGivenFormed, IsGivenAccepted, bound_bytes};
 ghost use Rattle.pm_frames.specs.LimitsFrames.{IsBoundFormed, IsBoundAccepted};
-ghost use Rattle.pm_frames.specs.Kinds.{limits_kind, bound_kind};
+ghost use Rattle.pm_frames.specs.Kinds.{limits_kind, bound_kind, limits_size, bound_size};
 
 use crate::expiry::is_child;
 use pm_base::{DEMAND_LIMIT, Limits};
@@ -33,7 +33,7 @@ pub(crate) fn are_relay_limits(limits: &Limits) -> bool
 
 /// The number and the limits that a Limits has.
 pub(crate) fn read_given(body: &[u8]) -> (u32, Limits)
-    requires { 13 ≡ length body.now + 1 }
+    requires { limits_size ≡ length body.now + 1 }
     ensures formed { IsGivenFormed result.0 result.1 }
     ensures spelled { limits_kind ∷ body.now ≡ given_bytes result.0 result.1 }
 {
@@ -51,7 +51,7 @@ pub(crate) fn is_given(number: u32, limits: &Limits) -> bool
 
 /// The child and its bound that a Bound has.
 pub(crate) fn read_bound(body: &[u8]) -> (u16, Limits)
-    requires { 11 ≡ length body.now + 1 }
+    requires { bound_size ≡ length body.now + 1 }
     ensures formed { IsBoundFormed result.0 result.1 }
     ensures spelled { bound_kind ∷ body.now ≡ bound_bytes result.0 result.1 }
 {

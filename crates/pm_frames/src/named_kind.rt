@@ -1,7 +1,7 @@
 //! A kind of device in a frame.
 
 ghost use Rattle.std.specs.Prelude.{◌≡◌, ◌+◌, ◌≤◌, ◌∷◌, ◌↔◌, IsTrue, length};
-ghost use Rattle.pm_frames.specs.Kinds.{kind_kind};
+ghost use Rattle.pm_frames.specs.Kinds.{kind_kind, kind_size};
 ghost use Rattle.pm_frames.specs.NamedKinds.{kind_bytes, kind_of_named, is_bare, IsKindFormed, IsValidKind};
 
 use pm_device::Kind;
@@ -29,7 +29,7 @@ fn read_byte(bytes: &[u8]) -> (u8, &[u8])
 
 /// The numbers that the bytes after the first one are.
 pub(crate) fn read_named_kind(body: &[u8]) -> NamedKind
-    requires { 22 ≡ length body.now + 1 }
+    requires { kind_size ≡ length body.now + 1 }
     ensures formed { IsKindFormed result }
     ensures spelled { kind_kind ∷ body.now ≡ kind_bytes result }
 {

@@ -3,9 +3,10 @@
 ghost use Rattle.std.specs.Prelude.{◌≡◌, ◌≢◌, ◌+◌, ◌≤◌, ◌∷◌, ◌↔◌, ◌==◌, if◌then◌else◌, IsTrue, length};
 ghost use Rattle.std.specs.Prelude.{Some, None, IfOk};
 ghost use Rattle.pm_base.specs.Limits.{most_steps};
-ghost use Rattle.pm_wire.specs.Frames.{clear_kind, size_at as bid_size_at};
+ghost use Rattle.pm_wire.specs.Kinds.{clear_kind};
+ghost use Rattle.pm_wire.specs.Frames.{size_at as bid_size_at};
 ghost use Rattle.pm_wire.specs.Spelling.{IsOne};
-ghost use Rattle.pm_frames.specs.Kinds.{resume_kind, expire_kind, limits_kind, bound_kind};
+ghost use Rattle.pm_frames.specs.Kinds.{resume_kind, expire_kind, limits_kind, bound_kind, limits_size, bound_size};
 ghost use Rattle.pm_frames.specs.Places.{bid_place, IsOpen, IsFresh, IsStage};
 ghost use Rattle.pm_frames.specs.Expiries.{IsExpireAccepted};
 ghost use Rattle.pm_frames.specs.LimitsFrames.{IsGivenAccepted, IsBoundAccepted};
@@ -14,7 +15,11 @@ ghost use Rattle.pm_frames.specs.Stored.{relay_resume_size};
 ghost use Rattle.pm_frames.specs.RelayFrames.{relay_size, relay_size_open, relay_framing, IsForChild};
 
 use crate::expiry::{is_child, read_expiring};
-use crate::kinds::{BID, BOUND, EXPIRE, GONE, HELLO, LIMITS, OLD, PRICE, RESUME, SEND};
+use crate::kinds::{
+    BID, BID_HEAD_SIZE, BOUND, BOUND_SIZE, EXPIRE, EXPIRE_SIZE, GONE, GONE_SIZE, HELLO, HELLO_SIZE,
+    LIMITS, LIMITS_SIZE, OLD, OLD_SIZE, PRICE, PRICE_SIZE, RELAY_RESUME_HEAD_SIZE, RESUME, SEND,
+    SEND_SIZE,
+};
 use crate::limits::{is_bound, is_given, read_bound, read_given};
 use crate::parent::{ParentFrame, read_accepted};
 use crate::place::{RelayPlace, Stage};
@@ -49,13 +54,14 @@ fn size_open(steps: usize, kind: u8) -> Option<usize>
     ensures { result ≡ relay_size_open steps kind }
 {
     match kind {
-        BID => Some(7 + 4 * steps),
-        GONE | OLD => Some(7),
-        PRICE => Some(23),
-        SEND => Some(1),
-        EXPIRE => Some(3),
-        LIMITS => Some(13),
-        BOUND => Some(11),
+        BID => Some(BID_HEAD_SIZE + 4 * steps),
+        GONE => Some(GONE_SIZE),
+        OLD => Some(OLD_SIZE),
+        PRICE => Some(PRICE_SIZE),
+        SEND => Some(SEND_SIZE),
+        EXPIRE => Some(EXPIRE_SIZE),
+        LIMITS => Some(LIMITS_SIZE),
+        BOUND => Some(BOUND_SIZE),
         _ => None,
     }
 }
@@ -64,7 +70,11 @@ fn size_open(steps: usize, kind: u8) -> Option<usize>
 fn size_first(kind: u8) -> Option<usize>
     ensures { result ≡ relay_size Stage.Start kind }
 {
-    if kind == HELLO { Some(11) } else { None }
+    if kind == HELLO {
+        Some(HELLO_SIZE)
+    } else {
+        None
+    }
 }
 
 /// How many bytes a frame of this kind has directly after a Hello of so many steps.
@@ -74,7 +84,7 @@ fn size_fresh(steps: usize, kind: u8) -> Option<usize>
         else relay_size_open steps kind) }
 {
     if kind == RESUME {
-        return Some(41 + 4 * MOST_NODES);
+        return Some(RELAY_RESUME_HEAD_SIZE + 4 * MOST_NODES);
     }
     size_open(steps, kind)
 }
@@ -186,7 +196,7 @@ fn read_expire(place: RelayPlace, body: &[u8]) -> Option<RelayFrame>
 /// Reads the fields of Limits.
 fn read_new_limits(place: RelayPlace, body: &[u8]) -> Option<RelayFrame>
     requires open { IsOpen place.stage }
-    requires size { 13 ≡ length body.now + 1 }
+    requires size { limits_size ≡ length body.now + 1 }
     ensures { IsOne relay_framing place (limits_kind ∷ body.now) result }
 {
     let (number, limits) = read_given(body);
@@ -199,7 +209,7 @@ fn read_new_limits(place: RelayPlace, body: &[u8]) -> Option<RelayFrame>
 /// Reads the fields of Bound.
 fn read_child_bound(place: RelayPlace, body: &[u8]) -> Option<RelayFrame>
     requires open { IsOpen place.stage }
-    requires size { 11 ≡ length body.now + 1 }
+    requires size { bound_size ≡ length body.now + 1 }
     ensures { IsOne relay_framing place (bound_kind ∷ body.now) result }
 {
     let (child, bound) = read_bound(body);

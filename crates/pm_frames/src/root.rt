@@ -3,13 +3,13 @@
 ghost use Rattle.std.specs.Prelude.{◌≡◌, ◌+◌, ◌∷◌, length, Some, IfOk};
 ghost use Rattle.pm_wire.specs.Frames.{size_at as bid_size_at};
 ghost use Rattle.pm_wire.specs.Spelling.{IsOne};
-ghost use Rattle.pm_frames.specs.Kinds.{resume_kind, expire_kind, bound_kind};
+ghost use Rattle.pm_frames.specs.Kinds.{resume_kind, expire_kind, bound_kind, bound_size};
 ghost use Rattle.pm_frames.specs.Places.{bid_place, IsOpen, IsFresh, IsStage};
 ghost use Rattle.pm_frames.specs.Stored.{root_resume_size};
 ghost use Rattle.pm_frames.specs.RootFrames.{root_size, root_framing};
 
 use crate::expiry::{is_child, read_expiring};
-use crate::kinds::{BOUND, EXPIRE, RESUME};
+use crate::kinds::{BOUND, BOUND_SIZE, EXPIRE, EXPIRE_SIZE, RESUME, ROOT_RESUME_HEAD_SIZE};
 use crate::limits::{is_bound, read_bound};
 use crate::place::Stage;
 use crate::stored::{StoredRoot, read_stored_root};
@@ -36,9 +36,9 @@ fn size_at(stage: Stage, kind: u8) -> Option<usize>
     ensures { result ≡ root_size stage kind }
 {
     match stage {
-        Stage::Opened { .. } if kind == RESUME => Some(15 + 4 * MOST_NODES),
-        Stage::Opened { .. } | Stage::Running { .. } if kind == EXPIRE => Some(3),
-        Stage::Opened { .. } | Stage::Running { .. } if kind == BOUND => Some(11),
+        Stage::Opened { .. } if kind == RESUME => Some(ROOT_RESUME_HEAD_SIZE + 4 * MOST_NODES),
+        Stage::Opened { .. } | Stage::Running { .. } if kind == EXPIRE => Some(EXPIRE_SIZE),
+        Stage::Opened { .. } | Stage::Running { .. } if kind == BOUND => Some(BOUND_SIZE),
         Stage::Start | Stage::Opened { .. } | Stage::Running { .. } => {
             <Frame as StreamFrame>::size_at(stage.bid_place(), kind)
         }
@@ -91,7 +91,7 @@ fn read_expire(stage: Stage, body: &[u8]) -> Option<RootFrame>
 /// Reads the fields of Bound.
 fn read_child_bound(stage: Stage, body: &[u8]) -> Option<RootFrame>
     requires open { IsOpen stage }
-    requires size { 11 ≡ length body.now + 1 }
+    requires size { bound_size ≡ length body.now + 1 }
     ensures { IsOne root_framing stage (bound_kind ∷ body.now) result }
 {
     let (child, bound) = read_bound(body);

@@ -8,7 +8,8 @@ use Rattle.pm_basis.proofs.SoundBases.{checked_is_basis}
 use Rattle.pm_wire.specs.declared.frame.Frame.{Frame}
 use Rattle.pm_wire.specs.declared.frame.Frame.TheVariants.{Hello, Bid, Gone, Clear}
 use Rattle.pm_wire.specs.Framing.{IsFraming, HasSize, MayStand}
-use Rattle.pm_wire.specs.Frames.{hello_kind, bid_kind, gone_kind, clear_kind, bid_framing, frame_bytes}
+use Rattle.pm_wire.specs.Kinds.{hello_kind, bid_kind, gone_kind, clear_kind}
+use Rattle.pm_wire.specs.Frames.{bid_framing, frame_bytes}
 use Rattle.pm_wire.specs.Frames.{size_at, place_after, IsFormed, IsBidPlace, signed_bytes, demand_bytes}
 use Rattle.pm_wire.specs.Memory.{frame_limit}
 use Rattle.pm_wire.proofs.OneField.{two_same, four_same, signed_same, demands_same, length-demand_bytes}

@@ -13,7 +13,8 @@ use Rattle.pm_basis.specs.declared.fault.BasisFault.{BasisFault}
 use Rattle.pm_bid.specs.Checks.{checked_bid}
 use Rattle.pm_wire.specs.declared.frame.Frame.TheVariants.{Hello, Bid, Gone}
 use Rattle.pm_wire.specs.Framing.{Framing, BeginsBadly}
-use Rattle.pm_wire.specs.Frames.{bid_framing, frame_bytes, hello_kind, bid_kind, gone_kind, signed_bytes, demand_bytes, IsSender}
+use Rattle.pm_wire.specs.Kinds.{hello_kind, bid_kind, gone_kind}
+use Rattle.pm_wire.specs.Frames.{bid_framing, frame_bytes, signed_bytes, demand_bytes, IsSender}
 use Rattle.pm_wire.specs.Readings.{IsWhole}
 use Rattle.pm_wire.specs.Spelling.{IsRefusedFrame, IsFrameAt}
 use Rattle.pm_wire.proofs.OneField.{wide}

@@ -8,6 +8,7 @@ use Rattle.pm_bid.specs.Clearing.{clearing_step}
 use Rattle.pm_bid.specs.declared.head.BidHead.{BidHead}
 use Rattle.pm_cache.specs.Cache.{Cache, empty_cache, kept_number, aggregate_of}
 use Rattle.pm_cache.specs.Learning.{after_learning}
+use Rattle.pm_wire.specs.Kinds.{bare_price_kind, not_changed_kind, old_kind}
 use Rattle.pm_wire.specs.Services.{fault_bytes}
 use Rattle.pm_wire.specs.declared.answer.Reply.{Reply}
 use Rattle.pm_wire.specs.declared.answer.Reply.TheVariants.{Price, NotChanged, Old, Fault}
@@ -19,9 +20,9 @@ use Rattle.pm_wire.specs.declared.frame.Frame.TheVariants.{Hello, Bid, Gone, Cle
 -- the first byte tells the kind, and the fields have the most significant byte first
 abbrev pub answer_bytes : Reply → List ℕ
 answer_bytes (Price child number index step) =
-    5 ∷ (to_be_bytes w16 child ++ (to_be_bytes w32 number ++ (to_be_bytes w32 index ++ to_be_bytes w16 step)))
-answer_bytes NotChanged = 6 ∷ []
-answer_bytes (Old child kept) = 7 ∷ (to_be_bytes w16 child ++ to_be_bytes w32 kept)
+    bare_price_kind ∷ (to_be_bytes w16 child ++ (to_be_bytes w32 number ++ (to_be_bytes w32 index ++ to_be_bytes w16 step)))
+answer_bytes NotChanged = not_changed_kind ∷ []
+answer_bytes (Old child kept) = old_kind ∷ (to_be_bytes w16 child ++ to_be_bytes w32 kept)
 answer_bytes (Fault offset) = fault_bytes offset
 
 -- the bytes of answers, one behind the other

@@ -7,24 +7,12 @@ use Rattle.pm_base.specs.Limits.{AreSteps, most_nodes}
 use Rattle.pm_basis.specs.Prices.{checked_basis}
 use Rattle.pm_bid.specs.Checks.{checked_bid}
 use Rattle.pm_wire.specs.Framing as framing
+use Rattle.pm_wire.specs.Kinds.{hello_kind, hello_size, bid_kind, bid_head_size, gone_kind, gone_size, clear_kind, clear_size}
 use Rattle.pm_wire.specs.Memory.{frame_limit}
 use Rattle.pm_wire.specs.declared.frame.Frame.{Frame}
 use Rattle.pm_wire.specs.declared.frame.Frame.TheVariants.{Hello, Bid, Gone, Clear}
 
 -- ---- the bytes of a frame
-
--- the first byte of a frame tells its kind
-abbrev pub hello_kind : ℕ
-hello_kind = 1
-
-abbrev pub bid_kind : ℕ
-bid_kind = 2
-
-abbrev pub gone_kind : ℕ
-gone_kind = 3
-
-abbrev pub clear_kind : ℕ
-clear_kind = 4
 
 -- a price or a demand as four bytes
 abbrev pub signed_bytes : ℤ → List ℕ
@@ -53,11 +41,11 @@ place_after place Clear = place
 -- how many bytes a frame of this kind has at a place, if it may stand there: Hello stands first and only there, and a bid
 -- has a demand for each step
 abbrev pub size_at : Option ℕ → ℕ → Option ℕ
-size_at None kind = if kind == hello_kind then Some 11 else None
+size_at None kind = if kind == hello_kind then Some hello_size else None
 size_at (Some steps) kind =
     if kind == bid_kind
-    then Some (7 + 4 * steps)
-    else (if kind == gone_kind then Some 7 else (if kind == clear_kind then Some 1 else None))
+    then Some (bid_head_size + 4 * steps)
+    else (if kind == gone_kind then Some gone_size else (if kind == clear_kind then Some clear_size else None))
 
 -- a frame of a kind that may stand at this place, each of whose fields has its bytes
 abbrev pub IsFormed : Option ℕ → Frame → Type 0

@@ -1,3 +1,4 @@
+pub mod Kinds
 pub mod Framing
 pub mod Spelling
 pub mod Frames

@@ -1,18 +1,19 @@
 -- How many bytes of a stream and of its answers a service holds at a time: a bound that knows no length of the stream.
 use Rattle.std.specs.Prelude.{ℕ, ◌+◌, ◌*◌}
 use Rattle.pm_base.specs.Limits.{most_steps, most_nodes}
+use Rattle.pm_wire.specs.Kinds.{bid_head_size, bare_price_size}
 
 -- the most bytes of a frame of a stream of bids: a bid over the most steps
 abbrev pub frame_limit : ℕ
-frame_limit = 7 + 4 * most_steps
+frame_limit = bid_head_size + 4 * most_steps
 
 -- the most bytes of a piece of the stream
 abbrev pub piece_limit : ℕ
 piece_limit = 65536
 
--- the most bytes of the answers to such a frame: a price of 13 bytes for each child
+-- the most bytes of the answers to such a frame: a price for each child
 abbrev pub reply_limit : ℕ
-reply_limit = 13 * most_nodes
+reply_limit = bare_price_size * most_nodes
 
 -- Of frames of at most `most_bytes` bytes, each answered by at most `most_answers` bytes: between two pieces the decoder holds fewer bytes
 -- than this. Less than a frame is left, and no more is held of frames given.

@@ -3,6 +3,7 @@
 use Rattle.std.specs.Prelude.{◌≡◌, ◌≢◌, ◌⊎◌, ℕ, ◌<◌, ◌≤◌, List, [], ◌∷◌, ◌++◌, length, take, Option, Some}
 use Rattle.std.specs.Int.{w64, to_be_bytes}
 use Rattle.std.specs.Io.KnownBytes.{Appends, Consumes, IsAtEnd}
+use Rattle.pm_wire.specs.Kinds.{fault_kind}
 use Rattle.pm_wire.specs.Framing.{Framing, place_behind, stream_bytes, IsUnfinished, BeginsBadly, BeginsWith, AreFrames, HasFrames}
 use Rattle.pm_wire.specs.Decoding.{Decoding}
 use Rattle.pm_wire.specs.Taking.{AreBehind}
@@ -12,10 +13,6 @@ use Rattle.pm_wire.specs.declared.stream.Served.TheVariants.{Done, Refused, TooL
 -- the most bytes of an input
 abbrev pub stream_limit : ℕ
 stream_limit = 1073741824
-
--- the kind of a fault, which is the same whatever the frames are
-abbrev pub fault_kind : ℕ
-fault_kind = 8
 
 -- the last answer where a frame is bad: its kind, and the offset of the frame
 abbrev pub fault_bytes : ℕ → List ℕ

@@ -3,10 +3,8 @@
 ghost use Rattle.std.specs.Prelude.{◌≡◌, ◌+◌, ◌<◌, ◌≤◌, ◌++◌, length, vec_len, vec_capacity, OnOk, OnErr};
 ghost use Rattle.pm_wire.specs.Answers.{answer_bytes};
 
+use crate::kinds::{BARE_PRICE, FAULT, NOT_CHANGED, OLD};
 use std::alloc::AllocError;
-
-/// How many bytes a price has.
-pub(crate) const PRICE_BYTES: usize = 13;
 
 /// An answer of the auctioneer.
 #[derive(Clone, Copy, Debug, PartialEq, Eq)]
@@ -52,18 +50,22 @@ impl Reply {
                 let (child, number) = (child.to_be_bytes(), number.to_be_bytes());
                 let (index, step) = (index.to_be_bytes(), step.to_be_bytes());
                 out.extend_from_slice(&[
-                    5, child[0], child[1], number[0], number[1], number[2], number[3], index[0],
-                    index[1], index[2], index[3], step[0], step[1],
+                    BARE_PRICE, child[0], child[1], number[0], number[1], number[2], number[3],
+                    index[0], index[1], index[2], index[3], step[0], step[1],
                 ])
             }
-            Reply::NotChanged => out.extend_from_slice(&[6]),
+            Reply::NotChanged => out.extend_from_slice(&[NOT_CHANGED]),
             Reply::Old { child, kept } => {
                 let (child, kept) = (child.to_be_bytes(), kept.to_be_bytes());
-                out.extend_from_slice(&[7, child[0], child[1], kept[0], kept[1], kept[2], kept[3]])
+                out.extend_from_slice(&[
+                    OLD, child[0], child[1], kept[0], kept[1], kept[2], kept[3],
+                ])
             }
             Reply::Fault { offset } => {
                 let at = offset.to_be_bytes();
-                out.extend_from_slice(&[8, at[0], at[1], at[2], at[3], at[4], at[5], at[6], at[7]])
+                out.extend_from_slice(&[
+                    FAULT, at[0], at[1], at[2], at[3], at[4], at[5], at[6], at[7],
+                ])
             }
         }
     }

@@ -5,25 +5,19 @@ ghost use Rattle.std.specs.Int.{w32};
 ghost use Rattle.std.specs.List.{AllByRecursion};
 ghost use Rattle.pm_base.specs.Limits.{AreSteps};
 ghost use Rattle.pm_bid.specs.Checks.{checked_bid};
-ghost use Rattle.pm_wire.specs.Frames.{size_at, place_after, hello_kind, bid_kind, gone_kind, demand_bytes, IsSender, MayStand, bid_framing};
+ghost use Rattle.pm_wire.specs.Kinds.{hello_kind, bid_kind, gone_kind};
+ghost use Rattle.pm_wire.specs.Frames.{size_at, place_after, demand_bytes, IsSender, MayStand, bid_framing};
 ghost use Rattle.pm_wire.specs.Spelling.{IsOne};
 
 use crate::fields::{read_i32, read_u16, read_u32};
 use crate::frame::Frame;
 use crate::framing::StreamFrame;
+use crate::kinds::{BID, BID_HEAD_SIZE, CLEAR, CLEAR_SIZE, GONE, GONE_SIZE, HELLO, HELLO_SIZE};
 use pm_base::{DEMAND_LIMIT, MOST_NODES};
 use pm_basis::Basis;
 use pm_bid::{ArrayBid, Steps};
 use std::alloc::{AllocError, Global};
 use std::marker::Brand;
-
-const HELLO: u8 = 1;
-
-const BID: u8 = 2;
-
-const GONE: u8 = 3;
-
-const CLEAR: u8 = 4;
 
 /// How many bytes a frame of this kind has, if it may stand at this place: before Hello, or behind it.
 fn size_at(steps: Option<usize>, kind: u8) -> Option<usize>
@@ -34,18 +28,18 @@ fn size_at(steps: Option<usize>, kind: u8) -> Option<usize>
     match steps {
         None => {
             if kind == HELLO {
-                return Some(11);
+                return Some(HELLO_SIZE);
             }
         }
         Some(steps) => {
             if kind == BID {
-                return Some(7 + 4 * steps);
+                return Some(BID_HEAD_SIZE + 4 * steps);
             }
             if kind == GONE {
-                return Some(7);
+                return Some(GONE_SIZE);
             }
             if kind == CLEAR {
-                return Some(1);
+                return Some(CLEAR_SIZE);
             }
         }
     }

@@ -27,6 +27,7 @@ mod fields;
 mod frame;
 mod frames;
 mod framing;
+pub mod kinds;
 mod laws;
 mod market;
 mod reading;

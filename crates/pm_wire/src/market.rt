@@ -6,13 +6,15 @@ ghost use Rattle.pm_base.specs.Limits.{AreSteps, demand_limit};
 ghost use Rattle.pm_bid.specs.Bids.{AllWithinLimit};
 ghost use Rattle.pm_cache.specs.Learning.{demand_of_offer};
 ghost use Rattle.pm_session.specs.Prices.{head_at};
+ghost use Rattle.pm_wire.specs.Kinds.{bare_price_size};
 ghost use Rattle.pm_wire.specs.Frames.{MayStand};
 ghost use Rattle.pm_wire.specs.Answers.{open_market, after_entry, after_clear, receipt, price_for, prices, reply_bytes, answers_to, market_after};
 ghost use Rattle.pm_wire.specs.Memory.{reply_limit};
 ghost use Rattle.pm_wire.specs.ServerFields.{IsMarket};
 
-use crate::answer::{PRICE_BYTES, Reply};
+use crate::answer::Reply;
 use crate::frame::Frame;
+use crate::kinds::BARE_PRICE_SIZE;
 use pm_auctioneer::Auctioneer;
 use pm_base::MOST_NODES;
 use pm_bid::ArrayBid;
@@ -22,7 +24,7 @@ use std::alloc::{AllocError, Global};
 use std::marker::Model;
 
 /// The most bytes of the answers to a frame: a price for each child.
-const REPLY_LIMIT: usize = PRICE_BYTES * MOST_NODES;
+const REPLY_LIMIT: usize = BARE_PRICE_SIZE * MOST_NODES;
 
 /// The auctioneer once it has a basis.
 ///
@@ -52,7 +54,7 @@ fn write_price(clearing: &Prices<'_>, place: usize, out: &mut Vec<u8>) -> Result
     ensures written { OnOk result (out.new.items ≡ out.old.items
         ++ reply_bytes (price_for clearing.now.index clearing.now.step (place + 1)
         (head_at clearing.now.heads.now place))) }
-    ensures full { OnErr result (vec_capacity out.old < vec_len out.old + 13) }
+    ensures full { OnErr result (vec_capacity out.old < vec_len out.old + bare_price_size) }
     ensures capacity { vec_capacity out.old ≤ vec_capacity out.new }
 {
     let Some(price) = clearing.for_child(place) else {
@@ -71,7 +73,8 @@ fn write_price(clearing: &Prices<'_>, place: usize, out: &mut Vec<u8>) -> Result
 pub fn write_prices(clearing: &Prices<'_>, out: &mut Vec<u8>)
     requires children { length clearing.now.heads.now + 1 < 2 ^ 16 }
     requires step { clearing.now.step < 2 ^ 16 }
-    requires room { vec_len out.old + 13 * length clearing.now.heads.now ≤ vec_capacity out.old }
+    requires room { vec_len out.old + bare_price_size * length clearing.now.heads.now
+        ≤ vec_capacity out.old }
     ensures written { out.new.items ≡ out.old.items ++ reply_bytes
         (prices clearing.now.index clearing.now.step 1 clearing.now.heads.now) }
     ensures capacity { vec_capacity out.old ≤ vec_capacity out.new }
