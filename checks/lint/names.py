@@ -22,7 +22,6 @@ TESTS = {"test_clusters", "test_parts", "test_programs", "test_threads", "test_v
 
 # Functions of code that have one name in two crates, and the one thing that the name says in both.
 SAME_IN_CODE = {
-    "arguments_of": "the arguments of a program",
     "change": "makes a change of a device",
     "clear": "the auctioneer clears",
     "close": "closes the open phase",

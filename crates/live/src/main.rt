@@ -4,10 +4,8 @@
 //! the code of its ending. It prints nothing itself.
 #![tactic(auto)]
 
-use pm_io::{StdSink, StdSource};
+use pm_io::{ArgumentsFault, StdSink, StdSource, arguments_of};
 use pm_live::live;
-use std::env;
-use std::io::ErrorKind;
 use std::process::ExitCode;
 
 /// The exit code if an allocation fails.
@@ -16,26 +14,6 @@ const NO_MEMORY: u8 = 7;
 /// The exit code if the system refuses the arguments of the command line.
 const ARGUMENTS_REFUSED: u8 = 8;
 
-/// The arguments after the program's name, or the exit code if they cannot be had. An allocation may fail,
-/// or the system may not give an argument as text.
-fn arguments_of(rt: &HostRuntime) -> Result<Vec<String>, u8> {
-    let arguments = match env::args(rt) {
-        Ok(arguments) => arguments,
-        Err(e) => {
-            let code = if e.kind() == ErrorKind::OutOfMemory {
-                NO_MEMORY
-            } else {
-                ARGUMENTS_REFUSED
-            };
-            return Err(code);
-        }
-    };
-    match arguments.skip(1).collect(rt.alloc()) {
-        Ok(arguments) => Ok(arguments),
-        Err(_) => Err(NO_MEMORY),
-    }
-}
-
 fn main(rt: HostRuntime) -> ExitCode {
     match arguments_of(&rt) {
         Ok(arguments) => {
@@ -43,6 +21,7 @@ fn main(rt: HostRuntime) -> ExitCode {
             let mut sink = StdSink::new(rt.stdout());
             ExitCode::from(live(rt.alloc(), &arguments, &mut source, &mut sink).code())
         }
-        Err(code) => ExitCode::from(code),
+        Err(ArgumentsFault::NoMemory) => ExitCode::from(NO_MEMORY),
+        Err(ArgumentsFault::Refused) => ExitCode::from(ARGUMENTS_REFUSED),
     }
 }

@@ -4,37 +4,13 @@
 //! ends with the code of its status. It prints nothing itself.
 #![tactic(auto)]
 
-use pm_io::{StdSink, StdSource};
+use pm_io::{ArgumentsFault, StdSink, StdSource, arguments_of};
 use pm_nodes::OpenGate;
 use pm_top::{Status, market};
-use std::alloc::Global;
-use std::env;
-use std::io::ErrorKind;
 use std::process::ExitCode;
 
 /// The exit code if the system refuses the arguments of the command line.
 const ARGUMENTS_REFUSED: u8 = 8;
-
-/// The arguments after the program's name, or the exit code if they cannot be had. An allocation may fail,
-/// or the system may not give an argument as text.
-fn arguments_of(rt: &HostRuntime) -> Result<Vec<String>, u8> {
-    let arguments = match env::args(rt) {
-        Ok(arguments) => arguments,
-        Err(e) => {
-            let code = if e.kind() == ErrorKind::OutOfMemory {
-                Status::NoMemory.code()
-            } else {
-                ARGUMENTS_REFUSED
-            };
-            return Err(code);
-        }
-    };
-    let alloc: Global = rt.alloc();
-    match arguments.skip(1).collect(alloc) {
-        Ok(arguments) => Ok(arguments),
-        Err(_) => Err(Status::NoMemory.code()),
-    }
-}
 
 fn main(rt: HostRuntime) -> ExitCode {
     match arguments_of(&rt) {
@@ -51,6 +27,7 @@ fn main(rt: HostRuntime) -> ExitCode {
             );
             ExitCode::from(status.code())
         }
-        Err(code) => ExitCode::from(code),
+        Err(ArgumentsFault::NoMemory) => ExitCode::from(Status::NoMemory.code()),
+        Err(ArgumentsFault::Refused) => ExitCode::from(ARGUMENTS_REFUSED),
     }
 }
