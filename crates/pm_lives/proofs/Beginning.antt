@@ -29,7 +29,7 @@ use Rattle.pm_lives.specs.RootLife.{IsRootKept}
 use Rattle.pm_lives.specs.DeviceLife.{IsIndexOfSent, AgentStands, IsAgentKept}
 use Rattle.pm_lives.specs.Lives.{restart_outs}
 use Rattle.pm_lives.proofs.Staying.{relay_moved, root_moved, agent_moved, bid_pushed, then_moves}
-use Rattle.pm_lives.proofs.RelayMoves.{of_price_stays, under_numbers}
+use Rattle.pm_lives.proofs.RelayValues.{of_price_stays, under_numbers}
 use Rattle.pm_lives.proofs.DeviceMoves.{index_stays}
 use Rattle.pm_lives.specs.Moves.{lets_none}
 use Rattle.pm_lives.proofs.Giving.{GivesOnly}

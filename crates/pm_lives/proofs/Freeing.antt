@@ -4,7 +4,7 @@ use Rattle.std.proofs.Common.{Bool, true, false, cond, ltb, eqb, ◌&&◌, List,
 use Rattle.std.proofs.Common.{◌%◌, ◌/◌, ◌*◌}
 use Rattle.std.proofs.lemmas.Bool.{cases_eq, cases_Bool, cond-true, cond-false, eq-eqb, ne_eqb, both_ways, and_parts, and_from, ltb-true}
 use Rattle.pm_bid.specs.Bids.{zeros}
-use Rattle.pm_market.specs.Lists.{Lists, parent, IsLeaf}
+use Rattle.pm_market.specs.Lists.{Lists, IsLeaf}
 use Rattle.pm_market.specs.State.{update}
 use Rattle.pm_market.proofs.Cuts.{updated_same, updated_other}
 use Rattle.pm_market.proofs.Tree.{leaf_node}
@@ -27,87 +27,15 @@ use Rattle.pm_frames.specs.declared.device.DeviceFrame.TheVariants.{Hello, Offer
 use Rattle.pm_basis.specs.Prices.{BasisValue}
 use Rattle.pm_lives.specs.DeviceWrites.{agent_after}
 use Rattle.pm_system.specs.System.{System, with_agent, with_bid_sent, with_prices_sent, with_setpoints}
-use Rattle.pm_system.specs.Calls.{bid_kept}
 use Rattle.pm_system.specs.Given.{IsDemand, IsTreeMarket}
-use Rattle.pm_lives.specs.Outputs.{Output, Up, Down, Keeps, Tells, Says}
+use Rattle.pm_lives.specs.Outputs.{Output, Says}
 use Rattle.pm_lives.specs.RelayLife.{relay_number}
 use Rattle.pm_lives.specs.RootLife.{root_number}
-use Rattle.pm_lives.specs.DeviceWrites.{made_outs, told_outs, stored_agent, device_outs}
-use Rattle.pm_lives.specs.Lives.{World, LifeStep, RelayUp, Relay, RootUp, Root, DeviceUp, Device, HandledSome, handed_out, stored_last, restart_outs}
-use Rattle.pm_lives.specs.Lives.{let_go_at_relay, let_go_at_root}
+use Rattle.pm_lives.specs.DeviceWrites.{made_outs, told_outs, device_outs}
+use Rattle.pm_lives.specs.Lives.{World, LifeStep, RelayUp, Relay, RootUp, Root, DeviceUp, Device, HandledSome, stored_last, restart_outs}
 use Rattle.pm_lives.specs.Free.{RelayIsFree, RootIsFree, DeviceIsFree, LivesFree1, LiveFree, HasLists}
-use Rattle.pm_lives.proofs.Building.{lists_of}
 use Rattle.pm_lives.proofs.Handing.{handed_values}
 use Rattle.pm_lives.proofs.Giving.{price_number}
-
--- ---- the same frames over other lists
-
-pub handed_same : {K : Type 0} (tree : Lists) (member : ℕ → ℕ → Bool) (count : ℕ) (numbering : Numbering) (y : ℕ)
-    (outs : List (Output K)) (seen : System) →
-    handed_out (lists_of tree member count) numbering seen y outs ≡ handed_out tree numbering seen y outs
-unfolding parent
-handed_same tree member count numbering y [] seen = refl
-handed_same tree member count numbering y (Up bid ∷ outs) seen = handed_same tree member count numbering y outs (with_bid_sent seen y bid)
-handed_same tree member count numbering y (Down place price ∷ outs) seen =
-    handed_same tree member count numbering y outs (with_prices_sent tree numbering seen y (λ k. cond (eqb k place) (price ∷ []) []))
-handed_same tree member count numbering y (Keeps stored ∷ outs) seen = handed_same tree member count numbering y outs seen
-handed_same tree member count numbering y (Tells setpoint ∷ outs) seen =
-    handed_same tree member count numbering y outs (with_setpoints seen y (setpoint ∷ []))
-handed_same tree member count numbering y (Says bytes ∷ outs) seen = handed_same tree member count numbering y outs seen
-
--- whom a relay lets go does not depend on members and numbers of the lists, but on their tree
-pub relay_let_same : (tree : Lists) (member : ℕ → ℕ → Bool) (count : ℕ) (numbering : Numbering) (seen : System) (c : ℕ)
-    (frame : RelayFrame) (f : ℕ → ℕ) →
-    let_go_at_relay (lists_of tree member count) numbering seen c frame f ≡ let_go_at_relay tree numbering seen c frame f
-unfolding parent
-relay_let_same tree member count numbering seen c (relay_frame.Child frame) f = refl
-relay_let_same tree member count numbering seen c (relay_frame.Parent frame) f = refl
-relay_let_same tree member count numbering seen c relay_frame.Send f = refl
-relay_let_same tree member count numbering seen c (relay_frame.Expire sender) f = refl
-relay_let_same tree member count numbering seen c (relay_frame.Limits number limits) f = refl
-relay_let_same tree member count numbering seen c (relay_frame.Bound sender bound) f = refl
-relay_let_same tree member count numbering seen c (relay_frame.Resume stored) f = refl
-
--- nor does whom the auctioneer lets go
-pub root_let_same : (tree : Lists) (member : ℕ → ℕ → Bool) (count : ℕ) (numbering : Numbering) (seen : System) (frame : RootFrame)
-    (f : ℕ → ℕ) →
-    let_go_at_root (lists_of tree member count) numbering seen frame f ≡ let_go_at_root tree numbering seen frame f
-unfolding parent
-root_let_same tree member count numbering seen (root_frame.Market frame) f = refl
-root_let_same tree member count numbering seen (root_frame.Expire sender) f = refl
-root_let_same tree member count numbering seen (root_frame.Bound sender bound) f = refl
-root_let_same tree member count numbering seen (root_frame.Resume stored) f = refl
-
-module _ (p q : Pricing) (same : q.steps ≡ p.steps) (own : BasisValue) where
-  kept_same : (n : ℕ) (o : Option (List ℤ)) → bid_kept q n o ≡ bid_kept p n o
-  kept_same n None = ap (λ (k : ℕ). Rattle.pm_net.specs.Messages.bid_message n true (zeros k)) same
-  kept_same n (Some demand) = refl
-
-  made_same : (after : DeviceAgent) → made_outs q own after ≡ made_outs p own after
-  made_same after =
-      ap (λ (b : Rattle.pm_net.specs.Messages.BidMessage). Keeps (stored_agent own after) ∷ Up b ∷ []) (kept_same after.number (newest_demand after))
-
-  -- what a device answers is the same under both markets
-  pub outs_same : (agent : DeviceAgent) (frame : DeviceFrame) → device_outs q own agent frame ≡ device_outs p own agent frame
-  outs_same agent (Hello basis) = refl
-  outs_same agent (Kind named) = refl
-  outs_same agent (Offer form demand) =
-      ap (λ (l : List (Output StoredAgent)). cond (may_offer agent)
-      (cond (ltb (agent.number + 5) (2 ^ 32)) l (Says Rattle.pm_frames.specs.Answers.out_of_numbers_bytes ∷ []))
-      (Says Rattle.pm_frames.specs.Answers.window_full_bytes ∷ [])) (made_same (after_offer agent demand))
-  outs_same agent Leave =
-      ap (λ (l : List (Output StoredAgent)). cond (ltb (agent.number + 3) (2 ^ 32)) l (Says Rattle.pm_frames.specs.Answers.out_of_numbers_bytes ∷ []))
-      (made_same (after_leaving agent))
-  outs_same agent (Parent (Price child number index step basis)) = refl
-  outs_same agent (Parent (Old child kept)) =
-      let after : DeviceAgent = Rattle.pm_control.specs.Control.after_old agent kept in
-      ap (λ (l : List (Output StoredAgent)). cond (ltb agent.number after.number) l []) (made_same after)
-  outs_same agent (Resume stored) = refl
-
-  -- so is what it writes when it comes back
-  pub restart_same : (stored : StoredAgent) → restart_outs q stored ≡ restart_outs p stored
-  restart_same stored =
-      ap (λ (b : Rattle.pm_net.specs.Messages.BidMessage). cond (eqb stored.number 0) [] (Up b ∷ [])) (kept_same stored.number stored.newest)
 
 -- ---- the numbers of a device
 

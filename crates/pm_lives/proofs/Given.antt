@@ -42,7 +42,8 @@ use Rattle.pm_lives.specs.Lives.{let_go_at_relay, let_go_at_root, IsNewWorld}
 use Rattle.pm_lives.specs.Free.{CarriesLetGo, RelayIsFree, RootIsFree, DeviceIsFree, LivesFree1, LiveFree, HasLists}
 use Rattle.pm_system.proofs.Offers.{zeros_demand}
 use Rattle.pm_lives.proofs.Building.{lists_of, demand_of, pricing_of, members_are, changes_are, is_market}
-use Rattle.pm_lives.proofs.Freeing.{handed_same, relay_let_same, root_let_same, outs_same, restart_same, Wanted, SameAt, with_wanted, wanted_other, wanted_same}
+use Rattle.pm_lives.proofs.Freeing.{Wanted, SameAt, with_wanted, wanted_other, wanted_same}
+use Rattle.pm_lives.proofs.SameAnswers.{handed_same, relay_let_same, root_let_same, outs_same, restart_same}
 use Rattle.pm_lives.proofs.Freeing.{asks_anew, asks_device, FineAt, number_now, StepAt, bound_of, asks_of, is_odd, AllFine, device_now, step_at}
 use Rattle.pm_lives.proofs.Freeing.{all_fine, built, bound}
 use Rattle.pm_lives.proofs.Freeing.{step_outside, built_low, built_odd, built_demands}

@@ -1,12 +1,14 @@
 mod Staying
 pub mod Downs
 mod After
+mod RelayValues
 mod RelayMoves
 mod RootMoves
 pub mod AgentFacts
 mod DeviceMoves
 pub mod Handing
 mod Beginning
+mod WorldStands
 mod Living
 pub mod Answering
 pub mod Carrying
@@ -16,6 +18,10 @@ mod Giving
 mod Telling
 mod Settling
 mod Building
+mod SameAnswers
 mod Freeing
 mod Given
+mod WorkedWorlds
+mod WorkedFirst
+mod WorkedAgain
 mod WorkedLives

@@ -26,7 +26,7 @@ use Rattle.pm_system.specs.Settled.{CountsAtParent, IsReachedSystem, IsCurrentSy
 use Rattle.pm_system.proofs.Moving.{parent_relay}
 use Rattle.pm_lives.specs.Lives.{World, LifeStep, BeginsOnce}
 use Rattle.pm_lives.specs.Settled.{index_above, IsSettledWorld, IsCurrentWorld}
-use Rattle.pm_lives.proofs.Living.{WorldStands}
+use Rattle.pm_lives.proofs.WorldStands.{WorldStands}
 
 cond_same : {A : Type 0} (b : Bool) (a a' c c' : A) → (b ≡ true → a ≡ a') → (b ≡ false → c ≡ c') → cond b a c ≡ cond b a' c'
 cond_same true a a' c c' one two = one refl
