@@ -11,7 +11,7 @@ from typing import Any
 
 from ..live.errors import BadFrame, BadSettings
 from ..live.kinds import DeviceKind
-from ..live.settings import read_toml, value_of
+from ..live.toml_tables import read_tables, value_of
 from ..live.topics import require_name, require_prefix
 from ..simulation import Battery, Boiler, Cogeneration, Device, HeatPump, Load, Solar, Vehicle
 from .guard import Limits
@@ -94,7 +94,7 @@ class AgentSettings:
 
 def read_agent_toml(path: str | os.PathLike[str]) -> AgentSettings:
     """The settings of a file. Raises BadSettings and OSError."""
-    return agent_settings_of(read_toml(path, TABLES), Path(path).parent)
+    return agent_settings_of(read_tables(path, TABLES), Path(path).parent)
 
 
 def agent_settings_of(tables: Mapping[str, Mapping[str, Any]], folder: Path = Path()) -> AgentSettings:

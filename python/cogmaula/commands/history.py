@@ -8,14 +8,14 @@ import os
 import signal
 import sys
 from datetime import datetime, timedelta
-from typing import cast
 
 from .. import cli, logs
 from ..history import Database, Keeper, open_database
 from ..history.days import span_of
 from ..live.errors import BadSettings
 from ..live.notifying import Notifier
-from ..live.settings import BrokerSettings, read_toml, value_of
+from ..live.settings import BrokerSettings, read_toml
+from ..live.toml_tables import value_of
 
 CALLS_PROGRAM = False
 HELP = "keeps the clearings, bids, setpoints, limits and states of a market in SQLite or PostgreSQL"
@@ -59,7 +59,7 @@ def main(arguments: argparse.Namespace) -> int:
         table = dict(read_toml(arguments.config).get("broker", {}))
         if arguments.password_file is not None:
             table["password_file"] = arguments.password_file
-        broker = cast(BrokerSettings, value_of(BrokerSettings, table, "broker"))
+        broker = value_of(BrokerSettings, table, "broker")
         database = open_database(arguments.to)
     except BadSettings as error:
         print(f"cogmaula: {error}", file=sys.stderr)

@@ -6,14 +6,14 @@ import argparse
 import sys
 from dataclasses import replace
 from pathlib import Path
-from typing import Any, cast
 
 from .. import cli
 from ..deploy import Member, add_device, init_market, read_tree
 from ..live.errors import BadSettings, LiveError
 from ..live.given import LimitsMessage
 from ..live.operating import drop, give_limits
-from ..live.settings import BrokerSettings, read_toml, value_of
+from ..live.settings import BrokerSettings, read_toml
+from ..live.toml_tables import value_of
 
 CALLS_PROGRAM = False
 HELP = "makes the files of a market at a broker, adds a device, lets a device go, or gives limits to a relay"
@@ -68,8 +68,8 @@ def add_arguments(parser: argparse.ArgumentParser) -> None:
 
 
 def _broker_of(path: str) -> BrokerSettings:
-    tables: dict[str, dict[str, Any]] = read_toml(path)
-    return cast(BrokerSettings, value_of(BrokerSettings, tables.get("broker", {}), "broker"))
+    tables = read_toml(path)
+    return value_of(BrokerSettings, tables.get("broker", {}), "broker")
 
 
 def _init(arguments: argparse.Namespace) -> str:

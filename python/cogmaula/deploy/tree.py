@@ -5,10 +5,8 @@ from __future__ import annotations
 import os
 import re
 import shutil
-import tomllib
 from collections.abc import Mapping
 from dataclasses import dataclass, field, replace
-from pathlib import Path
 from typing import Any, Literal, cast
 from urllib.parse import urlsplit
 
@@ -16,7 +14,7 @@ from ..cluster import Basis
 from ..live.errors import BadSettings
 from ..live.frames import CHILDREN, Sort
 from ..live.rights import Place, Right, rights_of_control, rights_of_grid_operator, rights_of_node, rights_of_operator, rights_of_reader
-from ..live.settings import value_of
+from ..live.toml_tables import read_tables, require_types, table_of, value_of
 from ..live.topics import Topics, require_name
 
 TABLES = ("market", "basis", "broker", "auctioneer", "relays", "devices", "logins")
@@ -234,9 +232,10 @@ def _require_child(number: int, name: str) -> int:
 
 def read_tree(path: str | os.PathLike[str]) -> Tree:
     """The market that a file names. Raises BadSettings if it is none, and OSError."""
+    tables = read_tables(path, TABLES)
     try:
-        return tree_of(tomllib.loads(Path(path).read_text()))
-    except (tomllib.TOMLDecodeError, UnicodeDecodeError, BadSettings) as error:
+        return tree_of(tables)
+    except BadSettings as error:
         raise BadSettings(f"{path}: {error}") from None
 
 
@@ -245,38 +244,32 @@ def tree_of(tables: Mapping[str, Any]) -> Tree:
     for name, table in tables.items():
         if name not in TABLES or not isinstance(table, Mapping):
             raise BadSettings(f"{name} is not known there: a file has the tables {', '.join(TABLES)}")
-    market = cast(MarketPlan, value_of(MarketPlan, tables.get("market", {}), "market"))
-    basis = cast(Basis, value_of(Basis, tables.get("basis", {}), "basis"))
-    broker = cast(BrokerPlan, value_of(BrokerPlan, tables.get("broker", {}), "broker"))
+    market = value_of(MarketPlan, tables.get("market", {}), "market")
+    basis = value_of(Basis, tables.get("basis", {}), "basis")
+    broker = value_of(BrokerPlan, tables.get("broker", {}), "broker")
     first = dict(tables.get("auctioneer", {}))
-    root = _member("auctioneer", first.pop("name", "auctioneer"), first)
+    root = _member("auctioneer", first.pop("name", "auctioneer"), first, "auctioneer")
     members = [root]
     for sort, word in (("relay", "relays"), ("device", "devices")):
         for name, table in tables.get(word, {}).items():
-            members.append(_member(cast(Sort, sort), name, {"parent": root.name, **_table(table, f"{word}.{name}")}))
-    logins = [_login(name, _table(table, f"logins.{name}")) for name, table in tables.get("logins", {}).items()]
+            place = f"{word}.{name}"
+            members.append(_member(cast(Sort, sort), name, {"parent": root.name, **table_of(table, place)}, place))
+    logins = [_login(name, table_of(table, f"logins.{name}")) for name, table in tables.get("logins", {}).items()]
     return Tree(market, basis, broker, tuple(_numbered(members)), tuple(logins))
 
 
-def _table(value: object, name: str) -> Mapping[str, Any]:
-    if not isinstance(value, Mapping):
-        raise BadSettings(f"{name} is no table: write [{name}]")
-    return value
-
-
-def _member(sort: Sort, name: str, table: Mapping[str, Any]) -> Member:
+def _member(sort: Sort, name: str, table: Mapping[str, Any], place: str) -> Member:
+    """The node of a table, whose place is its name in the file. Raises BadSettings."""
     require_name(name, f"a {sort}")
     own = {word: table[word] for word in _OWN if word in table}
     page = own.get("page")
     if isinstance(page, str):
         own["page"] = {"listen": page, "whole": True}
     elif page is not None:
-        own["page"] = dict(_table(page, f"page of {name}"))
+        own["page"] = dict(table_of(page, f"{place}.page"))
     if "device" in own:
-        own["device"] = dict(_table(own["device"], f"device of {name}"))
-    for word, kind in (("parent", str), ("child", int), ("least", int), ("greatest", int), ("host", str), ("control", bool)):
-        if word in own and (type(own[word]) is not kind):
-            raise BadSettings(f"{word} of {name} is {own[word]!r}: give {'a text' if kind is str else 'a whole number' if kind is int else 'true or false'}")
+        own["device"] = dict(table_of(own["device"], f"{place}.device"))
+    require_types(Member, own, place)
     if own.get("control") and sort != "device":
         raise BadSettings(f"control of {name} is for a device: take it out")
     if wrong := {"name", "state", "new_session", "leave", "children"} & table.keys():

@@ -8,13 +8,14 @@ import re
 from collections.abc import Mapping
 from dataclasses import dataclass, field
 from pathlib import Path
-from typing import Any, cast
+from typing import Any
 
 from ..cluster import Basis
 from ..live.errors import BadSettings
 from ..live.page_settings import PageSettings
-from ..live.settings import Settings, read_toml, value_of
+from ..live.settings import Settings
 from ..live.times import MARGIN, VALIDITY
+from ..live.toml_tables import read_tables, value_of
 from ..live.topics import Topics, require_name
 from ..program import live_command
 from .words import Cluster
@@ -171,12 +172,12 @@ def hub_settings_of(tables: Mapping[str, Mapping[str, Any]]) -> HubSettings:
         raise BadSettings("hub has a member basis, page, addresses or addresses_tcp: the first two are tables, and addresses are in listen")
     basis = value_of(Basis, tables.get("basis", {}), "basis")
     page = value_of(PageSettings, tables["page"], "page") if "page" in tables else None
-    return cast(HubSettings, value_of(HubSettings, {**hub, "basis": basis, "page": page}, "hub"))
+    return value_of(HubSettings, {**hub, "basis": basis, "page": page}, "hub")
 
 
 def read_hub_toml(path: str | os.PathLike[str]) -> dict[str, dict[str, Any]]:
     """The tables of a hub's file. Raises BadSettings and OSError."""
-    return read_toml(path, TABLES)
+    return read_tables(path, TABLES)
 
 
 def _texts(value: object, name: str) -> tuple[str, ...]:

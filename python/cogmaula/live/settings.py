@@ -4,11 +4,10 @@ from __future__ import annotations
 
 import os
 import shutil
-import tomllib
-from collections.abc import Mapping, Sequence
-from dataclasses import dataclass, field, fields
+from collections.abc import Mapping
+from dataclasses import dataclass, field
 from pathlib import Path
-from typing import Any, cast
+from typing import Any
 
 from ..cluster import Basis
 from ..program import live_command
@@ -17,6 +16,7 @@ from .frames import CHILDREN, MOST, Sort, are_limits, is_basis
 from .kinds import DeviceKind
 from .page_settings import PageSettings
 from .times import Times
+from .toml_tables import read_tables, table_of, value_of
 from .topics import OF_CHILDREN, Topics, require_name, require_prefix
 
 PASSWORD_VARIABLE = "COGMAULA_PASSWORD"
@@ -305,21 +305,13 @@ class Settings:
                 return [self.live, "relay", str(self.child), str(self.floor), str(self.ceiling), *place]
 
 
-# The settings by the names of the tables of a TOML file.
-_TABLES = ("node", "basis", "broker", "page", "children", "device")
+# The tables of a node's file.
+TABLES = ("node", "basis", "broker", "page", "children", "device")
 
 
-def read_toml(path: str | os.PathLike[str], tables: Sequence[str] = _TABLES) -> dict[str, dict[str, Any]]:
-    """The tables of a file. Raises BadSettings if it is no TOML or has another table than these, and OSError."""
-    try:
-        told = tomllib.loads(Path(path).read_text())
-    except (tomllib.TOMLDecodeError, UnicodeDecodeError) as error:
-        raise BadSettings(f"{path}: {error}") from None
-    for name, table in told.items():
-        if name not in tables or not isinstance(table, dict):
-            words = [f"[{table}]" for table in tables]
-            raise BadSettings(f"{path}: {name} is not known there: a file has the tables {', '.join(words[:-1])} and {words[-1]}")
-    return told
+def read_toml(path: str | os.PathLike[str]) -> dict[str, dict[str, Any]]:
+    """The tables of a node's file. Raises BadSettings and OSError."""
+    return read_tables(path, TABLES)
 
 
 def settings_of(sort: Sort, tables: Mapping[str, Mapping[str, Any]]) -> Settings:
@@ -332,48 +324,18 @@ def settings_of(sort: Sort, tables: Mapping[str, Mapping[str, Any]]) -> Settings
     page = value_of(PageSettings, tables["page"], "page") if "page" in tables else None
     if {"sort", "basis", "broker", "page", "children", "device"} & node.keys():
         raise BadSettings("node has a member sort, basis, broker, page, children or device: the command says the sort, and the others are tables")
-    parts = {"sort": sort, "basis": basis, "broker": broker, "page": page, "children": children_of(tables.get("children", {}))}
+    parts: dict[str, Any] = {"sort": sort, "basis": basis, "broker": broker, "page": page, "children": children_of(tables.get("children", {}))}
     try:
         parts["device"] = DeviceKind.of(tables["device"]) if "device" in tables else None
     except BadFrame as error:
         raise BadSettings(f"device: {error}") from None
-    return cast(Settings, value_of(Settings, {**node, **parts}, "node"))
+    return value_of(Settings, {**node, **parts}, "node")
 
 
 def children_of(tables: Mapping[str, Any]) -> tuple[ChildSettings, ...]:
     """The bounds of children that the tables `children.NAME` tell, in the order of the children. Raises BadSettings."""
     found = []
     for name, table in tables.items():
-        if not isinstance(table, Mapping):
-            raise BadSettings(f"children.{name} is no table: write [children.{name}] with child, least and greatest")
-        found.append(cast(ChildSettings, value_of(ChildSettings, table, f"children.{name}")))
+        place = f"children.{name}"
+        found.append(value_of(ChildSettings, table_of(table, place), place))
     return tuple(sorted(found, key=lambda child: child.child))
-
-
-def value_of(kind: type[Any], table: Mapping[str, Any], name: str) -> Any:
-    """The value of a dataclass that a table of this name tells. Raises BadSettings."""
-    known = {field.name: str(field.type) for field in fields(kind)}
-    for member, value in table.items():
-        if member not in known:
-            raise BadSettings(f"{name}.{member} is not known: {', '.join(sorted(known))} are")
-        _require_type(f"{name}.{member}", value, known[member])
-    try:
-        return kind(**table)
-    except TypeError as error:
-        lacking = ", ".join(f"{name}.{word}" for word in known if f"'{word}'" in str(error))
-        raise BadSettings(f"{lacking or error} is missing") from None
-
-
-_WORDS = {"str": "a text", "int": "a whole number", "float": "a number", "bool": "true or false"}
-
-
-def _require_type(name: str, value: object, due: str) -> None:
-    """Raises BadSettings if a value is not of the type that a field's annotation names."""
-    word = due.partition(" ")[0]
-    if word not in _WORDS:
-        return
-    kinds: dict[str, tuple[type, ...]] = {"str": (str,), "int": (int,), "float": (int, float), "bool": (bool,)}
-    if value is None and "None" in due:
-        return
-    if not isinstance(value, kinds[word]) or (isinstance(value, bool) and word != "bool"):
-        raise BadSettings(f"{name} is {value!r}: give {_WORDS[word]}")

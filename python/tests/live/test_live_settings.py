@@ -152,9 +152,9 @@ def test_each_mistake_about_the_broker_has_a_line(more, why):
 
 
 def test_what_is_missing_is_named():
-    with pytest.raises(BadSettings, match="basis.min, basis.max, basis.steps is missing"):
+    with pytest.raises(BadSettings, match="basis.min, basis.max, basis.steps are missing"):
         settings_of("auctioneer", {"node": {"name": "a", "state": "x"}})
-    with pytest.raises(BadSettings, match="node.name, node.state is missing"):
+    with pytest.raises(BadSettings, match="node.name, node.state are missing"):
         settings_of("auctioneer", {"basis": {"min": 0, "max": 9, "steps": 2}})
     with pytest.raises(BadSettings, match="a relay needs parent"):
         settings_of("relay", {"node": {"name": "a", "state": "x"}, "basis": {"min": 0, "max": 9, "steps": 2}})
