@@ -27,10 +27,13 @@ import threading
 import time
 from pathlib import Path
 
-from live_network import PORT, Mosquitto, Network
 from live_parts import Spent, children_of, load, memory_line, times_text
 
 HERE = Path(__file__).resolve().parent
+sys.path.insert(0, str(HERE.parent))
+
+from trials.network import PORT, Mosquitto, Network  # noqa: E402
+
 PREFIX, CHILDREN = "market", 256
 # The seconds after which a part that does not answer has failed, and those within which a market has to come to rest.
 PATIENCE, REST = 300, 300

@@ -10,8 +10,9 @@ import signal
 import subprocess
 from pathlib import Path
 
-from live_found import Failed, wait_for
-from live_parts import children_of
+from bench.live_parts import children_of
+
+from .found import Failed, wait_for
 
 MIRROR = "http://deb.debian.org/debian"
 CGROUPS = Path("/sys/fs/cgroup")

@@ -1,7 +1,7 @@
 #!/usr/bin/env python3
 """Kills each part of a small market in turn while offers flow, and measures how long it takes until setpoints flow again.
 
-    live_kills.py [--times 5] [--only PART ..] ..
+    python3 -m trials.kills [--times 5] [--only PART ..] ..
 
 The auctioneer, two relays, six devices, the control of one device and the broker are in network namespaces of their own. Each
 part is killed by SIGKILL. A node and a control are started again after two seconds, as the unit of the example does, and the
@@ -25,9 +25,10 @@ import time
 from datetime import datetime, timezone
 from pathlib import Path
 
-from live_market import DEVICES, RESTART, Failed, Market
-from live_network import PORT
-from live_parts import load, times_text
+from bench.live_parts import load, times_text
+
+from .market import DEVICES, RESTART, Failed, Market
+from .network import PORT
 
 HERE = Path(__file__).resolve().parent
 # The device that has its control by topics, and the seconds after which the broker is started, and a trial has failed.
@@ -47,7 +48,7 @@ class Control:
 
     def start(self):
         """Starts it. It offers what it offered last."""
-        words = [sys.executable, "-B", str(HERE / "live_control.py"), self._market.broker.address, str(PORT), self._node.name]
+        words = [sys.executable, "-B", str(HERE / "control.py"), self._market.broker.address, str(PORT), self._node.name]
         self.process = self._market.network.start(
             f"{self._node.name}c", words, stdin=-1, stdout=-1, stderr=self._market.log, bufsize=0
         )
@@ -158,7 +159,7 @@ def words():
 def main():
     arguments = words()
     signal.signal(signal.SIGTERM, lambda *_: sys.exit(1))
-    with tempfile.TemporaryDirectory(prefix="live_kills.") as folder:
+    with tempfile.TemporaryDirectory(prefix="kills.") as folder:
         try:
             with open(Path(folder) / "log", "wb") as log:
                 measured(arguments, folder, log)

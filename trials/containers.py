@@ -1,7 +1,7 @@
 #!/usr/bin/env python3
 """Builds the images of the example, and tries the market of its compose.yaml in containers, by the words of docs/OPERATE.md.
 
-    live_image.py PACKAGE [--root FOLDER]
+    python3 -m trials.containers PACKAGE [--root FOLDER]
 
 PACKAGE is what `make deb` makes. Podman takes the place of Docker, with a storage of its own in a temporary folder, removed in
 the end. The base image debian:bookworm-slim is made by debootstrap, so no registry is asked. With --root it is made from that
@@ -26,8 +26,8 @@ import tempfile
 import time
 from pathlib import Path
 
-from live_found import Failed, Found, need, require, steps_of, wait_for
-from live_machine import CGROUPS, make_root
+from .found import Failed, Found, need, require, steps_of, wait_for
+from .machine import CGROUPS, make_root
 
 TOP = Path(__file__).resolve().parent.parent
 BASE = "docker.io/library/debian:bookworm-slim"
@@ -228,7 +228,7 @@ def main():
     )
     signal.signal(signal.SIGTERM, lambda *_: sys.exit(1))
     found = Found()
-    with tempfile.TemporaryDirectory(prefix="live_image.") as folder:
+    with tempfile.TemporaryDirectory(prefix="containers.") as folder:
         containers = Containers(folder, arguments.package)
         try:
             if arguments.root is None:

@@ -1,7 +1,7 @@
 #!/usr/bin/env python3
 """Runs a small market over a wire that loses, repeats, delays and reorders frames, and looks at each setpoint.
 
-    live_faults.py [--seconds 600] [--kill] [--forgets] [--record FOLDER] ..
+    python3 -m trials.lossy_wire [--seconds 600] [--kill] [--forgets] [--record FOLDER] ..
 
 The auctioneer, two relays, six devices and the broker are each in a network namespace of their own. The wire between them has
 the faults that `tc netem` would give each interface. Offers flow by chance, a few a second. With --kill services, nodes and the
@@ -21,9 +21,10 @@ import tempfile
 import time
 from pathlib import Path
 
-from live_market import KEEPS, PLACES, RESTART, Market
-from live_parts import load, times_text
-from live_wire import Faults, Wire
+from bench.live_parts import load, times_text
+
+from .market import KEEPS, PLACES, RESTART, Market
+from .wire import Faults, Wire
 
 # The seconds within which the healed market has to settle.
 REST = 180
@@ -121,7 +122,7 @@ def words():
 def main():
     arguments = words()
     signal.signal(signal.SIGTERM, lambda *_: sys.exit(1))
-    with tempfile.TemporaryDirectory(prefix="live_faults.") as folder:
+    with tempfile.TemporaryDirectory(prefix="lossy_wire.") as folder:
         with open(Path(folder) / "log", "wb") as log:
             is_right = measured(arguments, folder, log)
         if arguments.show or not is_right:

@@ -1,9 +1,9 @@
 #!/usr/bin/env python3
 """The control of a device, as a program of its own: it offers by the device's topic, and prints the setpoints of its topic.
 
-    live_control.py HOST PORT DEVICE
+    python3 -m trials.control HOST PORT DEVICE
 
-Each line of standard input is an offer, which is published as it is. Each setpoint is a line of standard output. live_kills.py
+Each line of standard input is an offer, which is published as it is. Each setpoint is a line of standard output. kills.py
 starts it, and kills it.
 """
 

@@ -1,7 +1,7 @@
 #!/usr/bin/env python3
 """Tries the units of the nodes and of the hub under systemd, in a machine of its own, by the words of the installed pages.
 
-    live_units.py PACKAGE [--root FOLDER] [--only nodes|hub]
+    python3 -m trials.units PACKAGE [--root FOLDER] [--only nodes|hub]
 
 PACKAGE is what `make deb` makes. The machine is a Debian 12 in a temporary folder, booted by systemd-nspawn, and removed in
 the end. With --root its files are copied from that folder, which is made first if it is missing, and kept. All nodes of the
@@ -24,8 +24,8 @@ import threading
 import time
 from pathlib import Path
 
-from live_found import Failed, Found, block_of, need, require, steps_of, wait_for, with_settings
-from live_machine import Machine, make_root
+from .found import Failed, Found, block_of, need, require, steps_of, wait_for, with_settings
+from .machine import Machine, make_root
 
 PACKAGES = ["systemd-sysv", "dbus", "python3", "python3-paho-mqtt", "python3-websockets"]
 PACKAGES += ["mosquitto", "mosquitto-clients", "openssl", "socat"]
@@ -507,7 +507,7 @@ def main():
     )
     signal.signal(signal.SIGTERM, lambda *_: sys.exit(1))
     found = Found()
-    with tempfile.TemporaryDirectory(prefix="live_units.") as folder:
+    with tempfile.TemporaryDirectory(prefix="units.") as folder:
         root = Path(arguments.root or Path(folder) / "made")
         if not root.exists():
             make_root(root, *PACKAGES)

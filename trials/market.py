@@ -14,7 +14,7 @@ import threading
 import time
 from pathlib import Path
 
-from live_network import PORT, Mosquitto, Network
+from .network import PORT, Mosquitto, Network
 
 TOP = Path(__file__).resolve().parent.parent
 STEPS = 20
