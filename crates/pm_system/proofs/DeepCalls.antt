@@ -1,5 +1,5 @@
 -- The worked system with two relays on the way: each call, one by one.
-use Rattle.std.proofs.Common.{◌≡◌, ◌∙◌, sym, ap, ℕ, ◌+◌, false, List, [], ◌∷◌, replicate, Some, refl, inl, inr, arith}
+use Rattle.std.proofs.Common.{◌∙◌, sym, ap, ℕ, ◌+◌, false, List, [], ◌∷◌, replicate, Some, refl, inl, inr, arith}
 use Rattle.pm_base.specs.Limits.{most_nodes}
 use Rattle.pm_base.specs.declared.limits.Limits.{Limits}
 use Rattle.pm_bid.specs.Clearing.{clearing_step}
@@ -7,14 +7,14 @@ use Rattle.pm_bid.specs.Taken.{said_between}
 use Rattle.pm_bid.specs.declared.head.BidHead.{BidHead}
 use Rattle.pm_cache.specs.Cache.{aggregate_of}
 use Rattle.pm_session.specs.Windows.{record_of}
-use Rattle.pm_market.specs.Lists.{parent, is_leaf, is_member, changes, IsConcentrator}
+use Rattle.pm_market.specs.Lists.{parent, is_leaf, is_member, changes}
 use Rattle.pm_market.specs.State.{update}
 use Rattle.pm_net.specs.Messages.{bid_message}
 use Rattle.pm_net.specs.Agents.{new_agent, after_offer, setpoints_for, after_price}
 use Rattle.pm_net_plan.specs.Places.{children_to, place_in}
 use Rattle.pm_concentrator.specs.Concentrators.{own_demand}
 use Rattle.pm_relay.specs.Numbers.{head_number}
-use Rattle.pm_relay.specs.Relays.{RelayValue, ComesBack, limits_places, with_child_bid}
+use Rattle.pm_relay.specs.Relays.{RelayValue, RelayComesBack, limits_places, with_child_bid}
 use Rattle.pm_relay.specs.Roots.{RootValue, with_root_bid}
 use Rattle.pm_relay.specs.declared.outcome.PriceOutcome.TheVariants.{PassedOn}
 use Rattle.pm_relay_net.specs.RelayIs.{LimitsPassBy, told_demand, update_of, prices_down}
@@ -25,7 +25,6 @@ use Rattle.pm_system.specs.Calls.{Does, Bids, TakesBid, Sends, Clears, TakesPric
 use Rattle.pm_system.specs.Given.{IsStarted}
 use Rattle.pm_system.specs.WorkedDeep.{deep_tree, deep_places, deep_limits, deep_pricing}
 use Rattle.pm_system.proofs.Worked.{reaches, reached, noted, one_kept, relay_back, new_root, sent_relay, cleared_root}
-use Rattle.pm_system.proofs.DeepGiven.{each_node}
 
 -- ---- the values
 
@@ -126,7 +125,7 @@ s13 = taken s12 4
 
 -- ---- the calls
 
-first : (l : Limits) → ComesBack 3 l 0 0 0 (replicate most_nodes 0) l (first_relay l)
+first : (l : Limits) → RelayComesBack 3 l 0 0 0 (replicate most_nodes 0) l (first_relay l)
 first l = record {
   gathered =
       record {
@@ -310,7 +309,7 @@ does_9 = record {
   index = 1;
   step = clearing_step (aggregate_of s8.root.auction.cache);
   cleared = record {
-    all = reached (replicate most_nodes 0) s8.root.auction.cache.heads refl;
+    caught_up = reached (replicate most_nodes 0) s8.root.auction.cache.heads refl;
     index = refl;
     cleared = record { changed = refl; index = refl; step = refl; cache = refl; new_index = refl; new_step = refl; not_changed = refl };
     numbers = λ child inside. noted s8.root.auction.cache.heads child;

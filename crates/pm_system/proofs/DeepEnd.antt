@@ -17,7 +17,7 @@ use Rattle.pm_relay.specs.declared.fault.RootFault.TheVariants as root_fault
 use Rattle.pm_relay.specs.Roots.{newest_index}
 use Rattle.pm_system.specs.System.{price_in_channel}
 use Rattle.pm_system.specs.Calls.{SystemRuns}
-use Rattle.pm_system.specs.Settled.{number_made, number_held, number_taken, index_of_held, head_held, numbers_counted, HasNothingToSend}
+use Rattle.pm_system.specs.Settled.{number_made, number_held, number_taken, index_of_held, numbers_counted, HasNothingToSend}
 use Rattle.pm_system.specs.Settled.{IsSettledSystem, IsTakenSystem}
 use Rattle.pm_system.specs.Flow.{TakeWhatWasTold}
 use Rattle.pm_system.specs.WorkedDeep.{deep_tree, deep_places, deep_limits, deep_pricing, deep_calls, DeepSettles}

@@ -153,9 +153,9 @@ pub fn a_small_system_settles()
     agents_come_back();
 }
 
-/// A law: so there are with two relays on the way. In a worked one a relay with limits that bind is below another relay, with a
-/// device below each: the calls run from a started system into a settled one, of which the numbers and indices alone tell. What
-/// the devices were told takes together what each relay announced, within its limits.
+/// A law: there are settled systems with two relays on the way. In a worked one a relay with limits that bind is below another,
+/// with a device below each: the calls run from a started system into a settled one, of which the numbers and indices alone
+/// tell. What the devices were told takes together what each relay announced, within its limits.
 pub fn a_deep_system_settles()
     ensures { DeepSettles }
 {
