@@ -11,9 +11,9 @@ use Rattle.pm_system.specs.System.{price_in_channel}
 use Rattle.pm_system.specs.Settled.{number_made, number_held, index_of_held, HasNothingToSend}
 use Rattle.pm_system.specs.Worked.{small_tree, small_places, small_limits}
 use Rattle.pm_system.proofs.Worked.{reaches, reached, suffices}
-use Rattle.pm_system.proofs.WorkedGiven.{each_node, only_one}
+use Rattle.pm_system.proofs.WorkedGiven.{each_node, each_leaf, only_one}
 use Rattle.pm_system.proofs.Given.{some_same}
-use Rattle.pm_lives.specs.Settled.{index_above, IsSettledWorld}
+use Rattle.pm_lives.specs.Settled.{index_above, number_stored, number_noted, IsSettledWorld, IsTakenWorld}
 use Rattle.pm_lives.specs.WorkedLives.{LivesSettle}
 use Rattle.pm_lives.proofs.WorkedWorlds.{w0, w1, w2, w3, w4, w5, w6, w7, w8, w9, w10, w11, w12, w13, w14, w15, w16, w17, w18, w19, w20, w21, w22}
 use Rattle.pm_lives.proofs.WorkedFirst.{does_1, does_2, does_3, does_4, does_5, does_6, does_7, does_8, does_9, does_10, does_11}
@@ -40,6 +40,21 @@ settled = record {
       (λ inner. (send_fault.NotChanged, (reached (w22.seen.relays 1).recorded (w22.seen.relays 1).gathered.cache.heads refl, refl), (λ e. absurd cc)))
       (λ inner. absurd cc) (λ inner. absurd cc) c (conc.0, conc.1) conc.2;
   root = (root_fault.NotChanged, (reached w22.seen.root.recorded w22.seen.root.auction.cache.heads refl, refl), (λ e. absurd cc));
+}
+
+-- by the numbers and indices in the newest messages alone
+taken : IsTakenWorld small_tree small_places w22
+unfolding parent is_leaf is_member changes update place_in children_to said_between reaches suffices
+taken = record {
+  up = settled.up;
+  bids = each_node (λ x. number_stored small_tree w22 x ≤ number_held small_tree small_places w22.seen x) (omega arith) (omega arith) (omega arith);
+  let_go = λ d leaf. omega arith;
+  noted = each_node (λ x. number_held small_tree small_places w22.seen x ≤ number_noted small_tree small_places w22 x) (omega arith) (omega arith)
+      (omega arith);
+  told = λ d leaf there. each_leaf
+      (λ x. (k : ℕ) × (k < length (w22.seen.prices_sent x)) × ((price_in_channel w22.seen x k).index ≡ w22.root_kept.last))
+      (0, omega arith, refl) (0, omega arith, refl) d leaf;
+  taken = λ d leaf there. each_leaf (λ d. w22.root_kept.last ≤ (w22.seen.agents d).index) (omega arith) (omega arith) d leaf;
 }
 
 -- the worked lives settle
@@ -138,6 +153,7 @@ settles = record {
     ),
   );
   settled = settled;
+  taken = taken;
   setpoints_2 = refl;
   setpoints_3 = refl;
 }

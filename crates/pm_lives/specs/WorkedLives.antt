@@ -10,7 +10,7 @@ use Rattle.pm_frames.specs.declared.device.DeviceFrame.TheVariants as device_fra
 use Rattle.pm_frames.specs.declared.form.OfferForm.TheVariants.{Array}
 use Rattle.pm_system.specs.Worked.{small_tree, small_places, small_device_demand, small_pricing, told_2, told_3}
 use Rattle.pm_lives.specs.Lives.{World, LifeStep, RelayUp, Relay, RootUp, Root, DeviceUp, Device, Live, IsNewWorld}
-use Rattle.pm_lives.specs.Settled.{IsSettledWorld}
+use Rattle.pm_lives.specs.Settled.{IsSettledWorld, IsTakenWorld}
 
 -- three steps, of prices 0, 10 and 20
 abbrev pub small_basis : BasisValue
@@ -36,5 +36,6 @@ pub record LivesSettle : Type 0 where
   pub new : World
   pub live : Live small_tree small_pricing small_places world small_steps new
   pub settled : IsSettledWorld small_tree small_places new
+  pub taken : IsTakenWorld small_tree small_places new
   pub setpoints_2 : new.seen.setpoints 2 ≡ told_2 ∷ []
   pub setpoints_3 : new.seen.setpoints 3 ≡ told_3 ∷ []

@@ -68,7 +68,7 @@ ghost use Rattle.pm_net.specs.Agents.{Setpoint};
 ghost use Rattle.pm_system.specs.Flow.{FlowsIn, TakeWhatWasTold};
 ghost use Rattle.pm_system.specs.Settled.{numbers_counted};
 ghost use Rattle.pm_lives.specs.Lives.{BeginsOnce};
-ghost use Rattle.pm_lives.specs.Settled.{IsSettledWorld, IsCurrentWorld};
+ghost use Rattle.pm_lives.specs.Settled.{IsSettledWorld, IsTakenWorld, IsCurrentWorld};
 ghost use Rattle.pm_base.specs.Limits.{AreLimits};
 ghost use Rattle.pm_lives.specs.Free.{LiveFree, HasLists};
 ghost use Rattle.pm_lives.specs.WorkedLives.{LivesSettle};
@@ -143,7 +143,9 @@ pub fn lives_keep_the_law()
 /// if each parent holds the newest bid of its child and the newest number under which it let it go, each node took the newest
 /// price that was handed to it, a parent's newest price was handed to each child that it counts, and nobody has anything to
 /// send; whatever was cut off or lost before. Then each member that counts holds the price of the newest clearing, over all
-/// newest bids, and the control of one that had one life was told the power. If all below a relay take what they were told
+/// newest bids, and the control of one that had one life was told the power. The newest messages alone tell so: it is enough that
+/// the newest bid of each child is held by its parent's process, and named in the parent's newest Resume, and that each device
+/// took the price of the newest clearing. If all below a relay take what they were told
 /// so, they take together what the relay announced. The setpoints of a device that had one life have rising indices.
 pub fn settled_lives_are_current()
     ensures current { (lists : Lists) (p : Pricing) (numbering : Numbering) (start : System)
@@ -151,6 +153,11 @@ pub fn settled_lives_are_current()
         IsStarted lists p start → IsNewWorld p numbering world →
         Live lists p numbering world steps new →
         IsSettledWorld lists numbering new → IsCurrentWorld lists p numbering steps new }
+    ensures taken { (lists : Lists) (p : Pricing) (numbering : Numbering) (start : System)
+        (world new : World) (steps : List LifeStep) → IsTreeMarket lists p numbering →
+        IsStarted lists p start → IsNewWorld p numbering world →
+        Live lists p numbering world steps new →
+        IsTakenWorld lists numbering new → IsCurrentWorld lists p numbering steps new }
     ensures flows { (lists : Lists) (p : Pricing) (numbering : Numbering) (world : World) →
         IsTreeMarket lists p numbering →
         FlowsIn lists p (numbers_counted lists numbering world.seen)

@@ -13,19 +13,21 @@ use Rattle.pm_system.specs.Given.{IsTreeMarket, IsStarted}
 use Rattle.pm_system.specs.Flow.{FlowsIn, TakeWhatWasTold}
 use Rattle.pm_system.specs.Settled.{numbers_counted}
 use Rattle.pm_lives.specs.Lives.{World, LifeStep, LivesKeepTheLaw, BeginsOnce}
-use Rattle.pm_lives.specs.Settled.{IsSettledWorld, IsCurrentWorld}
+use Rattle.pm_lives.specs.Settled.{IsSettledWorld, IsTakenWorld, IsCurrentWorld}
 use Rattle.pm_lives.specs.Free.{HasLists}
 use Rattle.pm_processes.specs.History.{Scene, HistoryEvent, Happen, IsNewScene}
 
 -- There are lives that come to this world, over lists in which each device offers what its control offered. All prices that were handed out are of
 -- one legal journal; each names its receiver's own number and local step in the cut of its clearing, and each setpoint that was
--- handed out is the power of the device's own offer of its number at that step. If the world is settled, it is current. All below a
+-- handed out is the power of the device's own offer of its number at that step. If the world is settled, or taken by the numbers and
+-- indices in its newest messages alone, it is current. All below a
 -- relay that take what they were told take together what it announced. The setpoints of a device of one process have rising indices.
 pub record HistoryKeepsTheLaw (tree : Lists) (p : Pricing) (numbering : Numbering) (first last : World) : Type 0 where
   pub steps : List LifeStep
   pub has : HasLists tree p numbering first steps last
   pub law : LivesKeepTheLaw has.lists has.pricing last
   pub current : IsSettledWorld has.lists numbering last → IsCurrentWorld has.lists has.pricing numbering steps last
+  pub taken : IsTakenWorld has.lists numbering last → IsCurrentWorld has.lists has.pricing numbering steps last
   pub flows : FlowsIn has.lists has.pricing (numbers_counted has.lists numbering last.seen)
       (TakeWhatWasTold has.lists has.pricing (numbers_counted has.lists numbering last.seen) last.seen)
   pub rising : (d : ℕ) → IsLeaf has.lists d → BeginsOnce d steps → AllPairs (λ (a b : Setpoint). a.index < b.index) (last.seen.setpoints d)

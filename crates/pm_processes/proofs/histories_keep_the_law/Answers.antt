@@ -29,6 +29,8 @@ returns c tree p numbering market around start started first last events none ha
       law = c.lives_keep_the_law.ensures.law has.lists has.pricing numbering start first.world last.world lived.steps has.market from new has.live;
       current = λ settled. c.settled_lives_are_current.ensures.current has.lists has.pricing numbering start first.world last.world lived.steps
           has.market from new has.live settled;
+      taken = λ all. c.settled_lives_are_current.ensures.taken has.lists has.pricing numbering start first.world last.world lived.steps
+          has.market from new has.live all;
       flows = c.settled_lives_are_current.ensures.flows has.lists has.pricing numbering last.world has.market;
       rising = λ d leaf once. c.settled_lives_are_current.ensures.rising has.lists has.pricing numbering start first.world last.world lived.steps d
           has.market from new has.live leaf once;
