@@ -1,9 +1,11 @@
-"""Runs the built program where memory is wanting, and looks whether it ends as it should: with its whole text, or with the
+"""Runs the built programs where memory is wanting, and looks whether they end as they should: with the whole text, or with the
 status of an allocation failure and no text. A trace is tried on files of which only one journal is legal.
 
+    python3 -m checks.drive.memory MARKET LIVE [all]
+
 Each allocation of a run is refused in turn, alone and with all that come after it; and the address space is limited, so
-that some threads, or all, cannot be started. A service may have written a part of the answers before. Without an argument a
-sample is tried, with `all` each number. checks/drive/refuse.c refuses the allocations; without a C compiler only the limits
+that some threads, or all, cannot be started. A service and a node of LIVE may have written a part of the answers before. Without `all` a
+sample is tried, with it each number. checks/drive/refuse.c refuses the allocations; without a C compiler only the limits
 are tried.
 """
 
@@ -16,9 +18,14 @@ import tempfile
 from pathlib import Path
 
 from checks import CASES, TOP
+from checks.make.nodes import rows
 from checks.make.streams import small_stream
 
 DONE, NO_MEMORY = 0, 7
+# The commands that answer a stream piece by piece.
+SERVICES = ("serve", "relay", "auctioneer", "device")
+# The streams of nodes that are tried: of the longest frames, and behind a Resume.
+NODE_STREAMS = ("1000 steps", "a price that waits and is told", "the prices again", "let go with a full window")
 SECONDS = 60
 # How many allocations of a run are refused in a sample, and how many limits are tried.
 SAMPLE = 12
@@ -45,7 +52,7 @@ def run(program, arguments, text, settings=None, limit=None):
 def is_right(arguments, ended, due):
     """Whether a run ended whole, or for want of memory: then without a text, or as a service with a part of the answers."""
     status, text = ended
-    if status == NO_MEMORY and arguments == ["serve"]:
+    if status == NO_MEMORY and arguments[0] in SERVICES:
         return due.startswith(text)
     return ended in ((DONE, due), (NO_MEMORY, b""))
 
@@ -111,7 +118,15 @@ def limits(program, arguments, text, nodes, everything):
         yield f"{' '.join(arguments)}: {limit // 1024} KB: status {ended[0]}", is_right(arguments, ended, due)
 
 
-def main(program, everything):
+def node_streams():
+    """The arguments of a node and what it reads, of each stream that is tried."""
+    found = [(name, arguments, data) for name, arguments, data, status, _ in rows() if name in NODE_STREAMS and status == DONE]
+    if {name for name, _, _ in found} != set(NODE_STREAMS):
+        raise SystemExit(f"checks/make/nodes.py has not each of the streams {', '.join(NODE_STREAMS)}")
+    return [(arguments, data) for _, arguments, data in found]
+
+
+def main(program, live, everything):
     two_bids = (CASES / "run" / "two_bids.json").read_bytes()
     lone_load = (CASES / "trace" / "only_trace.json").read_bytes()
     village = (TOP / "examples" / "village.json").read_bytes()
@@ -123,8 +138,9 @@ def main(program, everything):
     with tempfile.TemporaryDirectory() as name:
         folder = Path(name)
         library = built_shim(folder)
-        for arguments, text in refused if library else []:
-            tried += refusals(program, arguments, text, library, folder, everything)
+        runs = [(program, *it) for it in refused] + [(live, *it) for it in node_streams()]
+        for one, arguments, text in runs if library else []:
+            tried += refusals(one, arguments, text, library, folder, everything)
     tried += limits(program, ["demo", "200", "7"], b"", 211, everything)
     failed = [told for told, right in tried if not right]
     for told in failed:
@@ -134,4 +150,4 @@ def main(program, everything):
 
 
 if __name__ == "__main__":
-    sys.exit(main(sys.argv[1], sys.argv[2:] == ["all"]))
+    sys.exit(main(sys.argv[1], sys.argv[2], sys.argv[3:] == ["all"]))
