@@ -11,7 +11,9 @@ import math
 from collections.abc import Iterable, Sequence
 from datetime import datetime
 from decimal import Decimal
-from typing import Any
+from importlib import import_module
+from types import ModuleType
+from typing import TYPE_CHECKING, Any
 
 from .cluster import Cluster
 from .errors import NoPackage
@@ -20,17 +22,20 @@ from .nodes import Limited
 from .states import snapshots
 from .texts import Answers, Bill, PhaseEnd
 
+if TYPE_CHECKING:
+    from numpy.typing import NDArray
+    from pandas import DataFrame, MultiIndex
+
 # The first moment of a run if the user gives none.
 START = datetime(2000, 1, 1)
 
 
-def pandas() -> Any:
+def pandas() -> ModuleType:
     """The module pandas. Raises NoPackage if it is not installed."""
     try:
-        import pandas as module
+        return import_module("pandas")
     except ImportError:
         raise NoPackage("data frames need pandas: on Debian, apt-get install python3-pandas") from None
-    return module
 
 
 def arrays() -> None:
@@ -41,14 +46,14 @@ def arrays() -> None:
         raise NoPackage("figures and bills of spans need numpy: on Debian, apt-get install python3-numpy") from None
 
 
-def index_of(times: Sequence[datetime], ends: Sequence[PhaseEnd]) -> Any:
+def index_of(times: Sequence[datetime], ends: Sequence[PhaseEnd]) -> MultiIndex:
     """The index of `time` and `phase`, a row for each phase."""
     pd = pandas()
     stamps = pd.DatetimeIndex(times, name="time")
     return pd.MultiIndex.from_arrays([stamps, [end.phase for end in ends]], names=["time", "phase"])
 
 
-def prices(index: Any, ends: Sequence[PhaseEnd], durations: Sequence[int]) -> Any:
+def prices(index: MultiIndex, ends: Sequence[PhaseEnd], durations: Sequence[int]) -> DataFrame:
     """A row for each phase: price, step, total_W, members, minutes. All are int64."""
     columns = {
         "price": [end.price for end in ends],
@@ -60,7 +65,7 @@ def prices(index: Any, ends: Sequence[PhaseEnd], durations: Sequence[int]) -> An
     return pandas().DataFrame(columns, index=index, dtype="int64")
 
 
-def wide(index: Any, names: Iterable[str], rows: Sequence[dict[str, int]]) -> Any:
+def wide(index: MultiIndex, names: Iterable[str], rows: Sequence[dict[str, int]]) -> DataFrame:
     """A row for each phase and a column for each name. Its dtype is Int64: <NA> where a row lacks the name."""
     pd = pandas()
     columns = {name: pd.array([row.get(name) for row in rows], dtype="Int64") for name in names}
@@ -69,7 +74,7 @@ def wide(index: Any, names: Iterable[str], rows: Sequence[dict[str, int]]) -> An
     return frame
 
 
-def states(index: Any, cluster: Cluster, ends: Sequence[PhaseEnd]) -> Any:
+def states(index: MultiIndex, cluster: Cluster, ends: Sequence[PhaseEnd]) -> DataFrame:
     """The state of each device but the manual ones at the end of each phase, wide."""
     numbers = [
         {name: state for name, state in now.states.items() if isinstance(state, int)} for now in snapshots(cluster, ends)
@@ -77,7 +82,7 @@ def states(index: Any, cluster: Cluster, ends: Sequence[PhaseEnd]) -> Any:
     return wide(index, [device.name for device in cluster.devices if device.kind != "manual"], numbers)
 
 
-def limited_groups(times: Sequence[datetime], cluster: Cluster, ends: Sequence[PhaseEnd], durations: Sequence[int]) -> Any:
+def limited_groups(times: Sequence[datetime], cluster: Cluster, ends: Sequence[PhaseEnd], durations: Sequence[int]) -> DataFrame:
     """A row for each phase and limited concentrator: the price below it, the sum there, its limits and what is past them."""
     pd = pandas()
     limits = {node.name: (node.floor, node.ceiling) for node in cluster.nodes if isinstance(node, Limited)}
@@ -96,7 +101,7 @@ def limited_groups(times: Sequence[datetime], cluster: Cluster, ends: Sequence[P
     return pd.DataFrame(rows, index=index, columns=names, dtype="int64")
 
 
-def accounts(bill: Bill) -> Any:
+def accounts(bill: Bill) -> DataFrame:
     """A row for each device, and one for the grid with an empty name: amount, taken_Wmin, given_Wmin.
 
     The index has two levels, `party` (device or grid) and `name`. `amount` holds Python's whole numbers, since it may be past 64
@@ -112,13 +117,13 @@ def accounts(bill: Bill) -> Any:
     return frame
 
 
-def simple(frame: Any) -> Any:
+def simple(frame: DataFrame) -> DataFrame:
     """The frame with plain columns and plain names, as HDF5 holds them: numbers that may be missing as floats, large ones as text."""
     kinds = {name: str if kind == object else "float64" if str(kind) == "Int64" else kind for name, kind in frame.dtypes.items()}
     return frame.astype(kinds)
 
 
-def money_accounts(bill: Bill, currency: Currency, number: type[float] | type[Decimal]) -> Any:
+def money_accounts(bill: Bill, currency: Currency, number: type[float] | type[Decimal]) -> DataFrame:
     """The accounts in kilowatt-hours and money: amount_UNIT, taken_kWh, given_kWh, each the float or decimal number nearest the exact value."""
     exact = accounts(bill)
     made: Any = float if number is float else decimal_of
@@ -129,7 +134,7 @@ def money_accounts(bill: Bill, currency: Currency, number: type[float] | type[De
     return frame
 
 
-def series(start: datetime, names: Sequence[str], powers: Any, members: Any, minutes: Sequence[int]) -> Any:
+def series(start: datetime, names: Sequence[str], powers: NDArray[Any], members: NDArray[Any], minutes: Sequence[int]) -> DataFrame:
     """A row for each stretch of time over which powers hold, all equally long: Int64 by device, <NA> if no member.
 
     powers, members: of each interval and device; minutes: how long each interval lasts. If they differ, a row is as long as their
@@ -145,7 +150,7 @@ def series(start: datetime, names: Sequence[str], powers: Any, members: Any, min
     return frame
 
 
-def curve(answers: Answers) -> Any:
+def curve(answers: Answers) -> DataFrame:
     """A row for each step that answers some target: step, price, from_W, to_W. The last two are Int64, <NA> for no limit."""
     pd = pandas()
     return pd.DataFrame(
@@ -158,7 +163,7 @@ def curve(answers: Answers) -> Any:
     )
 
 
-def targets(answers: Answers) -> Any:
+def targets(answers: Answers) -> DataFrame:
     """A row for each target in order: target_W, price, step, total_W. All are int64."""
     columns = {
         "target_W": [answer.target for answer in answers.answers],

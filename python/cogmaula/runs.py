@@ -22,6 +22,7 @@ from .texts import Bill, PhaseEnd, Report, bill_of, report_of, report_text
 
 if TYPE_CHECKING:
     from matplotlib.figure import Figure
+    from pandas import DataFrame, MultiIndex
 
     from .figures import Figures
     from .held import Held
@@ -96,11 +97,11 @@ class Run:
     # Data frames.
 
     @cached_property
-    def _index(self) -> Any:
+    def _index(self) -> MultiIndex:
         return frames.index_of(self.times, self.ends)
 
     @cached_property
-    def prices(self) -> Any:
+    def prices(self) -> DataFrame:
         """A row for each phase, with the index (time, phase). All columns are int64.
 
         price:   the clearing price, in price units
@@ -119,7 +120,7 @@ class Run:
 
         return held_of(self.cluster, self.ends)
 
-    def series(self) -> Any:
+    def series(self) -> DataFrame:
         """The power of each device over time, as an index of times wants it: Int64 by device, <NA> if no member.
 
         Only what holds for some time has a row, which begins at its time and is as long as all others. So the index is unique and has its
@@ -130,7 +131,7 @@ class Run:
         return frames.series(self.start, held.names, held.powers, held.members, held.minutes.tolist())
 
     @cached_property
-    def powers(self) -> Any:
+    def powers(self) -> DataFrame:
         """The power of each device in watts, positive if it takes power: (time, phase) by device, Int64, <NA> if no member.
 
         Phases that last no time have rows too. Drop them before you add up or take means: `powers[prices["minutes"] > 0]`, or take
@@ -139,12 +140,12 @@ class Run:
         return frames.wide(self._index, [device.name for device in self.cluster.devices], [end.powers for end in self.ends])
 
     @cached_property
-    def bids(self) -> Any:
+    def bids(self) -> DataFrame:
         """The number of each device's bid, which is that of its last change: shaped as `powers`."""
         return frames.wide(self._index, [device.name for device in self.cluster.devices], [end.bids for end in self.ends])
 
     @cached_property
-    def states(self) -> Any:
+    def states(self) -> DataFrame:
         """The state of each device but the manual ones: (time, phase) by device, Int64. Devices keep it while they are no members.
 
         Of a battery it is the charge in watt-hours, of a freezer, heat pump or cogeneration unit the temperature in the unit of
@@ -153,7 +154,7 @@ class Run:
         return frames.states(self._index, self.cluster, self.ends)
 
     @cached_property
-    def limited_groups(self) -> Any:
+    def limited_groups(self) -> DataFrame:
         """A row for each phase and limited concentrator, with the index (time, phase, group). All columns are int64.
 
         price, step:        what holds for the nodes below it
@@ -165,7 +166,7 @@ class Run:
         return frames.limited_groups(self.times, self.cluster, self.ends, self.durations)
 
     @cached_property
-    def violations(self) -> Any:
+    def violations(self) -> DataFrame:
         """The rows of `limited_groups` in which the sum is outside the limits: no price brings the group within them."""
         return self.limited_groups[self.limited_groups["excess_W"] != 0]
 
@@ -178,7 +179,7 @@ class Run:
         return self._bill() if self._bill else bill_of(self.program.answer("bill", self.cluster.to_bytes()))
 
     @cached_property
-    def accounts(self) -> Any:
+    def accounts(self) -> DataFrame:
         """A row for each device and for the grid, with the index (party, name): amount, taken_Wmin, given_Wmin.
 
         `party` is device or grid, so that a device called grid is another row. `amount` is in price units times watts times
@@ -232,7 +233,7 @@ class Run:
 
     # Files.
 
-    def tables(self) -> dict[str, Any]:
+    def tables(self) -> dict[str, DataFrame]:
         """Each data frame by its name."""
         return {name: getattr(self, name) for name in TABLES}
 
@@ -286,7 +287,7 @@ class Run:
         write_netcdf(self, path, households)
         return Path(path)
 
-    def _write(self, folder: str | os.PathLike[str], ending: str, write: Any) -> list[Path]:
+    def _write(self, folder: str | os.PathLike[str], ending: str, write: Callable[[DataFrame, Path], object]) -> list[Path]:
         place = Path(folder)
         place.mkdir(parents=True, exist_ok=True)
         paths = []
@@ -343,7 +344,7 @@ def _parquet_engine() -> str:
     raise NoPackage("Parquet needs pyarrow or fastparquet beside pandas: install one of them, or write CSV")
 
 
-def _plain(frame: Any) -> Any:
+def _plain(frame: DataFrame) -> DataFrame:
     """The frame with whole numbers of any size as text, which Parquet can hold."""
     large = [name for name, kind in frame.dtypes.items() if kind == object]
     return frame.astype(dict.fromkeys(large, "string"))

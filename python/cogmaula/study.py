@@ -10,7 +10,7 @@ from collections.abc import Callable, Iterable, Iterator, Mapping, Sequence
 from concurrent.futures import ProcessPoolExecutor
 from dataclasses import dataclass, fields, is_dataclass
 from pathlib import Path
-from typing import Any, Generic, Literal, TypeVar
+from typing import TYPE_CHECKING, Any, Generic, Literal, TypeVar
 
 from . import frames
 from .cluster import Cluster, Source, bytes_of
@@ -20,6 +20,9 @@ from .processors import count, dealt, keep_to_one
 from .program import Program, found_program
 from .progress import tracked
 from .whole import whole_run
+
+if TYPE_CHECKING:
+    from pandas import DataFrame
 
 T = TypeVar("T")
 # What a study does with each cluster: it is given the bytes of the file and the program. It has to be a function of a module, so that
@@ -239,7 +242,7 @@ def _by_client(client: Any, jobs: Sequence[_Job[T]]) -> Iterator[Outcome[T]]:
         yield future.result()
 
 
-def frame_of(outcomes: Iterable[Outcome[Any]]) -> Any:
+def frame_of(outcomes: Iterable[Outcome[Any]]) -> DataFrame:
     """The outcomes as a data frame, which needs pandas: a row for each, by its name, with its digest, its fault and its result.
 
     A result that is a data class has a column for each of its members, and any other one the column `result`.

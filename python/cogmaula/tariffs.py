@@ -7,10 +7,13 @@ from __future__ import annotations
 
 from collections.abc import Mapping, Sequence
 from dataclasses import dataclass
-from datetime import time
-from typing import Any
+from datetime import datetime, time
+from typing import TYPE_CHECKING
 
 from .frames import pandas
+
+if TYPE_CHECKING:
+    from pandas import DataFrame, DatetimeIndex, Index, Series
 
 COLUMNS = ["bought_kWh", "sold_kWh", "bought", "sold", "fee", "vat", "total"]
 
@@ -29,7 +32,7 @@ class Hours:
     sell: float | None = None
     days: tuple[int, ...] = tuple(range(7))
 
-    def holds(self, moment: Any) -> bool:
+    def holds(self, moment: datetime) -> bool:
         """Whether a moment lies in these hours, by the clock of its zone. A day is that on which the moment lies."""
         at = moment.time()
         inside = self.begin <= at < self.end if self.begin < self.end else at >= self.begin or at < self.end
@@ -48,13 +51,13 @@ class Tariff:
     """
 
     currency: str
-    buy: Any
-    sell: Any
+    buy: float | Series
+    sell: float | Series
     hours: Sequence[Hours] = ()
     fee: float = 0.0
     vat: float = 0.0
 
-    def prices(self, index: Any) -> Any:
+    def prices(self, index: DatetimeIndex) -> DataFrame:
         """The prices at the times of an index: a frame with the columns buy and sell. It needs pandas.
 
         Raises ValueError if a series has no price of the first time.
@@ -68,7 +71,7 @@ class Tariff:
                     frame.loc[inside, name] = price
         return frame
 
-    def _over(self, price: Any, index: Any) -> Any:
+    def _over(self, price: float | Series, index: DatetimeIndex) -> float | Series:
         """A price at the times of an index."""
         pd = pandas()
         if not isinstance(price, pd.Series):
@@ -78,7 +81,7 @@ class Tariff:
             raise ValueError(f"the series of prices begins at {price.index[0]}, behind the first time, {index[0]}")
         return found
 
-    def bill(self, power: Any) -> Any:
+    def bill(self, power: DataFrame) -> DataFrame:
         """The bill of each household and month, a row each: energies in kWh, and amounts in the currency.
 
         power: watts that each household takes from the supplier, below 0 if it delivers: a column for each, and a row for each interval, with
@@ -95,7 +98,7 @@ class Tariff:
         rows = {name: self._rows(kwh[name], prices, months) for name in kwh.columns}
         return pd.concat(rows, names=["household", "month"])
 
-    def _rows(self, kwh: Any, prices: Any, months: Any) -> Any:
+    def _rows(self, kwh: Series, prices: DataFrame, months: Index) -> DataFrame:
         """The months of a household."""
         taken, given = kwh.clip(lower=0), -kwh.clip(upper=0)
         parts = {"bought_kWh": taken, "sold_kWh": given, "bought": taken * prices.buy, "sold": given * prices.sell}
@@ -106,7 +109,7 @@ class Tariff:
         return frame[COLUMNS]
 
 
-def households(power: Any, members: Mapping[str, Sequence[str]]) -> Any:
+def households(power: DataFrame, members: Mapping[str, Sequence[str]]) -> DataFrame:
     """The power of each household, from that of its devices: a frame with a column for each.
 
     power:   watts, a column for each device, such as `run.series()`

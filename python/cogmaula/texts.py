@@ -9,10 +9,13 @@ import sys
 from collections.abc import Iterable, Iterator
 from dataclasses import dataclass
 from decimal import Decimal
-from typing import Any
+from typing import TYPE_CHECKING
 
 from .errors import ProgramFault
 from .money import Currency, Rate, currency_of
+
+if TYPE_CHECKING:
+    from pandas import DataFrame
 
 
 @dataclass(frozen=True)
@@ -84,7 +87,7 @@ class Bill:
     ticks: int
     minutes: int
 
-    def __call__(self, currency: str, per_kwh: Rate, number: type[float] | type[Decimal] = float) -> Any:
+    def __call__(self, currency: str, per_kwh: Rate, number: type[float] | type[Decimal] = float) -> DataFrame:
         """A row for each device and for the grid, with the index (party, name): amount_UNIT, taken_kWh, given_kWh.
 
         currency: the unit of money, such as EUR, which names the column

@@ -3,9 +3,9 @@
 from __future__ import annotations
 
 from collections.abc import Iterable
-from datetime import timedelta
+from datetime import datetime, timedelta
 from pathlib import Path
-from typing import Any
+from typing import TYPE_CHECKING
 
 from ..cluster import Basis, Cluster
 from ..frames import pandas
@@ -16,11 +16,14 @@ from .making import made_of
 from .recipe import Recipe, Table
 from .tables import Measured
 
+if TYPE_CHECKING:
+    from pandas import DataFrame
+
 MINUTE = timedelta(minutes=1)
 
 
 def cluster_from_frames(
-    basis: Basis, load: Any = None, solar: Any = None, *, nodes: Iterable[Node] = (), parent: str = "auctioneer"
+    basis: Basis, load: DataFrame | None = None, solar: DataFrame | None = None, *, nodes: Iterable[Node] = (), parent: str = "auctioneer"
 ) -> Cluster:
     """The cluster of data frames of loads and solar panels.
 
@@ -45,7 +48,7 @@ def cluster_from_frames(
     return made_of(recipe, tables, list(nodes)).cluster
 
 
-def times_of(kind: str, frame: Any) -> list[Any]:
+def times_of(kind: str, frame: DataFrame) -> list[datetime]:
     """The times of a frame's rows, as datetimes; those with a zone in UTC."""
     pd = pandas()
     if not isinstance(frame, pd.DataFrame) or not isinstance(frame.index, pd.DatetimeIndex) or not len(frame) or not len(frame.columns):
@@ -54,7 +57,7 @@ def times_of(kind: str, frame: Any) -> list[Any]:
     return [time.to_pydatetime() for time in index]
 
 
-def minutes_of(kind: str, frame: Any) -> int:
+def minutes_of(kind: str, frame: DataFrame) -> int:
     """The minutes of the frame's first row."""
     times = times_of(kind, frame)
     apart: timedelta = times[1] - times[0] if len(times) > 1 else 60 * MINUTE
@@ -64,7 +67,7 @@ def minutes_of(kind: str, frame: Any) -> int:
     return minutes
 
 
-def measured_of(kind: str, frame: Any, minutes: int) -> Measured:
+def measured_of(kind: str, frame: DataFrame, minutes: int) -> Measured:
     """What a frame says, in whole watts."""
     times = times_of(kind, frame)
     for before, time in zip(times, times[1:]):

@@ -7,7 +7,7 @@ from collections.abc import Mapping
 from dataclasses import dataclass
 from decimal import Decimal
 from pathlib import Path
-from typing import Any
+from typing import TYPE_CHECKING, Any
 from zoneinfo import ZoneInfo
 
 from ..frames import pandas
@@ -15,6 +15,9 @@ from ..tariffs import Hours, Tariff, households
 from .faults import RecipeFault, TableFault
 from .recipe import PRICE_UNITS, PriceTable, Window, at_place, maps_of, refuse_words, text_of, typed, window_of
 from .sheets import number_of, read_rows, spaced
+
+if TYPE_CHECKING:
+    from pandas import DataFrame, Series
 
 SUPPLY_WORDS = {"currency", "buy", "sell", "fee", "vat", "time", "prices", "households"}
 PRICES_WORDS = {"file", "unit", "minutes", "markup", "delimiter", "decimal"}
@@ -36,7 +39,7 @@ class Supply:
     tariff: Tariff
     households: Mapping[str, tuple[str, ...]]
 
-    def bill(self, power: Any, connection: str | None = None) -> Any:
+    def bill(self, power: DataFrame, connection: str | None = None) -> DataFrame:
         """The bill of each household and month, as `Tariff.bill` has it.
 
         power:      watts, a column for each device, such as `run.series()`
@@ -106,7 +109,7 @@ def hours_of(window: Window) -> Hours:
     return Hours(window.begin, window.end, buy, sell, DAYS[window.days])
 
 
-def series_of(path: Path, told: Any, timezone: ZoneInfo | None) -> tuple[Any, float]:
+def series_of(path: Path, told: Any, timezone: ZoneInfo | None) -> tuple[Series, float]:
     """The series of prices by the kilowatt-hour, over its times, and the markup on what is bought."""
     if not isinstance(told, dict):
         raise RecipeFault("it is no table: write [prices] with file and unit below it")

@@ -9,7 +9,7 @@ from __future__ import annotations
 from collections.abc import Iterable, Iterator
 from dataclasses import dataclass
 from datetime import datetime
-from typing import Any
+from typing import TYPE_CHECKING
 
 from .. import frames
 from ..errors import ProgramFault
@@ -18,6 +18,9 @@ from ..money import WATT_MINUTES, Currency, energy
 from ..runs import Run
 from ..texts import Account, Bill
 from .times import intervals_of, spans_of
+
+if TYPE_CHECKING:
+    from pandas import DataFrame
 
 __all__ = ["WATT_MINUTES", "Currency", "Span", "add_up", "bill_with_supplier", "bills_of", "energy", "frame_of", "sum_of"]
 
@@ -53,7 +56,7 @@ def bills_of(run: Run, minutes: int, connection: str | None = None) -> Iterator[
         yield Span(begin, end, one)
 
 
-def frame_of(spans: Iterable[Span], start: datetime) -> Any:
+def frame_of(spans: Iterable[Span], start: datetime) -> DataFrame:
     """The bills of spans as a data frame, which needs pandas: a row for each span and device, and one for the grid.
 
     start: the moment before the first phase
