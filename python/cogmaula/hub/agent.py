@@ -11,8 +11,8 @@ from collections.abc import Callable
 from typing import Protocol
 
 from ..logs import NodeLog
+from .agent_messages import LEAVE_OFFER, update_of
 from .running import Running
-from .words import LEAVE_OFFER, update_of
 
 
 class Listener(Protocol):

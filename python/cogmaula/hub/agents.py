@@ -11,13 +11,13 @@ from ..live.node import Node
 from ..live.sessions import Session
 from ..logs import NodeLog
 from .agent import Agent
+from .agent_messages import LEAVE_OFFER, Login, quoted
 from .exchange import Exchange
 from .places import Place, keep_place, places_in, require_places
 from .refusals import NodeDown, TooManyWrongLogins, WrongLogin
 from .running import Running
 from .settings import HubSettings
 from .tokens import Entries, Entry, FailedLogins, TokenFile, hash_of
-from .words import LEAVE_OFFER, Login, quoted
 
 # The seconds between looks at the clock of an agent's node, if nothing else happens. 256 of them would be dear at the usual rate.
 TICK = 1.0

@@ -22,6 +22,7 @@ from ..live.sessions import Session, now_text
 from ..logs import NodeLog
 from .admission import Admission, Guest, files_allowed
 from .agent import Agent
+from .agent_messages import error_line, welcome
 from .agents import Agents
 from .connection import Channel, Connection
 from .exchange import Exchange
@@ -31,7 +32,6 @@ from .running import Running
 from .server import Server
 from .settings import Address, HubSettings
 from .showing import Showing
-from .words import error_line, welcome
 
 # The seconds between looks at the files of tokens and of the certificate, and those in which connections have to end.
 LOOK, LAST_SECONDS = 1.0, 3.0

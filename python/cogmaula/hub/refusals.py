@@ -3,7 +3,7 @@
 from __future__ import annotations
 
 from ..live.errors import BadMessage, LiveError
-from .words import LONGEST
+from .agent_messages import LONGEST
 
 
 class LineTooLong(LiveError):

@@ -19,11 +19,11 @@ from typing import Any
 from ..live.errors import BadSettings, LiveError
 from ..live.websocket import NoHandshake, WebSocket, protocol_of
 from .admission import Admission, Guest
+from .agent_messages import LONGEST
 from .channels import KEPT, KEPT_BESIDE, LONGEST_MESSAGE, TcpChannel, WebSocketChannel, open_socket, peer_of
 from .connection import LOGIN_SECONDS, Channel
 from .lines import Lines
 from .settings import Address, HubSettings
-from .words import LONGEST
 
 # What the system says if it has no file for another connection, and the seconds until the hub tries again.
 NO_FILES, PAUSE = (errno.EMFILE, errno.ENFILE), 0.5

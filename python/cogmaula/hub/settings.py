@@ -18,7 +18,7 @@ from ..live.times import MARGIN, VALIDITY
 from ..live.toml_tables import read_tables, value_of
 from ..live.topics import Topics, require_name
 from ..program import live_command
-from .words import Cluster
+from .agent_messages import Cluster
 
 TABLES = ("hub", "basis", "page")
 # The bytes of a file of a recording: a hub has many nodes, and a file is compressed once it has ended.

@@ -7,7 +7,7 @@ import json
 import pytest
 
 from cogmaula.cluster import Basis
-from cogmaula.hub.words import Cluster, LeaveWord, Login, error_line, update_of, quoted, welcome, word_of
+from cogmaula.hub.agent_messages import Cluster, LeaveWord, Login, error_line, update_of, quoted, welcome, word_of
 from cogmaula.live import BadMessage
 from cogmaula.live.frames import Points, Stated
 from cogmaula.live.kinds import DeviceKind
