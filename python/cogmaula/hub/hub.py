@@ -22,9 +22,9 @@ from ..live.sessions import Session, now_text
 from ..logs import NodeLog
 from .admission import Admission, Guest, files_allowed
 from .agent import Agent
+from .agent_connection import Channel, Connection
 from .agent_messages import error_line, welcome
 from .agents import Agents
-from .connection import Channel, Connection
 from .exchange import Exchange
 from .lines import Lines
 from .memory import Memory

@@ -19,9 +19,9 @@ from typing import Any
 from ..live.errors import BadSettings, LiveError
 from ..live.websocket import NoHandshake, WebSocket, protocol_of
 from .admission import Admission, Guest
+from .agent_connection import LOGIN_SECONDS, Channel
 from .agent_messages import LONGEST
 from .channels import KEPT, KEPT_BESIDE, LONGEST_MESSAGE, TcpChannel, WebSocketChannel, open_socket, peer_of
-from .connection import LOGIN_SECONDS, Channel
 from .lines import Lines
 from .settings import Address, HubSettings
 

@@ -9,9 +9,9 @@ import pytest
 from logged import log_to
 
 from cogmaula.cluster import Basis
-from cogmaula.hub import connection as module
+from cogmaula.hub import agent_connection as module
 from cogmaula.hub.agent import Agent
-from cogmaula.hub.connection import Connection
+from cogmaula.hub.agent_connection import Connection
 from cogmaula.hub.lines import Lines
 from cogmaula.hub.refusals import LineTooLong
 from cogmaula.live import BadMessage

@@ -177,7 +177,7 @@ def test_wrong_logins_keep_no_right_one_out(hub):
 
 
 def test_a_login_has_to_come_in_time(hub, monkeypatch):
-    from cogmaula.hub import connection
+    from cogmaula.hub import agent_connection as connection
 
     monkeypatch.setattr(connection, "LOGIN_SECONDS", 0.3)
     TcpAgent(hub.port).waits_for_error("no login came for 0.3 s").waits_for_end()
