@@ -12,7 +12,7 @@ from typing import Protocol
 
 from ..logs import NodeLog
 from .agent_messages import LEAVE_OFFER, update_of
-from .running import Running
+from .node_thread import Running
 
 
 class Listener(Protocol):

@@ -28,7 +28,7 @@ from .agents import Agents
 from .exchange import Exchange
 from .lines import Lines
 from .memory import Memory
-from .running import Running
+from .node_thread import Running
 from .server import Server
 from .settings import Address, HubSettings
 from .showing import Showing

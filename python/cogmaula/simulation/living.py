@@ -18,7 +18,7 @@ from pathlib import Path
 from ..cluster import Cluster
 from ..errors import NoProgram
 from ..hub.exchange import Exchange
-from ..hub.running import Running
+from ..hub.node_thread import Running
 from ..hub.showing import Showing
 from ..live.broker import Message
 from ..live.counting import NodeFacts
