@@ -18,8 +18,8 @@ from pathlib import Path
 from ..cluster import Cluster
 from ..errors import NoProgram
 from ..hub.exchange import Exchange
+from ..hub.hub_page import Showing
 from ..hub.node_thread import Running
-from ..hub.showing import Showing
 from ..live.broker import Message
 from ..live.counting import NodeFacts
 from ..live.errors import LiveError
