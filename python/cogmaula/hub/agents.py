@@ -13,9 +13,9 @@ from ..logs import NodeLog
 from .agent import Agent
 from .agent_messages import LEAVE_OFFER, Login, quoted
 from .exchange import Exchange
+from .login_refusals import NodeDown, TooManyWrongLogins, WrongLogin
 from .node_thread import Running
 from .places import Place, keep_place, places_in, require_places
-from .refusals import NodeDown, TooManyWrongLogins, WrongLogin
 from .settings import HubSettings
 from .tokens import Entries, Entry, FailedLogins, TokenFile, hash_of
 

@@ -8,7 +8,7 @@ from typing import Any
 
 from ..live.websocket import WebSocket, close_once
 from .agent_messages import LONGEST
-from .refusals import LineTooLong
+from .login_refusals import LineTooLong
 
 # The bytes that the system keeps for a reader, so that old priceUpdates do not pile up there, and those that wait beside. With 0
 # of them asyncio would never write by TLS.

@@ -13,7 +13,7 @@ from cogmaula.hub import agent_connection as module
 from cogmaula.hub.agent import Agent
 from cogmaula.hub.agent_connection import Connection
 from cogmaula.hub.lines import Lines
-from cogmaula.hub.refusals import LineTooLong
+from cogmaula.hub.login_refusals import LineTooLong
 from cogmaula.live import BadMessage
 
 BASIS = Basis(0, 1, 2)
