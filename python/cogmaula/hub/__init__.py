@@ -9,7 +9,7 @@ With an `Exchange` two or more nodes of `cogmaula.live` run a market in one proc
 
 from .exchange import Exchange
 from .hub import Hub
-from .settings import HubSettings, hub_settings_of, read_hub_toml
+from .hub_settings import HubSettings, hub_settings_of, read_hub_toml
 from .tokens import TokenFile
 
 __all__ = ["Exchange", "Hub", "HubSettings", "TokenFile", "hub_settings_of", "read_hub_toml"]

@@ -13,10 +13,10 @@ from ..logs import NodeLog
 from .agent import Agent
 from .agent_messages import LEAVE_OFFER, Login, quoted
 from .exchange import Exchange
+from .hub_settings import HubSettings
 from .login_refusals import NodeDown, TooManyWrongLogins, WrongLogin
 from .node_thread import Running
 from .places import Place, keep_place, places_in, require_places
-from .settings import HubSettings
 from .tokens import Entries, Entry, FailedLogins, TokenFile, hash_of
 
 # The seconds between looks at the clock of an agent's node, if nothing else happens. 256 of them would be dear at the usual rate.

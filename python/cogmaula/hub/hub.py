@@ -27,11 +27,11 @@ from .agent_messages import error_line, welcome
 from .agents import Agents
 from .exchange import Exchange
 from .hub_page import Showing
+from .hub_settings import Address, HubSettings
 from .lines import Lines
 from .memory import Memory
 from .node_thread import Running
 from .server import Server
-from .settings import Address, HubSettings
 
 # The seconds between looks at the files of tokens and of the certificate, and those in which connections have to end.
 LOOK, LAST_SECONDS = 1.0, 3.0

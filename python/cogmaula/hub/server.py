@@ -22,8 +22,8 @@ from .admission import Admission, Guest
 from .agent_connection import LOGIN_SECONDS, Channel
 from .agent_messages import LONGEST
 from .channels import KEPT, KEPT_BESIDE, LONGEST_MESSAGE, TcpChannel, WebSocketChannel, open_socket, peer_of
+from .hub_settings import Address, HubSettings
 from .lines import Lines
-from .settings import Address, HubSettings
 
 # What the system says if it has no file for another connection, and the seconds until the hub tries again.
 NO_FILES, PAUSE = (errno.EMFILE, errno.ENFILE), 0.5

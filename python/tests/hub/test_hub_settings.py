@@ -13,8 +13,8 @@ from brokers import SECONDS
 from cogmaula import cli
 from cogmaula.cluster import Basis
 from cogmaula.hub import hub_settings_of, read_hub_toml
+from cogmaula.hub.hub_settings import Address
 from cogmaula.hub.places import Place, keep_place, places_in, require_places
-from cogmaula.hub.settings import Address
 from cogmaula.hub.tokens import Entry, TokenFile
 from cogmaula.live import BadSettings, BadStore
 
@@ -41,7 +41,7 @@ def with_hub(**members):
 
 def test_what_a_hub_has_by_default(monkeypatch):
     monkeypatch.delenv("COGMAULA_LIVE", raising=False)
-    monkeypatch.setattr("cogmaula.hub.settings.live_command", lambda: "/opt/live")
+    monkeypatch.setattr("cogmaula.hub.hub_settings.live_command", lambda: "/opt/live")
     found = hub_settings_of(TABLES)
     assert (found.name, found.gone, found.pause, found.period, found.live) == ("hub", 150.0, 1.0, None, "/opt/live")
     assert (found.cluster.id, found.cluster.commodity, found.cluster.currency) == ("hub", "electricity", "EUR")
