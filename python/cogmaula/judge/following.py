@@ -29,9 +29,9 @@ from ..live.frames import (
 from ..live.recording import IN, OUT, STORED
 from .journal import Journal
 from .lapses import lapses_of
-from .market import Market
 from .reading import Event, Start
 from .script import Script
+from .session_tree import Market
 
 
 class Following:

@@ -6,10 +6,10 @@ import os
 from collections.abc import Callable
 
 from .faults import Faulty
-from .market import Market, markets_of
 from .merging import Merge, Visit
 from .reading import recordings_in
 from .replay import Counts, replayed
+from .session_tree import Market, markets_of
 from .verdict import Verdict
 
 

@@ -8,8 +8,8 @@ from __future__ import annotations
 
 from ..live.frames import RESUMES, AuctioneerResume, RelayResume, frame_of
 from ..live.recording import OUT
-from .market import Market
 from .reading import Start
+from .session_tree import Market
 
 
 def lapses_of(market: Market) -> dict[str, set[int]]:

@@ -16,8 +16,8 @@ from dataclasses import dataclass, field
 from ..live.frames import Bid, Expire, Gone, Old, Price
 from ..live.recording import IN, OUT
 from .faults import Faulty
-from .market import Market
 from .reading import Event, Recorded
+from .session_tree import Market
 from .words import words_of_bytes
 
 # What a node takes from a child, and from its parent.

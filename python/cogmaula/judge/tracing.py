@@ -23,8 +23,8 @@ from .cluster_file import cluster_of
 from .faults import NoTrace
 from .following import Following
 from .judging import judge
-from .market import Market
 from .merging import Visit
+from .session_tree import Market
 from .settling import settle
 from .verdict import Verdict
 

@@ -31,9 +31,9 @@ from cogmaula.commands import judge as command
 from cogmaula.judge import NoTrace, judge_and_trace
 from cogmaula.judge.cluster_file import cluster_of
 from cogmaula.judge.following import Following
-from cogmaula.judge.market import markets_of
 from cogmaula.judge.merging import Merge
 from cogmaula.judge.reading import recordings_in
+from cogmaula.judge.session_tree import markets_of
 from cogmaula.judge.tracing import trace_of
 from cogmaula.limits import MOST_EVENTS
 from cogmaula.live.frames import MOST, Clear, Expire, Leave, Offer, Send
