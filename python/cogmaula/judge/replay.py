@@ -31,7 +31,7 @@ from ..live.recording import IN, OUT, STORED
 from ..live.statuses import STATUSES
 from .reading import Event, Recorded, Start
 from .restarts import Giving, Keeping
-from .running import Late, Running
+from .service_life import Late, Running
 from .words import difference_of, words_of_bytes
 
 # The seconds for which a frame is awaited before the end of the input asks for it, from try to try.

@@ -12,7 +12,7 @@ from recorded import Lines, descriptors
 from cogmaula.judge import judge, replay
 from cogmaula.judge.reading import Start
 from cogmaula.judge.restarts import Giving, Keeping
-from cogmaula.judge.running import Late, Running
+from cogmaula.judge.service_life import Late, Running
 from cogmaula.judge.words import words_of, words_of_bytes
 from cogmaula.live.errors import LiveError
 from cogmaula.live.frames import (
