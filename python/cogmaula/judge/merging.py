@@ -16,9 +16,9 @@ from dataclasses import dataclass, field
 from ..live.frames import Bid, Expire, Gone, Old, Price
 from ..live.recording import IN, OUT
 from .faults import Faulty
+from .frame_words import words_of_bytes
 from .reading import Event, Recorded
 from .session_tree import Market
-from .words import words_of_bytes
 
 # What a node takes from a child, and from its parent.
 FROM_CHILD, FROM_PARENT = {Bid.KIND, Gone.KIND}, {Price.KIND, Old.KIND}

@@ -29,10 +29,10 @@ from ..live.frames import (
 )
 from ..live.recording import IN, OUT, STORED
 from ..live.statuses import STATUSES
+from .frame_words import difference_of, words_of_bytes
 from .reading import Event, Recorded, Start
 from .restarts import Giving, Keeping
 from .service_life import Late, Running
-from .words import difference_of, words_of_bytes
 
 # The seconds for which a frame is awaited before the end of the input asks for it, from try to try.
 PATIENCE = (2.0, 30.0, 300.0)

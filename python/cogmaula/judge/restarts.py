@@ -9,7 +9,7 @@ from __future__ import annotations
 from dataclasses import replace
 
 from ..live.frames import AuctioneerResume, DeviceResume, Limits, RelayResume, Resume, ResumeGone
-from .words import words_of
+from .frame_words import words_of
 
 
 def _exact(resume: Resume) -> Resume:

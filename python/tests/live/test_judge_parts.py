@@ -10,10 +10,10 @@ from pretended import BASIS, SESSION, auctioneer_resume, bid, device_resume, gon
 from recorded import Lines, descriptors
 
 from cogmaula.judge import judge, replay
+from cogmaula.judge.frame_words import words_of, words_of_bytes
 from cogmaula.judge.reading import Start
 from cogmaula.judge.restarts import Giving, Keeping
 from cogmaula.judge.service_life import Late, Running
-from cogmaula.judge.words import words_of, words_of_bytes
 from cogmaula.live.errors import LiveError
 from cogmaula.live.frames import (
     Bound,
