@@ -8,8 +8,8 @@ Every answer of a service comes from the proved program `live`. This package fee
 Of valid recordings it makes a cluster file and a trace, which the proved program `market` judges.
 """
 
-from .faults import Fault, Faulty, NoRecording, NoTrace
 from .judging import judge
+from .recording_faults import Fault, Faulty, NoRecording, NoTrace
 from .tracing import Traced, judge_and_trace
 from .verdict import Verdict
 

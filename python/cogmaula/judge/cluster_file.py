@@ -11,8 +11,8 @@ from ..cluster import Cluster
 from ..limits import MOST_DEPTH, MOST_EVENTS, MOST_NAME_BYTES, MOST_NODES
 from ..nodes import AUCTIONEER, Concentrator, Manual, Node
 from ..phases import Events
-from .faults import NoTrace
 from .following import Following
+from .recording_faults import NoTrace
 
 _NAME = re.compile(rf"[A-Za-z][A-Za-z0-9_-]{{0,{MOST_NAME_BYTES - 1}}}")
 

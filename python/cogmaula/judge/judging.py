@@ -5,9 +5,9 @@ from __future__ import annotations
 import os
 from collections.abc import Callable
 
-from .faults import Faulty
 from .merging import Merge, Visit
 from .reading import recordings_in
+from .recording_faults import Faulty
 from .replay import Counts, replayed
 from .session_tree import Market, markets_of
 from .verdict import Verdict

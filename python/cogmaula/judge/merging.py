@@ -15,9 +15,9 @@ from dataclasses import dataclass, field
 
 from ..live.frames import Bid, Expire, Gone, Old, Price
 from ..live.recording import IN, OUT
-from .faults import Faulty
 from .frame_words import words_of_bytes
 from .reading import Event, Recorded
+from .recording_faults import Faulty
 from .session_tree import Market
 
 # What a node takes from a child, and from its parent.

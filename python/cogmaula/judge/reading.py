@@ -21,7 +21,7 @@ from ..live.errors import BadMessage
 from ..live.frames import SORTS, Sort
 from ..live.recording import END, IN, OUT, START, STORED, SUFFIX
 from ..live.sessions import Session
-from .faults import Fault, Faulty, NoRecording
+from .recording_faults import Fault, Faulty, NoRecording
 
 _NAME = re.compile(r"([A-Za-z0-9_-]{1,64})\.([0-9a-f]{16})\.([0-9]{6,})\.frames(\.gz)?")
 _HEX = re.compile(r"(?:[0-9a-f]{2})+")

@@ -20,10 +20,10 @@ from ..errors import Invalid, TooLong
 from ..program import Program, found_program
 from ..texts import report_of
 from .cluster_file import cluster_of
-from .faults import NoTrace
 from .following import Following
 from .judging import judge
 from .merging import Visit
+from .recording_faults import NoTrace
 from .session_tree import Market
 from .settling import settle
 from .verdict import Verdict

@@ -5,7 +5,7 @@ from __future__ import annotations
 from dataclasses import asdict, dataclass
 from typing import Any, Literal
 
-from .faults import Fault
+from .recording_faults import Fault
 
 
 @dataclass(frozen=True)
