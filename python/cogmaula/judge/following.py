@@ -27,10 +27,10 @@ from ..live.frames import (
     frame_of,
 )
 from ..live.recording import IN, OUT, STORED
+from .event_script import Script
 from .journal import Journal
 from .lapses import lapses_of
 from .reading import Event, Start
-from .script import Script
 from .session_tree import Market
 
 

@@ -10,8 +10,8 @@ from __future__ import annotations
 from collections.abc import Mapping
 
 from ..limits import WINDOW
+from .event_script import Script
 from .journal import Journal
-from .script import Script
 
 
 def settle(journal: Journal, script: Script, prices: Mapping[str, int]) -> None:
