@@ -29,7 +29,7 @@ from ..live.frames import (
 from ..live.recording import IN, OUT, STORED
 from .event_script import Script
 from .journal import Journal
-from .lapses import lapses_of
+from .lapsed_numbers import lapses_of
 from .reading import Event, Start
 from .session_tree import Market
 
