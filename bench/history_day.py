@@ -64,7 +64,7 @@ def main() -> None:
         database.put([Row("sessions", {"session": SESSION, "begun": BEGIN - 60.0, "least": 0, "greatest": 99, "steps": 100})])
         database.put([state("auctioneer", "auctioneer", None, None)])
         database.put(state(f"relay{relay}", "relay", "auctioneer", relay + 1) for relay in range(RELAYS))
-        database.put(state(f"device{it}", "device", f"relay{it % RELAYS}", it // RELAYS + 1) for it in range(devices))
+        database.put(state(f"device{number}", "device", f"relay{number % RELAYS}", number // RELAYS + 1) for number in range(devices))
         for clearing, after in enumerate(range(-each, SECONDS_OF_DAY, each)):
             told = rows_at(devices, clearing + 1, float(BEGIN + after), chance)
             rows += len(told)

@@ -14,7 +14,7 @@ from ..live.kinds import DeviceKind
 from .agent import Agent
 from .agent_messages import LEAVE_OFFER, BidUpdate, error_line, word_of
 from .lines import Lines
-from .login_refusals import LineTooLong, NoLogin
+from .login_refusals import NoLogin
 
 # The seconds within which a login has to come, and those in which a connection that is to end may still write.
 LOGIN_SECONDS, LAST_SECONDS = 10.0, 1.0

@@ -101,7 +101,7 @@ def test_the_accounts_of_a_day_by_hand(history):
     assert (street.ceiling_for, street.floor_for) == (HOUR * 1000, 0)
     # In the first quarter the oven takes 1,000 W, and the store 400 W for 10 minutes and 200 W for 5.
     assert street.loads[0] == (1000 * 900 + 400 * 600 + 200 * 300) * WATT_SECOND
-    assert [(it.state, it.ceiling, it.reference) for it in course.answers] == [("kept", 600, "order <7>")]
+    assert [(answer.state, answer.ceiling, answer.reference) for answer in course.answers] == [("kept", 600, "order <7>")]
     assert course.alarms == (((DAY + 90) * 1000, "street", "too much"),)
 
 
@@ -185,7 +185,7 @@ def test_accounts_are_those_of_a_model_of_each_second(drawn):
     accounts.begin_with(event for event in events if event.at < 0)
     for begin in (0, SLOT):
         accounts.slot([event for event in events if begin <= event.at < begin + SLOT], begin + SLOT)
-    found = {name: (it.taken, it.given, it.amount, it.unpriced) for name, it in accounts.by_device.items()}
+    found = {name: (account.taken, account.given, account.amount, account.unpriced) for name, account in accounts.by_device.items()}
     assert found == {name: model(events, name) for name in found}
     assert set(found) == {event.device for event in events}
 
