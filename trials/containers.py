@@ -178,7 +178,7 @@ class Containers:
     def keeps_history(self):
         """That the history has what the store was told today."""
         words = f"cogmaula history --to sqlite:////var/lib/market/market.db --day {time.strftime('%Y-%m-%d')}"
-        told = wait_for(lambda: "store," in (it := self.run(f"podman exec {self.container('history')} {words}", False)) and it, PATIENCE, "no row")
+        told = wait_for(lambda: "store," in (rows := self.run(f"podman exec {self.container('history')} {words}", False)) and rows, PATIENCE, "no row")
         return " ".join(told.split())
 
     def secrets_are_apart(self):

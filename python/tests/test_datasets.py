@@ -37,7 +37,7 @@ def test_a_file_is_read_as_it_was_written(tmp_path):
 def test_values_are_those_of_the_report(tmp_path):
     done = run(EXAMPLES / "limited_feeder.json")
     found = read(done, tmp_path / "run.nc")
-    assert list(found.device.to_numpy()) == [it.name for it in done.cluster.devices]
+    assert list(found.device.to_numpy()) == [device.name for device in done.cluster.devices]
     for end in done.ends:
         here = found.sel(phase=end.phase)
         assert (int(here.price), int(here.step), int(here.total), int(here.members)) == (end.price, end.step, end.total, len(end.powers))
@@ -49,8 +49,8 @@ def test_values_are_those_of_the_report(tmp_path):
             assert (int(there.group_price), int(there.group_load)) == (group.price, group.total)
             assert int(there.group_excess) == max(group.total - int(there.ceiling), 0) + min(group.total - int(there.floor), 0)
     accounts = [*done.bill.devices.values(), done.bill.grid]
-    assert [int(it) for it in found.amount_digits.to_numpy()] == [it.amount for it in accounts]
-    assert [int(it) for it in found.taken.to_numpy()] == [it.taken for it in accounts]
+    assert [int(number) for number in found.amount_digits.to_numpy()] == [account.amount for account in accounts]
+    assert [int(number) for number in found.taken.to_numpy()] == [account.taken for account in accounts]
     assert list(found.party_kind.to_numpy()) == ["device"] * len(done.bill.devices) + ["grid"]
 
 
@@ -80,12 +80,12 @@ ZONES = {
 def test_times_are_in_utc_with_the_offset_of_the_zone(tmp_path, start, zone, times, offsets):
     done = run(Cluster(Basis(0, 9, 10), [Load("house", start=100)], TICKS), start=start)
     found = read(done, tmp_path / "run.nc")
-    assert [str(it)[:16] for it in found.time.to_numpy()] == times
+    assert [str(moment)[:16] for moment in found.time.to_numpy()] == times
     assert found.attrs["time_zone"] == zone
     assert (list(found.utc_offset.to_numpy()) if offsets else "utc_offset" not in found) == (offsets or True)
     if offsets:
         clock = [moment.replace(tzinfo=None).isoformat()[:16] for moment in done.times]
-        assert [str(it)[:16] for it in (found.time + found.utc_offset * 60 * 10**9).astype("datetime64[ns]").to_numpy()] == clock
+        assert [str(moment)[:16] for moment in (found.time + found.utc_offset * 60 * 10**9).astype("datetime64[ns]").to_numpy()] == clock
     assert found.time.attrs["time_zone"] == ("UTC" if offsets else "")
 
 
@@ -123,7 +123,7 @@ def test_an_amount_past_64_bits_keeps_its_digits(tmp_path):
     huge = 10**20 + 1
     bill = Bill({"house": Account(huge, 12000, 0)}, Account(-huge, 0, 12000), 1, 120)
     found = read(Run(cluster, run(cluster).text, bill=lambda: bill), tmp_path / "run.nc")
-    assert [int(it) for it in found.amount_digits.to_numpy()] == [huge, -huge]
+    assert [int(number) for number in found.amount_digits.to_numpy()] == [huge, -huge]
     assert list(found.amount.to_numpy()) == [1e20, -1e20]
 
 

@@ -93,7 +93,7 @@ def broker(tmp_path):
 
 
 def test_each_file_of_settings_is_tried():
-    assert {it.name for it in FOLDER.glob("*.toml")} == {*BY_TOPICS, *BY_REGISTERS}
+    assert {path.name for path in FOLDER.glob("*.toml")} == {*BY_TOPICS, *BY_REGISTERS}
 
 
 @pytest.mark.parametrize("name", BY_TOPICS)

@@ -1,7 +1,7 @@
 #!/usr/bin/env python3
 """Walks a newcomer's way: does exactly the commands of "Try three machines on one" in docs/OPERATE.md, and tells how long each step takes.
 
-    live_walk.py [--installed]
+    python3 -m trials.walk [--installed]
 
 It runs in one bash, in a new folder with TREE.toml. The package is that of this checkout, or with --installed the command `cogmaula` of the
 machine. A person is given two seconds from one step to the next. Each line is a step and what was seen. The status is 1 if something
@@ -18,7 +18,7 @@ import tempfile
 import time
 from pathlib import Path
 
-from live_found import Failed, Found, require, steps_of
+from .found import Failed, Found, require, steps_of
 
 TOP = Path(__file__).resolve().parent.parent
 HEADING, BETWEEN, PATIENCE = "Try three machines on one", 2.0, 120
