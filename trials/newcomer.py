@@ -1,7 +1,10 @@
-#!/usr/bin/env python3
 """Walks a newcomer's way: does exactly the commands of "Try three machines on one" in docs/OPERATE.md, and tells how long each step takes.
 
+<<<<<<<< HEAD:trials/walk.py
     python3 -m trials.walk [--installed]
+========
+    python3 -m trials.newcomer [--installed]
+>>>>>>>> 54b3e78e (trials: the newcomer's walk is one of them):trials/newcomer.py
 
 It runs in one bash, in a new folder with TREE.toml. The package is that of this checkout, or with --installed the command `cogmaula` of the
 machine. A person is given two seconds from one step to the next. Each line is a step and what was seen. The status is 1 if something
@@ -79,7 +82,7 @@ def environment_of(folder, is_installed):
         return dict(os.environ)
     (folder / "bin").mkdir()
     command = folder / "bin" / "cogmaula"
-    command.write_text(f'#!/bin/sh\nexec /usr/bin/python3 -B -m cogmaula "$@"\n')
+    command.write_text('#!/bin/sh\nexec /usr/bin/python3 -B -m cogmaula "$@"\n')
     command.chmod(0o755)
     live = os.environ.get("COGMAULA_LIVE", str(TOP / "prebuilt" / "x86_64-linux" / "live"))
     path = f"{folder / 'bin'}:{os.environ['PATH']}:/usr/sbin"
