@@ -32,7 +32,7 @@ from .machine import CGROUPS, make_root
 TOP = Path(__file__).resolve().parent.parent
 BASE = "docker.io/library/debian:bookworm-slim"
 NODES = ["auctioneer", "street", "house", "store"]
-PARTS = ["broker", *NODES, "history"]
+PARTS = ["broker.example", *NODES, "history"]
 PATIENCE = 90
 # What the official image has beyond debootstrap: no package's pages are kept, and no downloaded package.
 SLIM = {

@@ -22,15 +22,15 @@ x-node: &node
   image: market-node
   build: {context: ., target: node}
   stdin_open: true
-  depends_on: [broker]
+  depends_on: [@host@]
 
 services:
-  broker:
+  # Its name is the one by which nodes know it.
+  @host@:
     <<: *contained
     image: market-broker
     build: {context: ., target: broker}
     volumes: ["./broker:/etc/market:ro", "broker:/var/lib/mosquitto"]
-    networks: {default: {aliases: [@host@]}}
 """
 CLIENT = """
   client:
@@ -59,7 +59,7 @@ HISTORY = """
 
 
 def compose_text(tree: Tree) -> str:
-    """The file of compose. The broker's container has the name by which nodes know the broker."""
+    """The file of compose. The broker's service has the name by which nodes know it, which is what podman-compose takes too."""
     text = FIRST.replace("@host@", json.dumps(tree.broker.host))
     for member in tree.members:
         text += NODE.replace("@name@", member.name).replace("@sort@", member.sort)
