@@ -4,6 +4,7 @@ a simulation.
 
     python3 bench/python_package.py report         makes the day and its report, five times, each beside a plain run of the program
     python3 bench/python_package.py week           the same of a week of 97 devices, which is longer than one run, once
+    python3 bench/python_package.py tables         goes from tables of a week to the page, 97 devices, beside the program's runs of its parts
     python3 bench/python_package.py year           makes the page of a house's year, with its connection, once
     python3 bench/python_package.py study [MANY]   makes so many files and runs them over 1, 2, 3 and 4 processes
     python3 bench/python_package.py month          makes a month of 156 devices, and runs it day by day
@@ -22,14 +23,14 @@ import sys
 import tempfile
 import time
 from collections.abc import Iterator
-from datetime import datetime
+from datetime import datetime, timedelta
 from datetime import time as clock
 from pathlib import Path
 
 TOP = Path(__file__).resolve().parent.parent
 sys.path.insert(0, str(TOP / "python"))
 
-from cogmaula import Basis, Battery, Cluster, Events, Limited, Load, Manual, Node, Program, Solar, State, Tick, parts_of
+from cogmaula import Basis, Battery, Cluster, Events, Limited, Load, Manual, Node, Program, Solar, State, Tick, parts_of, run_parts
 from cogmaula import simulation
 from cogmaula.simulation import Device, Group, Held, Vehicle
 from cogmaula.study import study
@@ -130,6 +131,47 @@ def measure_week(folder: Path) -> None:
     measure_page(f"97 devices over {7 * DAY} ticks", file, "--span", "10080", "--connection", "grid")
 
 
+def make_tables(folder: Path) -> Path:
+    """A recipe with tables of a week, for 58 loads, 29 roofs, nine batteries below five feeders and a connection. All by a seed."""
+    draw, start = random.Random(1), datetime(2026, 6, 21)
+    recipe = ['minutes = 15\nmissing = "hold"\ntimezone = "Europe/Berlin"\n[basis]\nmin = 0\nmax = 500\nsteps = 501']
+    recipe.append('[connection]\nname = "grid"\nbuy = 30\nsell = 8')
+    recipe += [f'[[node]]\nname = "feeder{at}"\nkind = "limited"\nfloor = -40000\nceiling = 40000\nparent = "auctioneer"' for at in range(5)]
+    for at in range(9):
+        numbers = f"capacity = 10000\ncharge = 3000\ndischarge = 3000\nspread = {20 + at}\nstart = 5000"
+        recipe.append(f'[[node]]\nname = "battery{at}"\nkind = "battery"\nparent = "feeder{at % 5}"\n{numbers}')
+    for kind, many in (("load", 58), ("solar", 29)):
+        names = [f"{kind}{at}" for at in range(many)]
+        rows = [",".join(["time", *names])]
+        for quarter in range(7 * DAY):
+            moment = start + timedelta(minutes=15 * quarter)
+            rows.append(",".join([moment.isoformat(timespec="minutes"), *(str(draw.randrange(100, 4000)) for _ in names)]))
+        (folder / f"{kind}.csv").write_text("\n".join(rows) + "\n")
+        parents = ", ".join(f'{name} = "feeder{at % 5}"' for at, name in enumerate(names))
+        recipe.append(f'[[table]]\nfile = "{kind}.csv"\nkind = "{kind}"\nparents = {{{parents}}}')
+    path = folder / "week.toml"
+    path.write_text("\n".join(recipe) + "\n")
+    return path
+
+
+def measure_tables(folder: Path) -> None:
+    """From tables of a week to its page, and the program's runs of its parts."""
+    program = Program.find(os.environ.get("COGMAULA_MARKET") or str(TOP))
+    recipe, file = make_tables(folder), folder / "week.json"
+    begun, used = time.monotonic(), processor_time()
+    words = [sys.executable, "-m", "cogmaula", "from-csv", str(recipe), "-o", str(file), "--program", program.path]
+    subprocess.run(words, cwd=TOP / "python", check=True, capture_output=True)
+    print(f"from-csv: {time.monotonic() - begun:.2f} s, {processor_time() - used:.2f} s of a processor, {load()}")
+    measure_page("the week of 97 devices", file, "--connection", "grid", "--start", "2026-06-21")
+    cluster = Cluster.load(file)
+    parts = [run.cluster.to_bytes() for run in run_parts(cluster, parts_of(cluster), program=program)]
+    for command in ("run", "bill"):
+        begun, used = time.monotonic(), processor_time()
+        for part in parts:
+            program.answer(command, part)
+        print(f"market {command} of {len(parts)} parts: {time.monotonic() - begun:.2f} s, {processor_time() - used:.2f} s of a processor, {load()}")
+
+
 def measure_year(folder: Path) -> None:
     """The report of a house's year."""
     file = folder / "year.json"
@@ -213,6 +255,8 @@ def main() -> int:
                 measure_report(Path(folder))
             case ["week"]:
                 measure_week(Path(folder))
+            case ["tables"]:
+                measure_tables(Path(folder))
             case ["year"]:
                 measure_year(Path(folder))
             case ["study"]:
