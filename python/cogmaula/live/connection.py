@@ -2,11 +2,12 @@
 
 from __future__ import annotations
 
+import select
 import socket
 import ssl
 import sys
 import threading
-from collections.abc import Callable
+from collections.abc import Callable, Sequence
 from typing import Any
 
 from ..errors import NoPackage
@@ -23,14 +24,38 @@ REFUSED = 128
 NO_LOGIN = {134, 135, 138, 140}
 
 
+class Waiting:
+    """Waits for files as `select.select` does, but also for those above number 1023, which a process of many nodes has."""
+
+    @staticmethod
+    def select(reads: Sequence[Any], writes: Sequence[Any], _: Sequence[Any], seconds: float) -> tuple[list[Any], list[Any], list[Any]]:
+        """The files that can be read, and those that can be written, after so many seconds at most. Raises ValueError for a closed one."""
+        masks: dict[int, int] = {}
+        for files, mask in ((reads, select.POLLIN | select.POLLPRI), (writes, select.POLLOUT)):
+            for file in files:
+                masks[file.fileno()] = masks.get(file.fileno(), 0) | mask
+        poll = select.poll()
+        for number, mask in masks.items():
+            poll.register(number, mask)
+        ready = dict(poll.poll(seconds * 1000))
+        # A file at its end, or broken, is told to who waits for it, whose next call says what it is.
+        return (
+            [file for file in reads if ready.get(file.fileno(), 0) & ~select.POLLOUT],
+            [file for file in writes if ready.get(file.fileno(), 0) & ~(select.POLLIN | select.POLLPRI)],
+            [],
+        )
+
+
 def paho() -> Any:
-    """The module paho.mqtt.client. Raises NoPackage if it is not installed."""
+    """The module paho.mqtt.client, which waits by `Waiting`. Raises NoPackage if it is not installed."""
     try:
         import paho.mqtt.client
     except ImportError:
         raise NoPackage(
             f"a node needs the package paho-mqtt, which {sys.executable} does not have. Debian's python3-paho-mqtt is for /usr/bin/python3"
         ) from None
+    # Its own way to wait fails above file number 1023, and it takes that for a lost connection.
+    paho.mqtt.client.select = Waiting
     return paho.mqtt.client
 
 

@@ -2,7 +2,10 @@
 
 from __future__ import annotations
 
+import os
 import queue
+import resource
+import socket
 import ssl
 import time
 
@@ -11,7 +14,7 @@ from brokers import SECONDS, Certificates, Mosquitto, Onlooker, free_port, passw
 from logged import QUIET, log_to
 
 from cogmaula.live.broker import Broker, Confirmed, Message, Publication, Settled
-from cogmaula.live.connection import words_of, words_of_end
+from cogmaula.live.connection import Waiting, words_of, words_of_end
 from cogmaula.live.settings import BrokerSettings
 
 STATE, WILL = "market/house/state", Publication("market/house/state", b"down")
@@ -90,6 +93,47 @@ class Numbering:
 
     def unsubscribe(self, topics):
         self.let_go.append(list(topics))
+
+
+@pytest.fixture
+def many_files():
+    """Takes all file numbers up to 1100, so that what is opened next is above what `select.select` waits for."""
+    soft, hard = resource.getrlimit(resource.RLIMIT_NOFILE)
+    if hard != resource.RLIM_INFINITY and hard < 1400:
+        pytest.skip(f"a process may have {hard} files")
+    resource.setrlimit(resource.RLIMIT_NOFILE, (max(soft, 1400), hard))
+    taken = [os.open(os.devnull, os.O_RDONLY)]
+    while taken[-1] < 1100:
+        taken.append(os.dup(taken[0]))
+    yield
+    for number in taken:
+        os.close(number)
+    resource.setrlimit(resource.RLIMIT_NOFILE, (soft, hard))
+
+
+def test_a_node_of_a_process_with_many_files_settles(tmp_path, many_files):
+    with Mosquitto(tmp_path) as broker, Onlooker(broker.port) as onlooker:
+        onlooker.publish("market/street/price/2", b"old")
+        with Connected(broker.port).settled() as one:
+            assert one.broker.taken()[-1].payload == b"old"
+            one.broker.publish(Publication("market/house/setpoint", b"new"))
+            wait_until(lambda: onlooker.payload("market/house/setpoint") == b"new", "it is published")
+            assert one.said == []
+
+
+def test_waiting_says_which_files_are_ready(many_files):
+    one, other = socket.socketpair()
+    assert one.fileno() > 1100
+    assert Waiting.select([one], [], [], 0) == ([], [], [])
+    assert Waiting.select([one], [one], [], 0) == ([], [one], [])
+    other.send(b"word")
+    assert Waiting.select([one, other], [one], [], 5) == ([one], [one], [])
+    one.recv(4)
+    other.close()
+    assert Waiting.select([one], [], [], 5) == ([one], [], []), "its end can be read"
+    one.close()
+    with pytest.raises(ValueError):
+        Waiting.select([one], [], [], 0)
 
 
 def test_many_confirmations_wake_the_node_once():

@@ -57,24 +57,30 @@ def kill(market, name):
     market.threads.pop(name).join(20)
 
 
-def newest_sum(onlooker, parent):
-    """The powers of the children of a parent that its newest clearing names, by child, at the step of each."""
-    prices = {}
-    for topic, (payload, _) in list(onlooker.newest.items()):
-        below = topic.split("/")
-        if below[1:3] == [parent, "price"] and payload:
-            frame = frame_of(payload, PRICES, STEPS)
-            if isinstance(frame, Price):
-                prices[frame.child] = frame
-    newest = max((price.index for price in prices.values()), default=0)
-    bids = {}
-    for topic, payload, _ in list(onlooker.all):
-        below = topic.split("/")
-        if below[1:3] == [parent, "bid"] and payload:
-            frame = frame_of(payload, BIDS, STEPS)
-            bids[frame.child, frame.number] = frame
-    due = {child: price for child, price in prices.items() if price.index == newest}
-    return {child: bids[child, price.number].demands[price.step] for child, price in due.items() if isinstance(bids.get((child, price.number)), Bid)}
+class Sums:
+    """What a parent's newest clearing counts, by the prices and the bids that an onlooker has seen. It reads each bid once."""
+
+    def __init__(self, onlooker, parent):
+        self.onlooker, self.parent, self.bids, self.read = onlooker, parent, {}, 0
+
+    def newest(self):
+        """The powers of the children that the newest clearing names, by child, at the step of each."""
+        prices = {}
+        for topic, (payload, _) in list(self.onlooker.newest.items()):
+            if topic.split("/")[1:3] == [self.parent, "price"] and payload:
+                frame = frame_of(payload, PRICES, STEPS)
+                if isinstance(frame, Price):
+                    prices[frame.child] = frame
+        seen = self.onlooker.all[self.read :]
+        self.read += len(seen)
+        for topic, payload, _ in seen:
+            if topic.split("/")[1:3] == [self.parent, "bid"] and payload:
+                frame = frame_of(payload, BIDS, STEPS)
+                self.bids[frame.child, frame.number] = frame
+        newest = max((price.index for price in prices.values()), default=0)
+        due = {child: price for child, price in prices.items() if price.index == newest}
+        bids = {child: self.bids.get((child, price.number)) for child, price in due.items()}
+        return {child: bid.demands[due[child].step] for child, bid in bids.items() if isinstance(bid, Bid)}
 
 
 def test_after_grace_the_sum_is_that_of_the_living(market, onlooker):
@@ -93,10 +99,11 @@ def test_after_grace_the_sum_is_that_of_the_living(market, onlooker):
         market.offers(d30=[99] * STEPS)
         living[30] = 99
         wait_until(lambda: all(onlooker.payload(f"market/auctioneer/lapsed/{child}") for child in range(1, 21)), "the dead are let go", 30)
-        wait_until(lambda: newest_sum(onlooker, "auctioneer") == living, "the sum is that of the living", 20)
+        sums = Sums(onlooker, "auctioneer")
+        wait_until(lambda: sums.newest() == living, "the sum is that of the living", 20)
         market.start(*away)
         back = {number: 100 + number for number in range(11, 21)}
-        wait_until(lambda: newest_sum(onlooker, "auctioneer") == living | back, "those that are back count", 20)
+        wait_until(lambda: sums.newest() == living | back, "those that are back count", 20)
         assert onlooker.payload("market/auctioneer/lapsed/11") == b""
         assert json.loads(onlooker.payload("market/auctioneer/lapsed/1"))["number"] == 3
     finally:
