@@ -23,8 +23,10 @@ from brokers import Mosquitto, Onlooker, live_program, wait_until
 from markets import PLACES, STEPS, Market
 from test_live_storm import Sums, kill
 
-# Seconds: half of the default times, and the default pause between clearings.
-TIMES = {"validity": 60.0, "heartbeat": 15.0, "grace": 75.0, "pause": 1.0}
+# Seconds: a quarter of the default times, with fewer heartbeats, and the default pause between clearings.
+TIMES = {"validity": 30.0, "heartbeat": 10.0, "grace": 37.5, "pause": 1.0}
+# By default mosquitto drops what is more than 1,000 messages behind, and the onlooker reads all of the market.
+QUEUE = "max_queued_messages 1000000"
 # How long each step may take, beside `grace`.
 PATIENCE = 120
 
@@ -92,7 +94,7 @@ def storm(market, onlooker, devices):
 def main():
     """Runs the storm."""
     devices = int(sys.argv[1]) if len(sys.argv) > 1 else 200
-    with tempfile.TemporaryDirectory() as folder, Mosquitto(Path(folder) / "broker") as broker:
+    with tempfile.TemporaryDirectory() as folder, Mosquitto(Path(folder) / "broker", QUEUE) as broker:
         with Onlooker(broker.port) as onlooker, Market(broker.port, live_program(), Path(folder), keepalive=30) as market:
             try:
                 storm(market, onlooker, devices)
