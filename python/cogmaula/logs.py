@@ -83,7 +83,8 @@ class StandardError(logging.StreamHandler[TextIO]):
 
     def emit(self, record: logging.LogRecord) -> None:
         """Writes a record, in one piece."""
-        self.setStream(sys.stderr)
+        # Not by setStream, which flushes the stream of before: that may be closed.
+        self.stream = sys.stderr
         super().emit(record)
 
 

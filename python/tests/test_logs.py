@@ -2,6 +2,7 @@
 
 from __future__ import annotations
 
+import io
 import logging
 import os
 
@@ -48,6 +49,16 @@ def test_the_last_command_counts_and_writes_each_line_once(capsys):
     logs.show("cogmaula node b", "b", {})
     LOG.warning("100 % of it")
     assert capsys.readouterr().err == "cogmaula node b: 100 % of it\n"
+
+
+def test_a_line_is_written_though_the_stream_of_before_was_closed(capsys):
+    """As after a test whose standard error was captured, and is gone."""
+    logs.show("cogmaula hub")
+    (handler,) = [handler for handler in logging.getLogger(logs.PACKAGE).handlers if isinstance(handler, logs.StandardError)]
+    handler.stream = io.StringIO()
+    handler.stream.close()
+    LOG.warning("a line")
+    assert capsys.readouterr().err == "cogmaula hub: a line\n"
 
 
 def test_a_log_of_changes_leaves_out_the_line_before_once_more(caplog):
