@@ -29,6 +29,8 @@ from live_mqtt import Connection, text, user_properties
 
 BID, PRICE = 2, 23
 PRICE_FORMAT = struct.Struct(">BHIIHiiH")
+# The first byte of a table of prices, and what is before its numbers: the index, the step and the basis.
+TABLE, TABLE_FORMAT = 31, struct.Struct(">BIHiiH")
 # The version of the messages.
 VERSION = "3"
 # The most messages that the broker has not confirmed, and the greatest power of a device in watts.
@@ -78,6 +80,12 @@ class Devices:
         self._session = ""
         self._link.subscribe([self._basis.decode()])
         self._link.subscribe([f"{prefix}/{relay}/price/+" for relay in told["relays"]])
+        self._link.subscribe([f"{prefix}/{relay}/prices" for relay in told["relays"]])
+        below = range(1, told["children"] + 1)
+        self._of_table = {
+            f"{prefix}/{relay}/prices".encode(): [self._by_topic[f"{prefix}/{relay}/price/{child}".encode()] for child in below]
+            for relay in told["relays"]
+        }
         self._rate, self._due, self._waiting = 0.0, 0.0, []
         self._behind = self._foreign = 0
         self._format = struct.Struct(f">BHI{self._steps}i")
@@ -127,17 +135,28 @@ class Devices:
         for topic, payload in self._link.messages():
             device = self._by_topic.get(topic)
             if device is not None and len(payload) == PRICE_FORMAT.size and payload[0] == PRICE:
-                self._prices += 1
                 _, _, number, index, step, *_ = PRICE_FORMAT.unpack(payload)
-                made = device.takes(number, index, step)
-                if made is not None:
-                    self._seconds += [now - moment for moment in made]
-                elif index < device.index:
-                    self._behind += 1
-                else:
-                    self._foreign += 1
+                self._take(device, number, index, step, now)
+            elif topic in self._of_table and payload and payload[0] == TABLE:
+                _, index, step, *_ = TABLE_FORMAT.unpack_from(payload)
+                numbers = struct.unpack_from(f">{(len(payload) - TABLE_FORMAT.size) // 4}I", payload, TABLE_FORMAT.size)
+                for device, number in zip(self._of_table[topic], numbers, strict=False):
+                    # As a carrier does, a device leaves out what gives the same power as before.
+                    if number and not (device.index and (number, step) == (device.answered, device.step)):
+                        self._take(device, number, index, step, now)
             elif topic == self._basis and payload:
                 self._session = json.loads(payload)["session"]
+
+    def _take(self, device, number, index, step, now):
+        """Hands a price to a device."""
+        self._prices += 1
+        made = device.takes(number, index, step)
+        if made is not None:
+            self._seconds += [now - moment for moment in made]
+        elif index < device.index:
+            self._behind += 1
+        else:
+            self._foreign += 1
 
     # What is asked.
 
@@ -173,7 +192,7 @@ class Devices:
                 falls, before, behind, _ = device.bids[device.number]
                 for step in range(self._steps):
                     sums[step] += before if step < falls else behind
-            key = f"{device.index} {device.step}"
+            key = str(device.step)
             held[key] = held.get(key, 0) + 1
         return {
             "devices": len(self._devices),

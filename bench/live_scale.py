@@ -8,8 +8,7 @@ a process of `live` of its own; several share a process of Python, a thread each
 It prints, at a low and at a high rate of bids: bids, clearings and prices a second, the time from a device's bid to its
 setpoint, messages at the broker, and the processors that each part took. Then it prints the memory of each part.
 
-In the end all is quiet, and each device has to have the price of the last clearing for its newest bid, at the step that adding
-up all bids gives. No price may ever go back. The status is 1 if one does, or if a part ends too early.
+In the end all is quiet, and each device has to have a price for its newest bid, at the step that adding up all bids gives. No price may ever go back. The status is 1 if one does, or if a part ends too early.
 
 It needs root, iproute2, mosquitto, mosquitto-clients and python3-paho-mqtt.
 """
@@ -111,7 +110,8 @@ def tables_of(arguments, state, address, sort, name, parent=None, child=None):
     place = {} if parent is None else {"parent": parent, "child": child}
     node = {"name": name, "state": str(state / name), "live": arguments.live, "pause": arguments.pause, **place}
     basis = {"min": 0, "max": arguments.steps - 1, "steps": arguments.steps}
-    return {"sort": sort, "node": node, "basis": basis, "broker": {"host": address, "port": PORT, "prefix": PREFIX}}
+    broker = {"host": address, "port": PORT, "prefix": PREFIX}
+    return {"sort": sort, "node": node, "basis": basis, "broker": broker, "prices": {"together": not arguments.single}}
 
 
 def pieces(items, size):
@@ -213,7 +213,7 @@ class Market:
 
     def wrong(self, told):
         """What is wrong with what the devices hold, a line each."""
-        steps, last = self.arguments.steps, self.looker.clearing()
+        steps = self.arguments.steps
         sums = [sum(figures["sums"][step] for figures in told) for step in range(steps)]
         due = next((step for step, demand in enumerate(sums) if demand <= 0), steps - 1)
         found, held = [], {}
@@ -225,8 +225,8 @@ class Market:
                 found.append(f"{figures['devices'] - figures['bids']} devices have not bid")
             if figures["behind"] or figures["foreign"]:
                 found.append(f"{figures['behind']} prices went back, and {figures['foreign']} were for no bid")
-        found += [f"{count} devices have the clearing and the step {key}, and {last} {due} is due" for key, count in held.items()
-                  if key != f"{last} {due}"]
+        # A price that gives the same as the one before is not told at once, so the clearing of a device may be an earlier one.
+        found += [f"{count} devices have the step {key}, and {due} is due" for key, count in held.items() if key != str(due)]
         return found
 
     def memory(self):
@@ -308,6 +308,7 @@ def words():
     parser.add_argument("--devices", type=int, default=8_192, help="the most devices in a process")
     parser.add_argument("--folder", default="/dev/shm", help="where the nodes keep their Resumes; /dev/shm is memory")
     parser.add_argument("--live", default=os.environ.get("COGMAULA_LIVE", "live"), help="the program live")
+    parser.add_argument("--single", action="store_true", help="tell each price in a topic of its own, and not all together")
     parser.add_argument("--broker-alone", action="store_true", help="leave the nodes out, and measure devices and broker")
     return parser.parse_args()
 

@@ -38,6 +38,8 @@ def tables_of(tree: Tree, member: Member, places: Places) -> dict[str, dict[str,
         found["page"] = {**member.page, **own}
     if member.device is not None:
         found["device"] = dict(member.device)
+    if member.sort != "device":
+        found["prices"] = dict(vars(tree.prices))
     bounds: dict[str, Any] = {}
     for child in tree.children(member.name):
         pause = DEVICE_PAUSE if child.sort == "device" and "child_pause" not in member.more else None

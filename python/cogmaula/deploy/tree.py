@@ -14,10 +14,11 @@ from ..cluster import Basis
 from ..live.errors import BadSettings
 from ..live.frames import CHILDREN, Sort
 from ..live.rights import Place, Right, rights_of_control, rights_of_grid_operator, rights_of_node, rights_of_operator, rights_of_reader
+from ..live.settings import PriceSettings
 from ..live.toml_tables import read_tables, require_types, table_of, value_of
 from ..live.topics import Topics, require_name
 
-TABLES = ("market", "basis", "broker", "auctioneer", "relays", "devices", "logins")
+TABLES = ("market", "basis", "broker", "prices", "auctioneer", "relays", "devices", "logins")
 # The most relays between a device and the auctioneer: deeper trees may not settle by what is proved of them.
 MOST_RELAYS = 6
 # Names of folders beside those of nodes and logins.
@@ -118,6 +119,7 @@ class Tree:
     broker: BrokerPlan
     members: tuple[Member, ...]
     logins: tuple[Login, ...] = ()
+    prices: PriceSettings = field(default_factory=PriceSettings)
 
     def __post_init__(self) -> None:
         """Raises BadSettings."""
@@ -204,7 +206,7 @@ class Tree:
 
     def to_tables(self) -> dict[str, dict[str, Any]]:
         """The tables of a file that names this market, with all numbers."""
-        found: dict[str, dict[str, Any]] = {part: dict(vars(getattr(self, part))) for part in ("market", "basis", "broker")}
+        found: dict[str, dict[str, Any]] = {part: dict(vars(getattr(self, part))) for part in ("market", "basis", "broker", "prices")}
         for member in self.members:
             own = {name: getattr(member, name) for name in ("parent", "child", "least", "greatest", "host")}
             told = {**own, "control": member.control or None, **member.more, "page": member.page, "device": member.device}
@@ -247,6 +249,7 @@ def tree_of(tables: Mapping[str, Any]) -> Tree:
     market = value_of(MarketPlan, tables.get("market", {}), "market")
     basis = value_of(Basis, tables.get("basis", {}), "basis")
     broker = value_of(BrokerPlan, tables.get("broker", {}), "broker")
+    prices = value_of(PriceSettings, tables.get("prices", {}), "prices")
     first = dict(tables.get("auctioneer", {}))
     root = _member("auctioneer", first.pop("name", "auctioneer"), first, "auctioneer")
     members = [root]
@@ -255,7 +258,7 @@ def tree_of(tables: Mapping[str, Any]) -> Tree:
             place = f"{word}.{name}"
             members.append(_member(cast(Sort, sort), name, {"parent": root.name, **table_of(table, place)}, place))
     logins = [_login(name, table_of(table, f"logins.{name}")) for name, table in tables.get("logins", {}).items()]
-    return Tree(market, basis, broker, tuple(_numbered(members)), tuple(logins))
+    return Tree(market, basis, broker, tuple(_numbered(members)), tuple(logins), prices)
 
 
 def _member(sort: Sort, name: str, table: Mapping[str, Any], place: str) -> Member:

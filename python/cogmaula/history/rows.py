@@ -12,6 +12,7 @@ from ..live.children import SESSION, TIME
 from ..live.errors import BadFrame, BadMessage
 from ..live.frames import BIDS, PRICES, Bid, Gone, Price, frame_of
 from ..live.messages import BasisMessage, LapseMessage, SetpointMessage, SilentMessage, StateMessage, object_of
+from ..live.price_table import PriceTable
 from ..live.sessions import time_of
 from ..live.topics import Topics
 
@@ -54,6 +55,9 @@ def _rows_of(topics: Topics, message: Message) -> list[Row]:
     node, word, child = parts
     if child is not None:
         return _of_child(session, node, word, child, message)
+    if word == "prices":
+        at = _seconds_or_none(message.properties.get(TIME))
+        return [_price(session, node, price, at) for price in PriceTable.of(message.payload).prices()]
     read = _OF_NODE.get(word)
     return [] if read is None else [read(session, node, message)]
 
@@ -74,10 +78,12 @@ def _of_child(session: str, parent: str, word: str, child: int, message: Message
     if isinstance(frame, Bid | Gone):
         demands = json.dumps(frame.demands) if isinstance(frame, Bid) else None
         return [Row("bids", {**key, "number": frame.number, "at": at, "demands": demands})]
-    if isinstance(frame, Price):
-        price = {"step": frame.step, "price": frame.basis.price(frame.step)}
-        return [Row("prices", {**key, "clearing": frame.index, "number": frame.number, **price, "at": at})]
-    return []
+    return [_price(session, parent, frame, at)] if isinstance(frame, Price) else []
+
+
+def _price(session: str, parent: str, price: Price, at: float | None) -> Row:
+    key = {"session": session, "parent": parent, "child": price.child, "clearing": price.index}
+    return Row("prices", {**key, "number": price.number, "step": price.step, "price": price.basis.price(price.step), "at": at})
 
 
 def _state(_session: str, node: str, message: Message) -> Row:

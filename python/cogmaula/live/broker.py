@@ -67,6 +67,12 @@ class Message:
     expiry: int | None = None
 
 
+def message_of(message: Any) -> Message:
+    """A message of paho."""
+    expiry = getattr(message.properties, "MessageExpiryInterval", None)
+    return Message(message.topic, bytes(message.payload), user_properties_of(message), bool(message.retain), expiry)
+
+
 @dataclass(frozen=True)
 class Settled:
     """A connection is there, and all that the broker retains has come."""
@@ -93,7 +99,7 @@ class Link(Protocol):
     ) -> None:
         """Connects, now and again, and reads these topics. The last will and the marker are made anew for each connection.
 
-        written: topics, each with + at its end, that this node alone writes. They are read too: what the broker retains, and then
+        written: topics, or patterns with + at their ends, that this node alone writes. They are read too: what the broker retains, and then
                  at least up to the first message that comes back, which shows that the node may write them
         """
 
@@ -190,11 +196,17 @@ class Broker:
         self, topics: Sequence[str], will: Callable[[], Publication], marker: Callable[[], Publication], written: Sequence[str] = ()
     ) -> None:
         """See Link."""
+        self._prepare(topics, will, marker, written)
+        self._thread = threading.Thread(target=self._run, daemon=True)
+        self._thread.start()
+
+    def _prepare(
+        self, topics: Sequence[str], will: Callable[[], Publication], marker: Callable[[], Publication], written: Sequence[str]
+    ) -> None:
+        """Takes what `start` is given."""
         self._topics, self._will, self._marker = [*topics, *written], will, marker
         self._written = list(written)
         self._asked: dict[tuple[object, int], list[str]] = {}
-        self._thread = threading.Thread(target=self._run, daemon=True)
-        self._thread.start()
 
     def also_read(self, topic: str) -> None:
         """See Link."""
@@ -357,7 +369,7 @@ class Broker:
 
     def _is_written(self, topic: str) -> bool:
         """Whether this node alone writes the topic."""
-        return any(topic.startswith(topic_filter[:-1]) for topic_filter in self._written)
+        return any(topic.startswith(pattern[:-1]) if pattern.endswith("+") else topic == pattern for pattern in self._written)
 
     def _read_no_more(self) -> None:
         """Lets the broker give back no more of what this node alone writes."""
@@ -391,8 +403,12 @@ class Broker:
         try:
             return self._worked_connection()
         finally:
-            self._client = self._settled = None
-            self._was_lost = True
+            self._let_go()
+
+    def _let_go(self) -> None:
+        """Notes that a connection has ended."""
+        self._client = self._settled = None
+        self._was_lost = True
 
     def _worked_connection(self) -> tuple[bool, str]:
         ended = threading.Event()
@@ -423,6 +439,10 @@ class Broker:
         if code.value >= REFUSED:
             words.append(words_of_refusal(code, self.settings))
             return
+        self._begin_on(client)
+
+    def _begin_on(self, client: Any) -> None:
+        """Reads all topics on a new connection, and publishes the marker."""
         self._marked_at = time.monotonic()
         self._client = client
         self._subscribe(client, self._topics)
@@ -445,14 +465,16 @@ class Broker:
         if len(message.payload) > self._topics_of_market.longest(message.topic):
             self._say_wrong(message.topic, len(message.payload))
             return
-        expiry = getattr(message.properties, "MessageExpiryInterval", None)
-        found = Message(message.topic, bytes(message.payload), user_properties_of(message), bool(message.retain), expiry)
+        self._take_found(client, message_of(message))
+
+    def _take_found(self, client: Any, found: Message) -> None:
+        """Takes a message of a connection."""
         marked = self._marked
         if marked is not None and (found.topic, found.payload) == (marked.topic, marked.payload) and self._settled is None:
             self._settled = client
             if self._was_lost:
                 self._was_lost = False
-                self._log.info(f"{self.settings.address}: connected{' again' if self._was_settled else ''}")
+                self._say_connected(f"{self.settings.address}: connected{' again' if self._was_settled else ''}")
             self._was_settled = True
             self._notify(Settled())
             return
@@ -467,6 +489,9 @@ class Broker:
                 self._has_lost = True
         if is_first:
             self._notify(Arrived())
+
+    def _say_connected(self, words: str) -> None:
+        self._log.info(words)
 
     def _say_wrong(self, topic: str, count: int) -> None:
         """Says once that a message of a topic is none of a market."""

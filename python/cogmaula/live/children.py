@@ -1,17 +1,17 @@
-"""What a relay and an auctioneer keep of their children: the newest Bid or Gone of each, and the newest Price for each."""
+"""What a relay and an auctioneer keep of their children: the newest Bid or Gone of each. pricing.py has the prices for them."""
 
 from __future__ import annotations
 
 import hashlib
-from collections.abc import Collection, Iterable
+from collections.abc import Iterable
 from dataclasses import dataclass, field
 from enum import Enum, auto
 from functools import cached_property
 
 from ..logs import NodeLog
-from .broker import Link, Message, Publication
+from .broker import Message
 from .errors import BadFrame
-from .frames import BIDS, PRICES, Bid, Gone, Old, Price, frame_of
+from .frames import BIDS, Bid, Gone, frame_of
 from .messages import VERSION
 from .topics import Topics
 
@@ -57,12 +57,11 @@ class BidFault(Enum):
 class Children:
     """The children of one node in one session."""
 
-    def __init__(self, node: str, topics: Topics, steps: int, link: Link, log: NodeLog) -> None:
-        """Takes the node's name, its topics, the steps of the market, its connection, and a log."""
+    def __init__(self, node: str, topics: Topics, steps: int, log: NodeLog) -> None:
+        """Takes the node's name, its topics, the steps of the market, and a log."""
         self._node = node
         self._topics = topics
         self._steps = steps
-        self._link = link
         self._log = log
         self._session = ""
         self._newest: dict[int, Heard] = {}
@@ -72,8 +71,6 @@ class Children:
         self._last: dict[int, Bid | Gone] = {}
         # What the service had been fed when it was asked for the sum that it makes now.
         self.asked: dict[int, Heard] = {}
-        # The topics of the prices for the children that were heard: they are looked at after each confirmation.
-        self._price_topics: dict[int, str] = {}
         self._told: set[tuple[int, BidFault]] = set()
         # Of each child the number and the digest of the bid that was in the newest sum, if the broker alone has it.
         self._known: dict[int, tuple[int, str]] = {}
@@ -86,13 +83,10 @@ class Children:
         self._session = session
         self._known = _known_of(known)
         self._before.clear()
-        self._price_topics.clear()
         self._told.clear()
         self._newest = {bid.frame.child: bid for bid in kept}
         self._last = {child: bid.frame for child, bid in self._newest.items()}
         self.asked = dict(self._newest)
-        for child in self._newest:
-            self._price_topics[child] = self._topics.price(self._node, child)
 
     @property
     def newest(self) -> list[Bid | Gone]:
@@ -110,16 +104,12 @@ class Children:
         """Notes that the service is asked for a sum, of what it was fed."""
         self.asked = dict(self._newest)
 
-    @property
-    def price_topics(self) -> Collection[str]:
-        """The topics of the prices for the children that were heard."""
-        return self._price_topics.values()
-
     def number(self, child: int) -> int:
         """The newest number that was heard of a child, 0 without one."""
         return self._newest[child].frame.number if child in self._newest else 0
 
-    def _is_gone(self, child: int) -> bool:
+    def is_gone(self, child: int) -> bool:
+        """Whether the newest that was heard of a child is that it has left."""
         return child in self._newest and isinstance(self._newest[child].frame, Gone)
 
     def taken(self, child: int, message: Message) -> Heard | None:
@@ -162,9 +152,6 @@ class Children:
                 self._before[child] = self._newest[child]
             self._newest[child] = heard
             self._last[child] = frame
-        self._price_topics.setdefault(child, self._topics.price(self._node, child))
-        if isinstance(frame, Gone):
-            self.clear(child)
         return heard
 
     def too_much(self, child: int, number: int) -> None:
@@ -181,46 +168,6 @@ class Children:
     def lacking(self, numbers: tuple[int, ...]) -> list[int]:
         """The children that were not heard up to these numbers, those of the newest Resume."""
         return [child for child, number in enumerate(numbers, 1) if number > self.number(child)]
-
-    def pass_on(self, price: Price | Old, time: str) -> None:
-        """Publishes the Price for a child, unless the child has left or has a newer one. `time` is that of the clearing.
-
-        An Old takes its place: a child that was let go has no price.
-        """
-        topic = self._topics.price(self._node, price.child)
-        kept = self._link.kept(topic)
-        is_newer = isinstance(price, Price) and kept is not None and self._is_newer(kept, price)
-        if not self._is_gone(price.child) and not is_newer:
-            self._link.publish(Publication(topic, price.to_bytes(), ((TIME, time), (SESSION, self._session), (FORM, str(VERSION)))))
-
-    def keep_price(self, child: int, message: Message) -> None:
-        """Takes a price of this node that the broker retains, as if it had been published now.
-
-        So it is published again if the broker loses it. The price of a child that has left is cleared.
-        """
-        topic = self._topics.price(self._node, child)
-        if not message.payload or self._link.kept(topic) is not None:
-            return
-        if self._is_gone(child) or message.properties.get(SESSION) != self._session:
-            self._link.publish(Publication(topic, b""))
-        else:
-            self._link.publish(Publication(topic, message.payload, tuple(message.properties.items())))
-
-    def _is_newer(self, kept: Publication, price: Price) -> bool:
-        if not kept.payload or dict(kept.properties).get(SESSION) != self._session:
-            return False
-        try:
-            before = frame_of(kept.payload, PRICES, self._steps)
-        except BadFrame:
-            return False
-        return isinstance(before, Price) and before.index > price.index
-
-    def clear(self, child: int) -> None:
-        """Clears the price that the broker retains for a child that has left, or was let go."""
-        topic = self._topics.price(self._node, child)
-        kept = self._link.kept(topic)
-        if kept is None or kept.payload:
-            self._link.publish(Publication(topic, b""))
 
     def _warn_once(self, child: int, cause: BidFault, why: str) -> None:
         """Warns of what is wrong with a child's message, once in a session for each cause."""

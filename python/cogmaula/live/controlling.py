@@ -33,7 +33,7 @@ class Controlling:
         self._silence = silence
         self._control = control
         self._log = log
-        # The stored setpoint and the heartbeat that the control was told last.
+        # The setpoint and the heartbeat that the control was told last.
         self._told: tuple[str, Heartbeat | None] | None = None
         self.is_silent = False
 
@@ -44,7 +44,8 @@ class Controlling:
     def setpoint(self, setpoint: Setpoint, moment: str, now: float, has_bid: bool) -> None:
         """Stores a setpoint and then tells it, so that after a restart the control is told none that is older.
 
-        One of the same offer and step is only noted: the control is to take just what it was told before.
+        One of the same offer and step is only noted: the control takes what it was told before. With the next heartbeat it is told that it
+        is of a later clearing.
 
         moment: when the market cleared
         """
@@ -86,7 +87,7 @@ class Controlling:
         if stored is None or not stored.setpoint:
             return
         due = stored.setpoint, self._silence.newest
-        if due != self._told:
+        if self._told is None or self._told[1] != due[1] or not is_same_setpoint(self._told[0], due[0]):
             self._told = due
             told = with_until(stored.setpoint, self._silence.until(now))
             self._write(told)

@@ -7,7 +7,7 @@ from __future__ import annotations
 
 import struct
 from dataclasses import dataclass
-from typing import ClassVar
+from typing import ClassVar, cast
 
 from ..cluster import Basis
 from .errors import BadFrame
@@ -21,6 +21,8 @@ DEMANDS, NUMBERS, PAIRS = "demands", "numbers", "pairs"
 POINTS = 128
 # The format of the basis: the least price, the greatest price and the number of steps.
 BASIS = "iiH"
+# The name under which a frame that was read keeps its bytes.
+_BYTES = "_bytes"
 
 
 @dataclass(frozen=True)
@@ -34,8 +36,11 @@ class Frame:
 
     def to_bytes(self) -> bytes:
         """The bytes of the frame. Raises struct.error if a number does not fit into its field."""
+        members = vars(self)
+        if _BYTES in members:
+            return cast(bytes, members[_BYTES])
         # Not by astuple, which copies a list of demands one by one.
-        fields = tuple(vars(self).values())
+        fields = tuple(members.values())
         listed = fields[-1] if self.LIST else ()
         fixed = fields[:-1] if self.LIST else fields
         return struct.pack(f">B{self.FIELDS}{len(listed)}{item(self.LIST)}", self.first, *fixed, *listed)
@@ -44,6 +49,10 @@ class Frame:
     def first(self) -> int:
         """The first byte."""
         return self.KIND
+
+    def keep_bytes(self, data: bytes) -> None:
+        """Notes the bytes that the frame was read from, so that it is handed on as it came."""
+        vars(self)[_BYTES] = data
 
     def require_right(self, steps: int) -> None:
         """Raises BadFrame if a field is none that a node takes, in a market of so many steps."""

@@ -441,13 +441,15 @@ def size_of(kind: type[Frame], steps: int, first: int = POINTS) -> int:
 
 
 def _made(kind: type[Frame], data: bytes, steps: int) -> Frame:
-    """The frame of this kind that so many bytes are."""
+    """The frame of this kind that so many bytes are. It keeps them."""
     length = _length(kind, steps, data[0])
     fields = struct.unpack(f">B{kind.FIELDS}{length}{item(kind.LIST)}", data)[1:]
     fixed = len(fields) - length
     # The fields of a kind are those of its formats, and a list behind them.
     make: Callable[..., Frame] = kind
-    return make(*fields[:fixed], fields[fixed:]) if kind.LIST else make(*fields)
+    frame = make(*fields[:fixed], fields[fixed:]) if kind.LIST else make(*fields)
+    frame.keep_bytes(data)
+    return frame
 
 
 def frame_of(data: bytes, kinds: Kinds, steps: int) -> Frame:
@@ -477,13 +479,16 @@ class Splitter:
 
     def feed(self, piece: bytes) -> Iterator[Frame]:
         """The frames that a further piece ends, in their order. Raises BadFrame at a byte that begins no frame."""
-        self.kept += piece
-        while self.kept:
-            kind = self.kinds.get(self.kept[0])
-            if kind is None:
-                raise BadFrame(f"the byte {self.kept[0]} begins no frame that this node writes")
-            size = size_of(kind, self.steps, self.kept[0])
-            if len(self.kept) < size:
-                return
-            data, self.kept = self.kept[:size], self.kept[size:]
-            yield _made(kind, data, self.steps)
+        data, at = self.kept + piece, 0
+        try:
+            while at < len(data):
+                kind = self.kinds.get(data[at])
+                if kind is None:
+                    raise BadFrame(f"the byte {data[at]} begins no frame that this node writes")
+                end = at + size_of(kind, self.steps, data[at])
+                if end > len(data):
+                    return
+                frame, at = _made(kind, data[at:end], self.steps), end
+                yield frame
+        finally:
+            self.kept = data[at:]

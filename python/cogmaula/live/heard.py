@@ -11,6 +11,7 @@ from .children import SESSION, TIME
 from .errors import BadFrame, BadMessage
 from .frames import BIDS, PRICES, Bid, Gone, Kinds, Old, Price, frame_of
 from .messages import BasisMessage, LapseMessage, SetpointMessage, SilentMessage, StateMessage, control_message_of
+from .price_table import PriceTable
 from .sessions import time_of
 from .topics import Topics
 
@@ -49,8 +50,12 @@ class Heard:
     not_taken: the messages that are none of these
     """
 
-    def __init__(self, prefix: str, messages: Mapping[str, Message]) -> None:
-        """Reads the messages. Those of other topics than those of docs/LIVE.md are left out."""
+    def __init__(self, prefix: str, messages: Mapping[str, Message], own: str | None = None) -> None:
+        """Reads the messages. Those of other topics than those of docs/LIVE.md are left out.
+
+        own: the node that they are for, None if they are all of the market. Its parent's table also has the prices of its siblings, which
+             are left out: of them it hears nothing else
+        """
         self._topics = Topics(prefix)
         self.basis: BasisMessage | None = None
         self.states: dict[str, StateMessage | None] = {}
@@ -65,6 +70,9 @@ class Heard:
         for topic in sorted(messages):
             if messages[topic].payload:
                 self._read(messages[topic])
+        state = None if own is None else self.states.get(own)
+        if state is not None and state.parent is not None:
+            self.prices = {place: told for place, told in self.prices.items() if place[0] != state.parent or place[1] == state.child}
 
     @property
     def session(self) -> str | None:
@@ -90,6 +98,8 @@ class Heard:
                 lapse = self._read_as(message, LapseMessage.of)
                 if lapse is not None:
                     self.lapsed[node, child] = lapse
+        elif word == "prices":
+            self._read_table(message, node)
         elif word == "state":
             self.states[node] = self._read_as(message, StateMessage.of)
         elif word == "setpoint" and self._is_of_session(message):
@@ -117,7 +127,22 @@ class Heard:
         elif isinstance(frame, Bid | Gone):
             self.bids[place] = frame, time
         elif isinstance(frame, Price):
-            self.prices[place] = frame, time
+            self._keep_price(place, frame, time)
+
+    def _read_table(self, message: Message, node: str) -> None:
+        """Reads the prices for all children of a node, if they are of this session."""
+        if self.basis is None or not self._is_of_session(message):
+            return
+        table = self._read_as(message, PriceTable.of)
+        time = time_or_none(message.properties.get(TIME, ""))
+        for price in [] if table is None else table.prices():
+            self._keep_price((node, price.child), price, time)
+
+    def _keep_price(self, place: Place, price: Price, time: str | None) -> None:
+        """Keeps a price, unless a newer one is known: a child may have one by a topic of its own and one in its parent's table."""
+        known = self.prices.get(place)
+        if known is None or known[0].index <= price.index:
+            self.prices[place] = price, time
 
     def _read_as(self, message: Message, read: Callable[[bytes], Told]) -> Told | None:
         try:

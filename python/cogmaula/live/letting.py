@@ -3,6 +3,7 @@
 from __future__ import annotations
 
 import json
+import time
 from collections.abc import Callable, Iterable
 
 from ..logs import NodeLog
@@ -13,6 +14,7 @@ from .frames import AuctioneerResume, Bound, Expire, Gone, Old, RelayResume, Too
 from .keeping import Keeping
 from .lapses import Lapses
 from .messages import LapseMessage, StateMessage
+from .pricing import Pricing
 from .sessions import now_text
 from .settings import Settings
 from .times import Times
@@ -31,6 +33,7 @@ class Letting:
         keeping: Keeping,
         link: Link,
         children: Children,
+        pricing: Pricing,
         log: NodeLog,
         feed: Callable[[bytes], None],
         has_news: Callable[[], None],
@@ -40,6 +43,7 @@ class Letting:
         self._keeping = keeping
         self._link = link
         self._children = children
+        self._pricing = pricing
         self._log = log
         self._feed = feed
         self._has_news = has_news
@@ -101,6 +105,8 @@ class Letting:
             self.lapses.lives(child, now)
             return
         heard = self._children.taken(child, message)
+        if heard is not None and isinstance(heard.frame, Gone):
+            self._pricing.clear(child)
         if heard is None or (message.retained and not heard.is_new):
             return
         self._note_sender(heard, now)
@@ -208,7 +214,7 @@ class Letting:
         """Stores that a child is let go, and then lets it go: so that a restart does it again."""
         self._keeping.change(lapsed={**self._lapsed, child: self._number(child) | 1})
         self.lapses.forget(child)
-        self._children.clear(child)
+        self._pricing.clear(child)
         self._log.warning(f"child {child} is let go, {why}: its bid does not count any more")
         self._tell_lapse(child, why)
         self._has_news()
@@ -226,4 +232,4 @@ class Letting:
     def old(self, frame: Old) -> None:
         """Hands an Old to a device that was let go and lives: by it the device bids anew."""
         if self._is_device(frame.child) and 0 < self._children.number(frame.child) < frame.kept:
-            self._children.pass_on(frame, now_text())
+            self._pricing.pass_on(frame, now_text(), time.monotonic())

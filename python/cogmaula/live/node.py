@@ -22,7 +22,8 @@ from .counting import NodeFacts
 from .errors import BadFrame, BadMessage, LiveError, NodeRefused
 from .frames import CHILDREN, MOST, PRICES, Leave, Old, Price, frame_of
 from .messages import LOST, VERSION, BasisMessage, StateMessage, object_of
-from .service import Came, Ended
+from .price_table import price_for
+from .service import Came, Ended, MakeService
 from .serving import LAST_SECONDS, Serving
 from .sessions import Session, now_text
 from .settings import Settings
@@ -62,36 +63,43 @@ class Node:
         make_link: MakeLink | None = None,
         tick: float = TICK,
         turns: Callable[[], None] = lambda: None,
+        make_service: MakeService | None = None,
+        wake: Callable[[], None] = lambda: None,
     ) -> None:
         """Takes the node's place on disk. `make_node` has the arguments.
 
-        make_link: makes another connection than a broker's
-        tick:      the seconds between looks at the clock, if nothing else happens
+        make_link:    makes another connection than a broker's
+        tick:         the seconds between looks at the clock, if nothing else happens
+        make_service: starts another service than one whose bytes two threads move
+        wake:         is called once there is something for `turn` to take, from any thread
         """
         self.settings = settings
         self._tick = tick
         self._turns = turns
+        self._wake = wake
         self._log = log or NodeLog(logging.getLogger(__name__), settings.name)
         self._log_of_changes = self._log.of_changes()
         self._events: queue.SimpleQueue[Event | Came | Ended | _Offered | _Stop] = queue.SimpleQueue()
         self._run_id, self._started = secrets.token_hex(8), now_text()
         self._seen: dict[str, Message] = {}
         self.session: Session | None = None
-        self._state_told = self._parent_state = ""
+        self._state_told: tuple[object, ...] = ()
+        self._parent_state = ""
         self._begun = ""
         # When the node looked last, and when it reads again what the broker retains.
         self._looked = time.monotonic()
+        self._gap = max(GAP, 2 * tick)
         self._between = READ_AGAIN_DEVICE if settings.sort == "device" else READ_AGAIN
         # Nodes that start together do not read together.
         self._read_at = self._looked + self._between * (0.5 + secrets.randbelow(500) / 1_000)
         if control is None and settings.sort == "device" and not settings.leave:
             control = StandardControl()
         self._control = control
-        self._link: Link = (make_link or self._broker)(self._events.put, self._log)
+        self._link: Link = (make_link or self._broker)(self._put, self._log)
         self._store = Store(settings.state, settings.name, settings.sort)
         self._starts, self._is_first = self._store.next_start(), True
         self.showing = Showing(settings, self._log, lambda: [self.facts()])
-        self.serving = Serving(settings, self._store, self._link, control, self._log, self._events.put)
+        self.serving = Serving(settings, self._store, self._link, control, self._log, self._put, make_service)
 
     def _broker(self, notify: Callable[[Event], None], log: NodeLog) -> Link:
         client_id = f"cogmaula.{self.settings.broker.prefix.replace('/', '.')}.{self.settings.name}"
@@ -106,22 +114,14 @@ class Node:
         """
         why = "it failed"
         try:
-            self._link.start(self._subscriptions(), lambda: self._state("down", LOST, lost=True), self._marker, self._written())
-            self.showing.start()
-            if self._control is not None:
-                self._control.start(lambda data: self._events.put(_Offered(data)), self._log)
+            self.start()
             while not (self.settings.leave and self.serving.has_left):
-                self.serving.counts.turned = time.monotonic()
                 self._turns()
                 event = self._next_event()
                 if isinstance(event, _Stop):
                     break
                 self._take(event)
-                self._link.tick()
-                self._read_again(time.monotonic())
-                self.showing.tick(self._link.is_settled)
-                self.serving.tick(time.monotonic())
-                self._tell_state()
+                self._look()
             why = "stopped"
             if self.settings.leave and self.serving.has_left:
                 why = f"it has left: child {self.settings.child} of {self.settings.parent} is gone as of number {self.serving.last}"
@@ -130,16 +130,33 @@ class Node:
             why = str(error)
             raise
         finally:
-            self._link.close(self._state("down", why), 2 * LAST_SECONDS)
-            try:
-                self.serving.end(why)
-            finally:
-                self._store.close()
-                self.showing.close(LAST_SECONDS)
+            self.end(why)
+
+    def start(self) -> None:
+        """Connects, serves the page and hears the control from now on. `run` does it; who calls `turn` does it before."""
+        self._link.start(self._subscriptions(), lambda: self._state("down", LOST, lost=True), self._marker, self._written())
+        self.showing.start()
+        if self._control is not None:
+            self._control.start(lambda data: self._put(_Offered(data)), self._log)
+
+    def turn(self) -> None:
+        """Takes all that has come, and looks at the clock once. Raises what `run` raises, and then `end` is due."""
+        while not self._events.empty():
+            self._take(self._events.get())
+        self._look()
+
+    def end(self, why: str) -> None:
+        """Ends the connection, the service and the page, and lets go of the folder. Raises OSError."""
+        self._link.close(self._state("down", why), 2 * LAST_SECONDS)
+        try:
+            self.serving.end(why)
+        finally:
+            self._store.close()
+            self.showing.close(LAST_SECONDS)
 
     def stop(self) -> None:
         """Ends `run`, from any thread or from the handler of a signal."""
-        self._events.put(_Stop())
+        self._put(_Stop())
 
     def facts(self) -> NodeFacts:
         """What the node tells of itself now. It may be called from any thread."""
@@ -157,6 +174,20 @@ class Node:
             loop_age=time.monotonic() - serving.counts.turned,
         )
 
+    def _put(self, event: Event | Came | Ended | _Offered | _Stop) -> None:
+        """Takes an event, from any thread."""
+        self._events.put(event)
+        self._wake()
+
+    def _look(self) -> None:
+        """Does what is due by the clock, and tells what changed."""
+        now = self.serving.counts.turned = time.monotonic()
+        self._link.tick()
+        self._read_again(now)
+        self.showing.tick(self._link.is_settled)
+        self.serving.tick(now)
+        self._tell_state()
+
     def _next_event(self) -> Event | Came | Ended | _Offered | _Stop | None:
         try:
             return self._events.get(timeout=self._tick)
@@ -165,7 +196,7 @@ class Node:
 
     def _read_again(self, now: float) -> None:
         """Reads what the broker retains again: now and then, and after a pause in which it may have dropped messages for this node."""
-        if now > self._looked + GAP or self._link.has_lost:
+        if now > self._looked + self._gap or self._link.has_lost:
             self._read_at = min(self._read_at, now + SOON)
         self._looked = now
         if now >= self._read_at:
@@ -202,13 +233,14 @@ class Node:
             found += self._prices()
         if settings.parent is not None:
             found += [settings.own_topic(kind) for kind in ("bid", "price", "refused")]
-            found += [topics.of(settings.parent, kind) for kind in ("state", "heartbeat")]
+            found += [topics.of(settings.parent, kind) for kind in ("state", "heartbeat", "prices")]
         return found
 
     def _prices(self) -> list[str]:
         """The topics of the prices for the node's children, which it alone writes."""
         settings = self.settings
-        return [] if settings.sort == "device" else [settings.topics.price(settings.name, "+")]
+        topics = settings.topics
+        return [] if settings.sort == "device" else [topics.price(settings.name, "+"), topics.prices(settings.name)]
 
     def _written(self) -> list[str]:
         """The topics that need not all be read back: the prices, unless the node's page shows what it hears."""
@@ -235,7 +267,7 @@ class Node:
         """Publishes the state if it changed."""
         serving = self.serving
         limits, silent = serving.limiting.given.newest, serving.silent_since(time.monotonic())
-        state = f"{self.session} {self._starts} {serving.why_down} {limits} {serving.alarm} {silent}"
+        state = (self.session, self._starts, serving.why_down, limits, serving.alarm, silent)
         if state != self._state_told:
             self._state_told = state
             self._link.publish(self._marker())
@@ -267,7 +299,11 @@ class Node:
             if message.payload and not message.retained:
                 self.serving.letting.drop(child)
         elif (child := topics.child_of(topic, settings.name, "price")) is not None:
-            self.serving.children.keep_price(child, message)
+            self.serving.pricing.keep_price(child, message)
+        elif settings.sort != "device" and topic == topics.prices(settings.name):
+            self.serving.pricing.keep_table(message)
+        elif settings.parent is not None and topic == topics.prices(settings.parent):
+            self._take_table(message)
         elif topic == topics.basis:
             self._take_basis()
         elif settings.parent is not None and topic == settings.own_topic("price"):
@@ -306,6 +342,19 @@ class Node:
         if isinstance(price, Old):
             self.serving.hear_old(price)
         else:
+            self.serving.hear_price(price, message.properties.get(TIME, ""))
+
+    def _take_table(self, message: Message) -> None:
+        """Takes the own Price of the parent's table."""
+        if not self._is_of_session(message):
+            return
+        assert self.settings.child is not None
+        try:
+            price = price_for(message.payload, self.settings.child)
+        except BadFrame as error:
+            self._log.warning(f"{message.topic} is not taken: {error}")
+            return
+        if price is not None:
             self.serving.hear_price(price, message.properties.get(TIME, ""))
 
     def _is_of_session(self, message: Message) -> bool:

@@ -52,18 +52,18 @@ class Place:
 
 # What nodes may do with the topics below their own name.
 _OF_NODE: Words = (("readwrite", "state"), ("readwrite", "resume"))
-_OF_PARENT: Words = (("readwrite", "heartbeat"), ("read", "bid/+"), ("read", "drop/+"))
+_OF_PARENT: Words = (("readwrite", "heartbeat"), ("readwrite", "prices"), ("read", "bid/+"), ("read", "drop/+"))
 _OF_EACH_CHILD: Words = (("readwrite", "price"), ("readwrite", "lapsed"), ("readwrite", "refused"))
 _OF_LIMITED: Words = (("readwrite", "limits"), ("readwrite", "limits/state"))
 _OF_DEVICE: Words = (("readwrite", "setpoint"), ("readwrite", "answer"), ("read", "offer"))
 _OF_CONTROL: Words = (("write", "offer"), ("write", "measured"), ("read", "setpoint"), ("read", "answer"), ("read", "state"))
 # What a child may do with the topics below its parent's name: those of its own number, and those that are for all children.
-_OF_CHILD: Words = (("read", "state"), ("read", "heartbeat"))
+_OF_CHILD: Words = (("read", "state"), ("read", "heartbeat"), ("read", "prices"))
 _OF_NUMBER: Words = (("readwrite", "bid"), ("read", "price"), ("read", "refused"))
 _OF_DEVICE_NUMBER: Words = (("read", "lapsed"),)
 
 # What a page of a whole market reads, and what a history does, below the prefix: neither offers nor Resumes.
-SHOWN = ("basis", "+/state", "+/bid/+", "+/price/+", "+/setpoint", "+/lapsed/+")
+SHOWN = ("basis", "+/state", "+/bid/+", "+/price/+", "+/prices", "+/setpoint", "+/lapsed/+")
 KEPT = (*SHOWN, "+/limits/state", "+/measured")
 
 

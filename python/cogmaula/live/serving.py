@@ -28,6 +28,7 @@ from .frames import (
     Bid,
     Clear,
     DeviceResume,
+    Dropped,
     Fault,
     Frame,
     Gone,
@@ -53,8 +54,9 @@ from .keeping import Keeping
 from .letting import Letting
 from .limiting import Limiting
 from .offers import Offers
+from .pricing import Pricing, is_of_same_power
 from .recording import Recording
-from .service import Came, Ended, Service
+from .service import Came, Ended, MakeService, Service, ServiceProcess
 from .sessions import now_text
 from .settings import Settings
 from .store import Store, Stored
@@ -79,30 +81,39 @@ class Serving:
         control: Control | None,
         log: NodeLog,
         notify: Callable[[Came | Ended], None],
+        make_service: MakeService | None = None,
     ) -> None:
-        """Takes what the node has. `notify` is called from other threads with what the service does, to come back by `take`."""
+        """Takes what the node has.
+
+        notify:       is called with what the service does, from other threads too, to come back by `take`
+        make_service: starts another service than one whose bytes two threads move
+        """
         self._settings = settings
         self._link = link
         self._log = log
         self._notify = notify
-        self.children = Children(settings.name, settings.topics, settings.basis.steps, link, log)
+        self.children = Children(settings.name, settings.topics, settings.basis.steps, log)
         self.offers = Offers(settings.basis, settings.offer_validity, log, settings.device, self._answer)
         self._asking = Asking(settings.period, settings.pause)
         self._recording = Recording(settings)
         self.keeping = Keeping(store, link)
         self._bids = BidLog(store.folder, settings.basis.steps)
         self.beating = Beating(settings, self.keeping, link)
+        self.pricing = Pricing(settings, self.keeping, link, self.beating.silence, log, self.children.is_gone)
         self.controlling = Controlling(settings, self.keeping, self.offers, self.beating.silence, control, log)
-        self.letting = Letting(settings, self.keeping, link, self.children, log, self._feed, self._asking.has_news)
+        self.letting = Letting(settings, self.keeping, link, self.children, self.pricing, log, self._feed, self._asking.has_news)
         self.limiting = Limiting(settings, self.keeping, log, self._feed, self._asking.has_news)
         self.counts = Counts()
-        self.service: Service | None = None
+        self._make_service = make_service
+        self.service: ServiceProcess | None = None
         self.resume: Resume | None = None
         # Why there is no service, "" if there is one.
         self.why_down = "it waits for its session"
-        # The newest Price of the parent, and whether the service has still to be fed it.
+        # The newest Price of the parent, the one that the service was fed last, when that was, and whether the service took it.
         self._price: Price | None = None
-        self._is_price_due = False
+        self._fed_price: Price | None = None
+        self._fed_at = 0.0
+        self._is_taken = True
         # An Old that says that the device was let go, and whether the service has still to be fed it.
         self._old: Old | None = None
         self._is_old_due = False
@@ -131,6 +142,7 @@ class Serving:
         if self._settings.sort != "device":
             kept = self._bids.begin(stored.session)
             self.children.begin(stored.session.id, kept, known)
+            self.pricing.begin()
             self.letting.begin(resume if isinstance(resume, RelayResume | AuctioneerResume) else None, kept, times, now)
         if self._settings.sort == "relay":
             self.limiting.begin(resume if isinstance(resume, RelayResume) else None)
@@ -181,8 +193,8 @@ class Serving:
     def _forget(self, why: str) -> None:
         self._bids.close()
         self._lacking = []
-        self.keeping.stored = self.resume = self._price = self._old = None
-        self._is_price_due = self._is_old_due = False
+        self.keeping.stored = self.resume = self._price = self._fed_price = self._old = None
+        self._is_old_due = False
         self.why_down = why
         self._bid = self.other_basis = 0
         self._times.clear()
@@ -231,16 +243,28 @@ class Serving:
         self._times[price.index] = moment
         while len(self._times) > TIMES:
             del self._times[min(self._times)]
-        if price == self._price and not self._is_price_due:
-            return
-        self._price, self._is_price_due = price, True
-        self._feed_price()
+        self._price = price
+        self._feed_price(time.monotonic())
 
-    def _feed_price(self) -> None:
-        """Feeds the newest Price once the broker has all that answers the one before. Prices between the two are passed over."""
-        if self._is_price_due and self._price is not None and self.service is not None and not self._pending:
-            self._is_price_due = False
+    def _feed_price(self, now: float) -> None:
+        """Feeds the newest Price once the broker has all that answers the one before. Prices between the two are passed over.
+
+        One that gives the same power as the one before is not new, and waits for one heartbeat.
+        """
+        if self._price is not None and self.service is not None and not self._pending and self._is_price_due(self._price, now):
+            self._fed_price, self._fed_at, self._is_taken = self._price, now, True
             self._feed(self._price.to_bytes())
+
+    def _is_price_due(self, price: Price, now: float) -> bool:
+        before = self._fed_price
+        if before is None or not self._is_taken or not is_of_same_power(before, price):
+            return price != before
+        return price.index > before.index and now >= self._fed_at + self.beating.silence.times.heartbeat
+
+    def _note_not_taken(self, number: int, index: int) -> None:
+        """Notes that the service did not take a Price: the next one is new, whatever it says."""
+        if self._fed_price is not None and (self._fed_price.number, self._fed_price.index) == (number, index):
+            self._is_taken = False
 
     def _feed(self, data: bytes) -> None:
         if self.service is not None and data:
@@ -257,7 +281,7 @@ class Serving:
             self._ended(event.why)
         else:
             self._came_at = time.monotonic()
-            self._pending.append(event.frame)
+            self._pending.extend(event.frames)
             self.work()
 
     def tick(self, now: float) -> None:
@@ -271,7 +295,7 @@ class Serving:
         if self.service is None:
             return
         self._feed_old()
-        self._feed_price()
+        self._feed_price(now)
         if self._settings.sort == "device":
             wanted = self.offers.due(now)
             for data in [b""] if wanted is None else [frame.to_bytes() for frame in frames_of(wanted)]:
@@ -315,6 +339,7 @@ class Serving:
             self.controlling.tick(now, self.beating.has_bid)
         else:
             self.letting.tick(now, self._link.is_settled)
+            self.pricing.tick(now)
             if self._settings.sort == "relay":
                 self.limiting.tick(now)
 
@@ -325,7 +350,8 @@ class Serving:
         settings = self._settings
         self._recording.starts(self.stored)
         try:
-            self.service = Service(settings.command, settings.sort, settings.basis, self.stored.frame, self._notify)
+            make = self._make_service or Service
+            self.service = make(settings.command, settings.sort, settings.basis, self.stored.frame, self._notify)
         except LiveError as error:
             self._ended(str(error))
             return
@@ -339,8 +365,8 @@ class Serving:
             self._feed(data)
         self._is_old_due = self._old is not None
         self._feed_old()
-        self._is_price_due = self._price is not None
-        self._feed_price()
+        self._fed_price = None
+        self._feed_price(now)
         self.offers.forget()
 
     def _ended(self, why: str) -> None:
@@ -361,16 +387,19 @@ class Serving:
         """Handles the service's frames in their order, up to a Resume that has to wait for the broker."""
         while self._pending:
             frame = self._pending[0]
-            if isinstance(frame, RelayResume | DeviceResume | ResumeGone) and self._link.is_unconfirmed(self._told_below()):
-                return
+            if isinstance(frame, RelayResume | DeviceResume | ResumeGone):
+                self.pricing.flush()
+                if self._link.is_unconfirmed(self._told_below()):
+                    return
             self._pending.popleft()
             self._recording.wrote(frame.to_bytes())
             self._handle(frame)
+        self.pricing.flush()
 
     def _told_below(self) -> Collection[str]:
         """The topics that the broker has to confirm before a Resume behind them is stored."""
         is_relay = self._settings.sort == "relay"
-        return self.children.price_topics if is_relay else [self._settings.own_topic("setpoint")]
+        return self.pricing.topics if is_relay else [self._settings.own_topic("setpoint")]
 
     def _handle(self, frame: Frame) -> None:
         self.counts.wrote(frame, self._count_lacking if isinstance(frame, NotCaughtUp) else 0)
@@ -385,7 +414,7 @@ class Serving:
                 if isinstance(frame, Gone):
                     self._link.publish(Publication(self._settings.own_topic("setpoint"), b""))
             case Price():
-                self.children.pass_on(frame, self._time_of(frame.index))
+                self.pricing.pass_on(frame, self._time_of(frame.index), time.monotonic())
             case Setpoint():
                 self.controlling.setpoint(frame, self._time_of(frame.index), time.monotonic(), self.beating.has_bid)
             case Old():
@@ -394,7 +423,10 @@ class Serving:
                 self.letting.too_much(frame)
             case OutOfLimits():
                 self.limiting.out_of_limits(frame)
+            case Dropped():
+                self._note_not_taken(frame.number, frame.index)
             case OtherBasis():
+                self._note_not_taken(frame.number, frame.index)
                 self.other_basis += 1
                 self._log.warning(f"the price of clearing {frame.index} is of another basis, and is not taken: give {self._settings.parent} this basis")
             case NotChanged():

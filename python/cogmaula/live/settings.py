@@ -6,6 +6,7 @@ import os
 import shutil
 from collections.abc import Mapping
 from dataclasses import dataclass, field
+from functools import cached_property
 from pathlib import Path
 from typing import Any
 
@@ -112,6 +113,13 @@ class ChildSettings:
 
 
 @dataclass(frozen=True)
+class PriceSettings:
+    """How a node tells its children their prices: together by one message, or each child by a topic of its own."""
+
+    together: bool = True
+
+
+@dataclass(frozen=True)
 class Settings:
     """One node of a market.
 
@@ -131,6 +139,7 @@ class Settings:
     fallback: the power in watts that a device's control is told while the market is silent
     device:   the kind of a device whose control says its state; None if it offers otherwise, or names the kind itself
     offer_validity: the seconds after which a device whose control is silent leaves; None keeps its bid
+    prices:   of a parent, how it tells prices
     children: of a parent, the bounds of children
     new_session: whether an auctioneer begins a new session
     leave:    whether a device leaves and the node then ends
@@ -166,6 +175,7 @@ class Settings:
     record_files: int | None = None
     broker: BrokerSettings = field(default_factory=BrokerSettings)
     page: PageSettings | None = None
+    prices: PriceSettings = field(default_factory=PriceSettings)
     children: tuple[ChildSettings, ...] = ()
     device: DeviceKind | None = None
 
@@ -280,17 +290,28 @@ class Settings:
         """Whether the node has a page that shows what the node itself hears."""
         return self.page is not None and not self.page.whole
 
-    @property
+    @cached_property
     def topics(self) -> Topics:
         """The topics of the market."""
         return Topics(self.broker.prefix)
 
     def own_topic(self, what: str) -> str:
         """One of the node's own topics: `bid`, `price`, `lapsed` and `refused` are its parent's, the others such as `state` its own."""
+        found = self._own_topics.get(what)
+        if found is None:
+            found = self._own_topics[what] = self._own_topic_of(what)
+        return found
+
+    def _own_topic_of(self, what: str) -> str:
         if what in OF_CHILDREN:
             assert self.parent is not None and self.child is not None
             return self.topics.at(self.parent, what, self.child)
         return self.topics.of(self.name, what)
+
+    @cached_property
+    def _own_topics(self) -> dict[str, str]:
+        """The own topics that were asked for: a node asks for them at each look at the clock."""
+        return {}
 
     @property
     def command(self) -> list[str]:
@@ -306,7 +327,7 @@ class Settings:
 
 
 # The tables of a node's file.
-TABLES = ("node", "basis", "broker", "page", "children", "device")
+TABLES = ("node", "basis", "broker", "page", "prices", "children", "device")
 
 
 def read_toml(path: str | os.PathLike[str]) -> dict[str, dict[str, Any]]:
@@ -315,16 +336,18 @@ def read_toml(path: str | os.PathLike[str]) -> dict[str, dict[str, Any]]:
 
 
 def settings_of(sort: Sort, tables: Mapping[str, Mapping[str, Any]]) -> Settings:
-    """The settings that the tables `node`, `basis`, `broker`, `page`, `children` and `device` tell. Raises BadSettings."""
+    """The settings that the tables `node`, `basis`, `broker`, `page`, `prices`, `children` and `device` tell. Raises BadSettings."""
     node = dict(tables.get("node", {}))
     if "live" not in node:
         node["live"] = live_command()
     basis = value_of(Basis, tables.get("basis", {}), "basis")
     broker = value_of(BrokerSettings, tables.get("broker", {}), "broker")
     page = value_of(PageSettings, tables["page"], "page") if "page" in tables else None
-    if {"sort", "basis", "broker", "page", "children", "device"} & node.keys():
-        raise BadSettings("node has a member sort, basis, broker, page, children or device: the command says the sort, and the others are tables")
-    parts: dict[str, Any] = {"sort": sort, "basis": basis, "broker": broker, "page": page, "children": children_of(tables.get("children", {}))}
+    if {"sort", *TABLES[1:]} & node.keys():
+        raise BadSettings(f"node has a member sort, {', '.join(TABLES[1:-1])} or {TABLES[-1]}: the command says the sort, and the others are tables")
+    prices = value_of(PriceSettings, tables.get("prices", {}), "prices")
+    parts: dict[str, Any] = {"sort": sort, "basis": basis, "broker": broker, "page": page, "prices": prices}
+    parts["children"] = children_of(tables.get("children", {}))
     try:
         parts["device"] = DeviceKind.of(tables["device"]) if "device" in tables else None
     except BadFrame as error:

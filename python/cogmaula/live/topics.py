@@ -7,6 +7,7 @@ from dataclasses import dataclass
 
 from .errors import BadSettings
 from .frames import CHILDREN
+from .price_table import LONGEST as LONGEST_TABLE
 
 _NAME = re.compile(r"[A-Za-z0-9_-]{1,64}")
 _CHILD = re.compile(r"[1-9][0-9]{0,2}")
@@ -27,6 +28,7 @@ _LONGEST = {
     "measured": 256,
     "bid": 4_096,
     "price": 64,
+    "prices": LONGEST_TABLE,
     "lapsed": 1_024,
     "refused": 1_024,
     "drop": 256,
@@ -74,6 +76,10 @@ class Topics:
     def price(self, parent: str, child: int | str) -> str:
         """The newest Price for a child, of its parent."""
         return self.at(parent, "price", child)
+
+    def prices(self, parent: str) -> str:
+        """The table of the newest prices of a node, for all of its children."""
+        return self.of(parent, "prices")
 
     def longest(self, topic: str) -> int:
         """The most bytes that a message of a topic may have, 0 for a topic that no market has."""

@@ -135,7 +135,7 @@ def view_of(prefix: str, messages: Mapping[str, Message], own: str | None = None
 
     own: the node that these messages are for, None if they are all of the market; of another node not all that is below is seen
     """
-    heard = Heard(prefix, messages)
+    heard = Heard(prefix, messages, own)
     nodes = _with_powers(_in_order(_Nodes(heard).all()), own)
     clearings = [node.price for node in nodes if node.sort == "auctioneer" and node.price is not None]
     return MarketView(
@@ -293,7 +293,10 @@ def _own_power(node: NodeView) -> PowerView | None:
     if node.lapsed is not None or (bid is not None and bid.is_gone):
         return None
     if setpoint is not None:
-        return PowerView(setpoint.power, "setpoint", setpoint.clearing, setpoint.clearing)
+        # A newer price that answers the same bid by the same step is told with the next heartbeat: the power is that of its clearing too.
+        is_same = price is not None and (price.bid, price.step) == (setpoint.bid, setpoint.step)
+        clearing = max(setpoint.clearing, price.clearing) if price is not None and is_same else setpoint.clearing
+        return PowerView(setpoint.power, "setpoint", clearing, clearing)
     if bid is not None and price is not None and bid.is_answered:
         return PowerView(bid.demand, "bid", price.clearing, price.clearing)
     return None

@@ -23,10 +23,11 @@ from ..hub.node_thread import Running
 from ..live.broker import Message
 from ..live.counting import NodeFacts
 from ..live.errors import LiveError
-from ..live.frames import MOST, PRICES, AnyOffer, Leave, Price, Sort, Stated, frame_of
+from ..live.frames import MOST, AnyOffer, Leave, Sort, Stated
 from ..live.messages import StateMessage, members_of
 from ..live.node import Node
 from ..live.page_settings import PageSettings
+from ..live.price_table import PriceTable
 from ..live.settings import Settings
 from ..logs import NodeLog
 from ..nodes import AUCTIONEER, Limited
@@ -122,7 +123,7 @@ class LivingCluster:
         self._running: list[Running] = []
         self._showing = Showing(page, self.topics.prefix, self.exchange, self._log, self.facts, NOTE)
         self._stopping = threading.Event()
-        self._newest: Price | None = None
+        self._newest: PriceTable | None = None
 
     def _all_settings(self, folder: Path) -> list[Settings]:
         """The settings of all nodes, parents first. Raises BadSettings."""
@@ -249,19 +250,19 @@ class LivingCluster:
         whole = int(self.life.minute)
         return f"{whole // 60:02}:{whole % 60:02}"
 
-    def _sums(self, price: Price) -> str:
+    def _sums(self, prices: PriceTable) -> str:
         powers = [self.life.powers[name] for name in self.life.members]
         taken, given = sum(power for power in powers if power > 0), -sum(power for power in powers if power < 0)
-        return f"price {self._cluster.basis.price(price.step)}: {len(powers)} devices take {taken} W and give {given} W"
+        return f"price {self._cluster.basis.price(prices.step)}: {len(powers)} devices take {taken} W and give {given} W"
 
     def _hear(self, message: Message) -> None:
         """Keeps the newest clearing of the auctioneer. It is called in the node's thread."""
-        if self.topics.child_of(message.topic, AUCTIONEER, "price") is None or not message.payload:
+        if message.topic != self.topics.prices(AUCTIONEER) or not message.payload:
             return
         try:
-            found = frame_of(message.payload, PRICES, self._cluster.basis.steps)
+            found = PriceTable.of(message.payload)
         except LiveError as error:
             self._log.warning(f"{message.topic}: {error}")
             return
-        if isinstance(found, Price) and (self._newest is None or found.index > self._newest.index):
+        if self._newest is None or found.index > self._newest.index:
             self._newest = found

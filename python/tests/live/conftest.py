@@ -51,9 +51,12 @@ def recorded(tmp_path_factory):
             market.start(name)
             market.offers(house=falls_at(step, 400, 100), store=falls_at(step, 0, -150))
             market.settles_at(step, house=100, store=-150, mill=-60)
+        # One offer moves the step, so the mill takes the newest price before it leaves.
+        market.offers(store=falls_at(9, 0, -150))
+        market.settles_at(9, house=100, store=-150, mill=-60)
         market.leaves("mill")
         market.offers(house=falls_at(6, 300, 100))
-        market.settles_at(8, house=100, store=-150)
+        market.settles_at(9, house=100, store=-150)
     finally:
         market.stop()
     return market.recordings

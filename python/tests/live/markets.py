@@ -16,6 +16,8 @@ from pretended import PretendedControl
 
 from cogmaula.cluster import Basis
 from cogmaula.live import BrokerSettings, LiveError, Settings, make_node
+from cogmaula.live.frames import PRICES, frame_of
+from cogmaula.live.price_table import PriceTable
 
 STEPS = 10
 BASIS = Basis(0, STEPS - 1, STEPS)
@@ -38,6 +40,14 @@ def clearing_step(*offers):
     """The first step at which these offers together are not positive, or the last."""
     sums = [sum(them) for them in zip(*offers, strict=True)]
     return next((step for step, total in enumerate(sums) if total <= 0), STEPS - 1)
+
+
+def prices_in(topic, payload):
+    """The Prices and Olds that a message tells, each with the topic of its own child: of such a topic, or of the table of a node."""
+    if topic.endswith("/prices") and payload:
+        return [(f"{topic.removesuffix('s')}/{price.child}", price) for price in PriceTable.of(payload).prices()]
+    is_single = topic.split("/")[-2] == "price" and payload
+    return [(topic, frame_of(payload, PRICES, STEPS))] if is_single else []
 
 
 class Control(PretendedControl):

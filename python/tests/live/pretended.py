@@ -14,6 +14,7 @@ from cogmaula.live.messages import BasisMessage, StateMessage
 from cogmaula.live.service import Came, Ended
 from cogmaula.live.sessions import Session
 from cogmaula.live.node import Node
+from cogmaula.live.price_table import price_for
 from cogmaula.live.settings import Settings
 from cogmaula.live.store import Store, Stored
 
@@ -121,8 +122,7 @@ class PretendedService:
         self.is_closed = True
 
     def writes(self, *frames):
-        for frame in frames:
-            self.notify(Came(self, frame))
+        self.notify(Came(self, frames))
 
     def ends(self, why="status 4"):
         self.notify(Ended(self, why))
@@ -176,6 +176,17 @@ class Joined:
     @property
     def service(self):
         return self.node.serving.service
+
+    def prices_told(self, node, child):
+        """What was published for one child of a node, in its own topic or in the table of all: a frame's bytes, b"" for none."""
+        found = []
+        for publication in self.link.sent:
+            if publication.topic == f"market/{node}/price/{child}":
+                found.append(publication.payload)
+            elif publication.topic == f"market/{node}/prices":
+                told = price_for(publication.payload, child) if publication.payload else None
+                found.append(b"" if told is None else told.to_bytes())
+        return found
 
     def stored(self, session=SESSION):
         """The bytes of the Resume on disk."""

@@ -90,6 +90,13 @@ def test_the_kind_of_a_device_is_in_its_settings(tmp_path):
     assert settings.device == DeviceKind.of({"kind": "load"})
 
 
+def test_how_prices_are_told_is_in_the_settings_of_each_parent(tmp_path):
+    told = tree("[prices]\ntogether = false\n[relays.a]\n[devices.b]\nparent = 'a'")
+    assert tree_of(tomllib.loads(toml_text(told.to_tables()))) == told
+    found = {member.name: settings_of(member.sort, tables_of(told, member, Places(tmp_path, True))).prices.together for member in told.members}
+    assert found == {"auctioneer": False, "a": False, "b": True}, "a device tells none"
+
+
 def test_numbers_are_given_and_kept():
     """Those of the file stay; others get the first that is free. A device more gets the one behind the greatest."""
     one = tree(f"{RELAYS}[devices.c]\nchild = 2\n[devices.d]\n[devices.e]\nparent = 'b'\n")

@@ -24,6 +24,7 @@ from cogmaula.live.settings import BrokerSettings, read_toml
 TOPICS = """
 basis other
 auctioneer/state auctioneer/resume auctioneer/heartbeat auctioneer/bid/1 auctioneer/bid/2 auctioneer/price/1 auctioneer/lapsed/1
+auctioneer/prices street/prices house/prices
 auctioneer/refused/1 auctioneer/drop/1 auctioneer/offer
 street/state street/resume street/heartbeat street/limits street/limits/state street/bid/1 street/bid/2 street/price/1 street/price/2
 street/lapsed/1 street/lapsed/2 street/refused/1 street/refused/2 street/drop/1 street/drop/2 street/offer street/other
@@ -31,7 +32,7 @@ street/price/3 street/price/x street/drop/3 house/answer store/answer
 house/state house/resume house/setpoint house/offer house/measured house/heartbeat house/bid/1 house/other house/other/other
 store/state store/resume store/setpoint store/offer store/measured
 """.split()
-PARENT = ["state", "resume", "heartbeat", "price/1", "lapsed/1", "refused/1"]
+PARENT = ["state", "resume", "heartbeat", "prices", "price/1", "lapsed/1", "refused/1"]
 # What each login writes and reads, by hand from docs/LIVE.md. Each of these is allowed, and nothing else.
 WRITES = {
     "auctioneer": ["basis", *(f"auctioneer/{kind}" for kind in PARENT)],
@@ -46,11 +47,11 @@ WRITES = {
     "gridoperator": ["street/limits"],
     "history": [],
 }
-ABOVE = ["street/state", "street/heartbeat"]
+ABOVE = ["street/state", "street/heartbeat", "street/prices"]
 READS = {
     "auctioneer": ["auctioneer/bid/1", "auctioneer/bid/2", "auctioneer/drop/1", "street/state"],
     "street": [
-        "basis", "auctioneer/state", "auctioneer/heartbeat", "auctioneer/price/1", "auctioneer/refused/1",
+        "basis", "auctioneer/state", "auctioneer/heartbeat", "auctioneer/prices", "auctioneer/price/1", "auctioneer/refused/1",
         "street/bid/1", "street/bid/2", "street/drop/1", "street/drop/2", "house/state", "store/state",
     ],
     "house": ["basis", "house/offer", *ABOVE, "street/price/1", "street/lapsed/1", "street/refused/1"],
@@ -60,7 +61,7 @@ READS = {
     "operator": TOPICS,
     "gridoperator": ["street/limits/state", "street/state"],
     "history": [
-        "basis", *(topic for topic in TOPICS if topic.partition("/")[2].partition("/")[0] in ("state", "bid", "price", "lapsed", "setpoint", "measured")),
+        "basis", *(topic for topic in TOPICS if topic.partition("/")[2].partition("/")[0] in ("state", "bid", "price", "prices", "lapsed", "setpoint", "measured")),
         "street/limits/state",
     ],
 }
@@ -95,7 +96,7 @@ def test_each_right_is_given_and_no_other(made):
         wait_until(lambda: {topic.removeprefix("market/") for topic, _ in client.read} >= written & set(READS[login]), f"what {login} reads")
         assert {topic.removeprefix("market/") for topic, _ in client.read} == written & set(READS[login]), login
     unwritten = {topic for login, them in READS.items() for topic in them if login != "operator"} - written
-    assert unwritten == {"auctioneer/bid/2", "house/bid/1", "street/price/3", "street/price/x"}, "these have no writer: the others were tried"
+    assert unwritten == {"auctioneer/bid/2", "house/bid/1", "house/prices", "street/price/3", "street/price/x"}, "these have no writer: the others were tried"
 
 
 def test_a_login_ends_no_connection_of_another(made):

@@ -14,7 +14,7 @@ import time
 import pytest
 from brokers import SECONDS, TOP, live_program, require_broker, wait_until
 from made import MadeMarket
-from markets import STEPS, falls_at
+from markets import STEPS, falls_at, prices_in
 from pretended import MOMENT, SESSION
 from told import Told, village
 
@@ -23,7 +23,7 @@ from cogmaula.history import Row, open_database, rows_of
 from cogmaula.history.days import span_of
 from cogmaula.live.broker import Message
 from cogmaula.live.errors import BadMessage, BadSettings
-from cogmaula.live.frames import BIDS, PRICES, Bid, frame_of
+from cogmaula.live.frames import BIDS, Bid, frame_of
 from cogmaula.live.messages import LapseMessage, SilentMessage
 from cogmaula.live.topics import Topics
 
@@ -60,6 +60,12 @@ def test_what_a_message_of_the_village_becomes(below, due):
     assert rows_of(TOPICS, village().messages[f"market/{below}"]) == [due]
 
 
+def test_a_table_of_prices_becomes_a_row_for_each_child():
+    told = Told().prices("street", 7, 4, {1: 3, 3: 8}).messages["market/street/prices"]
+    common = {**KEY, "parent": "street", "clearing": 7, "step": 4, "price": 4, "at": AT}
+    assert rows_of(TOPICS, told) == [Row("prices", {**common, "child": 1, "number": 3}), Row("prices", {**common, "child": 3, "number": 8})]
+
+
 @pytest.mark.parametrize(
     ("told", "due"),
     [
@@ -86,7 +92,7 @@ def test_what_other_messages_become(told, due):
     [
         message("b/measured", {"power": 1.5, "time": MOMENT}), message("b/measured", {"power": True, "time": MOMENT}),
         message("b/measured", {"power": 1}), message("b/measured", {"power": 10**13, "time": MOMENT}), message("a/state", b"x"),
-        message("a/bid/1", b"\2\0"), message("a/bid/2", village().messages["market/street/bid/1"].payload), message("a/price/1", b"\x17"),
+        message("a/bid/1", b"\2\0"), message("a/bid/2", village().messages["market/street/bid/1"].payload), message("a/price/1", b"\x17"), message("a/prices", b"\x1f"),
         message("a/limits/state", {**LIMITS, "floor": "x"}), message("a/limits/state", {**LIMITS, "time": "x"}), message("b/setpoint", {}),
     ],
 )
@@ -211,9 +217,8 @@ def test_a_kill_at_any_moment_loses_and_repeats_nothing(url, tmp_path):
                 if word == "bid" and payload:
                     frame = frame_of(payload, BIDS, STEPS)
                     found["bids"].add((parent, frame.child, frame.number, json.dumps(frame.demands) if isinstance(frame, Bid) else None))
-                elif word == "price" and payload:
-                    frame = frame_of(payload, PRICES, STEPS)
-                    found["prices"].add((parent, frame.child, frame.index, frame.step))
+                for _, price in prices_in(topic, payload):
+                    found["prices"].add((parent, price.child, price.index, price.step))
             return found
 
         def kept():

@@ -68,7 +68,7 @@ def test_a_frame_out_that_was_changed_is_named(lines, live, node, name, change, 
 
 
 def test_a_frame_out_that_is_not_there_is_named_at_the_next(lines, live):
-    file, at = lines.of("street", "out", "Price", child=1)[0]
+    file, at = lines.of("street", "out", "Price", child=1)[-1]
     node, place, why = found(lines.drop(file, at), live)
     assert (node, place) == ("street", (file, at))
     assert "Price for child 2" in why
@@ -76,7 +76,7 @@ def test_a_frame_out_that_is_not_there_is_named_at_the_next(lines, live):
 
 
 def test_two_frames_out_that_changed_places_are_named(lines, live):
-    file, at = lines.of("street", "out", "Price", child=1)[0]
+    file, at = lines.of("street", "out", "Price", child=1)[-1]
     them = lines.files[file]
     them[at], them[at + 1] = them[at + 1], them[at]
     node, place, why = found(lines, live)
@@ -120,10 +120,13 @@ def test_a_bid_that_was_never_sent_is_named(lines, live):
 
 
 def test_a_price_that_was_never_sent_is_named(lines, live):
-    place = lines.of("house", "in", "Price")[-1]
-    price = lines.frame(*place)
-    node, place_found, why = found(lines.change_frame(*place, replace(price, index=price.index + 1)), live)
-    assert (node, place_found) == ("house", place)
+    """It stands last in its life: what it would have led to is lost."""
+    file, at = lines.of("house", "in", "Price")[-1]
+    price = lines.frame(file, at)
+    end = next(number for number in range(at, len(lines.files[file])) if lines.told(file, number)["what"] == "end")
+    lines.insert(file, end, what="in", frame=replace(price, index=price.index + 1).to_bytes().hex())
+    node, place, why = found(lines, live)
+    assert (node, place) == ("house", (file, end))
     assert why.startswith("Price for child 1") and why.endswith("street never sent just this")
 
 
@@ -420,7 +423,8 @@ def test_the_command_prints_the_verdict(recorded, lines, live, capsys):
     told = capsys.readouterr().out.splitlines()
     assert told[0].startswith("incomplete sessions 1 nodes 4") and told[1:] == ["missing child 2 of auctioneer has no recording"]
     file, at = lines.of("street", "out", "Price")[0]
-    lines.change_frame(file, at, replace(lines.frame(file, at), step=9)).write()
+    price = lines.frame(file, at)
+    lines.change_frame(file, at, replace(price, step=(price.step + 1) % 10)).write()
     assert main(["judge", str(lines.folder), "--live", live]) == 5
     assert capsys.readouterr().out.startswith(f"invalid {file}:{at + 1}: street: Price for child ")
     assert main(["judge", str(lines.folder), "--live", live, "--json"]) == 5

@@ -115,7 +115,7 @@ def test_all_is_safe_before_a_resume_is_stored_and_recorded_before_it_is_publish
     assert noted.done == [
         "in 02", "feed", "in 04", "feed",
         "out 19", "safe", "store", "stored", "publish auctioneer/resume",
-        "out 17", "publish auctioneer/price/3",
+        "out 17", "publish auctioneer/prices",
     ]  # fmt: skip
     assert one.service.read[-1] == Clear().to_bytes()
 

@@ -37,6 +37,7 @@ from cogmaula.judge.session_tree import markets_of
 from cogmaula.judge.tracing import trace_of
 from cogmaula.limits import MOST_EVENTS
 from cogmaula.live.frames import MOST, Clear, Expire, Leave, Offer, Send
+from cogmaula.live.settings import PriceSettings
 
 
 class Plain:
@@ -64,7 +65,7 @@ def long(tmp_path_factory):
     market = RecordedMarket(tmp_path_factory.mktemp("long"), live_program(), post=post)
     limits = {"floor": -1_000, "ceiling": 1_000}
     try:
-        market.start("auctioneer", "mill", "house", "store").start("street", **limits)
+        market.start("auctioneer", prices=PriceSettings(together=False)).start("mill", "house", "store").start("street", **limits)
         market.offers(house=falls_at(4, 400, 100), store=falls_at(5, 0, -60), mill=CONSTANT)
         market.settles_at(9, mill=100, house=100)
         market.offers(mill=[-200] * STEPS)

@@ -69,7 +69,7 @@ def test_an_auctioneer_comes_back_with_its_session(joined, tmp_path):
     one.link.comes("market/auctioneer/bid/3", bid(3, 1, 21, -3).to_bytes())
     one.turned()
     one.writes(price(3, 1, 7, 1))
-    assert dict(one.link.newest["market/auctioneer/price/3"].properties)["time"] == MOMENT
+    assert dict(one.link.newest["market/auctioneer/prices"].properties)["time"] == MOMENT
 
 
 def test_an_auctioneer_without_a_disk_goes_on_from_the_broker(joined):
@@ -472,7 +472,7 @@ def test_what_the_node_itself_or_an_earlier_process_published_does_no_harm(joine
 
 def test_a_device_reads_what_is_for_it_and_its_own_topics(joined):
     of_house = {"market/house/state", "market/house/resume", "market/house/offer", "market/house/answer", "market/house/setpoint"}
-    of_street = {f"market/street/{kind}" for kind in ("bid/2", "price/2", "lapsed/2", "refused/2", "state", "heartbeat")}
+    of_street = {f"market/street/{kind}" for kind in ("bid/2", "price/2", "lapsed/2", "refused/2", "state", "heartbeat", "prices")}
     assert set(joined("device").link.topics) == {"market/basis"} | of_house | of_street
 
 

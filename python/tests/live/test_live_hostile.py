@@ -11,11 +11,11 @@ import time
 import pytest
 from brokers import SECONDS, live_program, require_broker, wait_until
 from example import Attack, ExampleMarket, Member, example_broker
-from markets import STEPS, Process, clearing_step, falls_at
+from markets import STEPS, Process, clearing_step, falls_at, prices_in
 from test_live_storm import kill
 
 from cogmaula.cli import main
-from cogmaula.live.frames import BIDS, PRICES, Bid, Price, frame_of
+from cogmaula.live.frames import BIDS, Bid, Price, frame_of
 from cogmaula.live.messages import VERSION
 
 CONSTANT = [100] * STEPS
@@ -87,7 +87,7 @@ def test_a_restarted_relay_needs_no_child_to_tell_its_bid_again(broker, market, 
 def test_a_login_writes_its_own_topics_alone(broker, market):
     begun(market).stop("house")
     with Member(broker.port, "operator", "market/#") as operator, Member(broker.port, "house") as house:
-        for topic in ("house/bid/1", "house/x/y", "house/price/1", "house/drop/1", "street/bid/2", "street/state", "basis", "house/offer"):
+        for topic in ("house/bid/1", "house/x/y", "house/price/1", "street/prices", "house/drop/1", "street/bid/2", "street/state", "basis", "house/offer"):
             house.puts(f"market/{topic}", b"x" * 30_000)
         wait_until(lambda: house.puts("market/house/answer", b"mine") or operator.payload("market/house/answer") == b"mine", "its own topic")
         assert [topic for topic, payload, _ in operator.all if len(payload) == 30_000] == []
@@ -154,7 +154,7 @@ class Hostile:
                 for topic in ("house/state", "house/resume", "house/setpoint"):
                     self._puts(topic, self.chance.choice([b"", b"{}", b"x" * 20_000]))
             case 3:
-                for topic in ("street/price/1", "street/price/2", "street/heartbeat", "street/bid/2", "basis", "auctioneer/bid/1", "store/offer"):
+                for topic in ("street/price/1", "street/price/2", "street/prices", "street/heartbeat", "street/bid/2", "basis", "auctioneer/bid/1", "store/offer"):
                     self._puts(topic, self.chance.choice([b"", *bids]))
             case 4:
                 Member(self.port, "store.control", name=self.chance.choice(["auctioneer", "cogmaula.market.street", "store"]))
@@ -199,7 +199,7 @@ def test_a_storm_of_all_attacks(broker, market, live, tmp_path):
     market.settles_at(4, house=100, store=-150)
     market.stop("house")
     offered = {"store": [], "mill": []}
-    with Member(broker.port, "operator", "market/+/bid/+", "market/+/price/+") as looks:
+    with Member(broker.port, "operator", "market/+/bid/+", "market/+/price/+", "market/+/prices") as looks:
         hostile = Hostile(broker.port, market)
         attack = Attack(hostile.act, 0.05)
 
@@ -237,8 +237,9 @@ def test_a_storm_of_all_attacks(broker, market, live, tmp_path):
         assert indices == sorted(indices), f"{name} went back"
     bids, prices = counted_bids(looks), {}
     for topic, payload, _ in looks.all:
-        if topic.startswith("market/auctioneer/price/") and payload and isinstance(frame := frame_of(payload, PRICES, STEPS), Price):
-            prices.setdefault(frame.index, {})[frame.child] = frame
+        for own, frame in prices_in(topic, payload):
+            if own.startswith("market/auctioneer/") and isinstance(frame, Price):
+                prices.setdefault(frame.index, {})[frame.child] = frame
     seen = 0
     for told in prices.values():
         named = [bids.get((f"market/auctioneer/bid/{child}", price.number)) for child, price in told.items()]

@@ -218,7 +218,7 @@ def test_a_device_that_lives_hears_old_and_is_back_by_its_next_bid(joined):
     assert lapsed(one, 1) is None
     assert one.node._store.newest().lapsed == {}
     one.writes(price(1, 8, 9, 1))
-    assert one.link.newest["market/street/price/1"].payload == price(1, 8, 9, 1).to_bytes()
+    assert one.prices_told("street", 1)[-2:] == [b"", price(1, 8, 9, 1).to_bytes()], "the Old is cleared, and the table has the price"
 
 
 def test_an_old_that_says_nothing_new_is_not_handed_on(joined):

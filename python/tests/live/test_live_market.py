@@ -17,9 +17,10 @@ from datetime import datetime
 
 import pytest
 from brokers import TOP, Certificates, Mosquitto, Onlooker, live_program, passwords, require_broker, wait_until
-from markets import BASIS, PLACES, STEPS, Market, Process, clearing_step, falls_at
+from markets import BASIS, PLACES, STEPS, Market, Process, clearing_step, falls_at, prices_in
 
-from cogmaula.live.frames import BIDS, PRICES, Gone, frame_of
+from cogmaula.live.frames import BIDS, Gone, frame_of
+from cogmaula.live.price_table import PriceTable
 
 CONSTANT = [100] * STEPS
 
@@ -61,10 +62,9 @@ def test_prices_come_down_with_time_and_session(market, onlooker):
     due = {"min": 0, "max": 9, "steps": 10, "session": session.id, "begun": session.begun, "version": 3}
     assert json.loads(onlooker.payload("market/basis")) == {**due, "validity": 120.0, "heartbeat": 30.0, "grace": 150.0}
     told = onlooker.newest
-    wait_until(lambda: frame_of(told["market/street/price/2"][0], PRICES, STEPS).step == 8, "the price at the broker")
-    payload, properties = told["market/street/price/2"]
-    price = frame_of(payload, PRICES, STEPS)
-    assert (price.child, price.number) == (2, 2)
+    wait_until(lambda: PriceTable.of(told["market/street/prices"][0]).step == 8, "the prices at the broker")
+    payload, properties = told["market/street/prices"]
+    assert PriceTable.of(payload).numbers[2] == 2
     assert properties["session"] == session.id
     cleared = datetime.fromisoformat(properties["time"])
     assert session.begun <= properties["time"]
@@ -121,6 +121,7 @@ user street
 topic readwrite market/street/#
 topic readwrite market/auctioneer/bid/1
 topic read market/auctioneer/price/1
+topic read market/auctioneer/prices
 topic read market/auctioneer/refused/1
 topic read market/auctioneer/heartbeat
 topic read market/+/state
@@ -132,6 +133,7 @@ user {name}
 topic readwrite market/{name}/#
 topic readwrite market/street/bid/{child}
 topic read market/street/price/{child}
+topic read market/street/prices
 topic read market/street/lapsed/{child}
 topic read market/street/refused/{child}
 topic read market/street/heartbeat
@@ -159,7 +161,7 @@ def test_a_device_whose_control_is_silent_leaves_and_its_price_is_cleared(market
     market.settles_at(4, house=100, store=-150)
     market.settles_at(9, house=0)
     assert isinstance(frame_of(onlooker.payload("market/street/bid/2"), BIDS, STEPS), Gone)
-    wait_until(lambda: onlooker.payload("market/street/price/2") == b"", "the price is cleared")
+    wait_until(lambda: 2 not in PriceTable.of(onlooker.payload("market/street/prices")).numbers, "the price is cleared")
     wait_until(lambda: onlooker.payload("market/store/setpoint") == b"", "the setpoint is cleared")
     assert any("the control was silent" in line for line in market.said["store"])
     market.offers(store=falls_at(4, 0, -150))
@@ -297,9 +299,8 @@ def require_prices_of_bids(messages):
         if below[2] == "bid" and payload:
             frame = frame_of(payload, BIDS, STEPS)
             assert bids.setdefault((topic, frame.number), frame) == frame, "a number is of two bids"
-        elif below[2] == "price" and payload:
-            frame = frame_of(payload, PRICES, STEPS)
-            before = prices.setdefault(frame.index, {}).setdefault(topic, frame)
+        for own, frame in prices_in(topic, payload):
+            before = prices.setdefault(frame.index, {}).setdefault(own, frame)
             assert before == frame, "a clearing tells one child two prices"
     topics = {f"market/{name}" for name in ("auctioneer/price/2", "street/price/1", "street/price/2")}
     seen = 0
@@ -351,7 +352,6 @@ class Storm:
         wait_until(lambda: all(self.has_newest(device) for device in self.devices), f"the newest price of {self.offers}", 120)
         time.sleep(1)
         assert all(self.has_newest(device) for device in self.devices)
-        assert len({device.setpoints[-1]["clearing"] for device in self.devices}) == 1
 
 
 @pytest.mark.parametrize("keeps", [False, True], ids=["forgets", "keeps"])
@@ -361,7 +361,7 @@ def test_a_storm(live, tmp_path, keeps):
     Over a broker that loses all that it retains when it is killed, and over one that keeps it.
     """
     lines = ["persistence true", f"persistence_location {tmp_path}/", "autosave_on_changes true", "autosave_interval 10"] if keeps else []
-    with Mosquitto(tmp_path / "broker", *lines) as broker, Onlooker(broker.port, "market/+/bid/+", "market/+/price/+") as looks:
+    with Mosquitto(tmp_path / "broker", *lines) as broker, Onlooker(broker.port, "market/+/bid/+", "market/+/price/+", "market/+/prices") as looks:
         nodes = {name: Process(broker.port, live, tmp_path, name).start() for name in PLACES}
         storm = Storm(nodes)
         try:

@@ -8,6 +8,7 @@ from datetime import datetime, timezone
 
 import pytest
 from pretended import (
+    BASIS,
     BASIS_TOPIC,
     LATER,
     MARKED,
@@ -44,8 +45,12 @@ from cogmaula.live.frames import (
     WindowFull,
 )
 from cogmaula.live.page_settings import PageSettings
+from cogmaula.live.price_table import PriceTable
+from cogmaula.live.settings import PriceSettings
 
 RELAY_RESUME = relay_resume(1, 0, 0, numbers((1, 1), (2, 4)))
+# Prices for all children together, and each by a topic of its own.
+FORMS = [PriceSettings(True), PriceSettings(False)]
 
 
 # The order of storing and publishing.
@@ -78,14 +83,15 @@ def test_nothing_behind_a_resume_that_cannot_be_stored_is_published(joined, monk
     assert one.link.of("market/street/resume") == []
 
 
-def test_a_relays_resume_waits_until_the_broker_has_the_prices_before_it(joined):
-    one = joined("relay").begun(("market/street/bid/1", bid(1, 1, 5, -3).to_bytes()), ("market/street/bid/2", bid(2, 4, 16, 0).to_bytes()))
+@pytest.mark.parametrize("prices", FORMS)
+def test_a_relays_resume_waits_until_the_broker_has_the_prices_before_it(joined, prices):
+    one = joined("relay", prices=prices).begun(("market/street/bid/1", bid(1, 1, 5, -3).to_bytes()), ("market/street/bid/2", bid(2, 4, 16, 0).to_bytes()))
     one.writes(RELAY_RESUME, bid(3, 1, 21, -3))
     one.link.confirm()
     one.turned()
     passed = relay_resume(1, 1, 7, RELAY_RESUME.numbers)
     one.writes(price(1, 1, 7, 1), price(2, 4, 7, 1), passed)
-    assert one.link.of("market/street/price/2") == [price(2, 4, 7, 1).to_bytes()]
+    assert one.prices_told("street", 2) == [price(2, 4, 7, 1).to_bytes()]
     assert one.stored() == RELAY_RESUME.to_bytes(), "the prices are not at the broker"
     one.link.confirm()
     one.turned()
@@ -257,7 +263,11 @@ def test_a_fault_of_the_service_is_told(joined):
 
 
 WHERE = "127.0.0.1:0"
-PRICES_FOR_CHILDREN = [("auctioneer", ["market/auctioneer/price/+"]), ("relay", ["market/street/price/+"]), ("device", [])]
+PRICES_FOR_CHILDREN = [
+    ("auctioneer", ["market/auctioneer/price/+", "market/auctioneer/prices"]),
+    ("relay", ["market/street/price/+", "market/street/prices"]),
+    ("device", []),
+]
 
 
 @pytest.mark.parametrize(("sort", "due"), PRICES_FOR_CHILDREN)
@@ -266,11 +276,12 @@ def test_which_topics_need_not_all_be_read_back(joined, sort, due, page, are_all
     """They are the prices for the node's children, unless its page shows what it hears."""
     one = joined(sort, page=page)
     assert one.node._written() == ([] if are_all_read else due)
-    assert [topic for topic in one.link.topics if topic.endswith("/price/+")] == due
+    assert [topic for topic in one.link.topics if topic.endswith("/price/+")] == due[:1]
 
 
-def test_an_auctioneer_clears_after_news_and_tells_prices_with_time_and_session(joined):
-    one = joined("auctioneer").begun()
+@pytest.mark.parametrize("prices", FORMS)
+def test_an_auctioneer_clears_after_news_and_tells_prices_with_time_and_session(joined, prices):
+    one = joined("auctioneer", prices=prices).begun()
     session = one.node.session
     own = [("session", session.id), ("version", VERSION)]
     one.link.comes("market/auctioneer/bid/3", bid(3, 1, 21, -3).to_bytes(), own)
@@ -278,8 +289,9 @@ def test_an_auctioneer_clears_after_news_and_tells_prices_with_time_and_session(
     assert one.service.read == [b"", bid(3, 1, 21, -3).to_bytes(), Clear().to_bytes()]
     resume = auctioneer_resume(1, numbers((3, 1)))
     one.writes(resume, price(3, 1, 1, 1))
-    told = one.link.newest["market/auctioneer/price/3"]
-    assert told.payload == price(3, 1, 1, 1).to_bytes()
+    told = one.link.sent[-1]
+    assert told.topic == ("market/auctioneer/prices" if prices.together else "market/auctioneer/price/3")
+    assert one.prices_told("auctioneer", 3) == [price(3, 1, 1, 1).to_bytes()]
     assert dict(told.properties) == {"time": one.node._store.load(session).time, "session": session.id, "version": VERSION}
     assert one.stored(session) == resume.to_bytes()
 
@@ -313,23 +325,26 @@ def test_no_number_is_left(joined):
     assert "begin a new session" in one.said[-1]
 
 
-def test_a_child_that_left_is_told_no_price_and_its_retained_price_is_cleared(joined):
-    one = joined("relay").begun(("market/street/bid/1", bid(1, 1, 5, -3).to_bytes()))
+@pytest.mark.parametrize("prices", FORMS)
+def test_a_child_that_left_is_told_no_price_and_its_retained_price_is_cleared(joined, prices):
+    one = joined("relay", prices=prices).begun(("market/street/bid/1", bid(1, 1, 5, -3).to_bytes()))
     one.writes(price(1, 1, 7, 1))
     one.link.comes("market/street/bid/1", gone(1, 2).to_bytes())
     one.turned()
     one.writes(price(1, 1, 8, 1))
-    assert one.link.of("market/street/price/1") == [price(1, 1, 7, 1).to_bytes(), b""]
+    assert one.prices_told("street", 1) == [price(1, 1, 7, 1).to_bytes(), b""]
     one.link.comes("market/street/bid/1", bid(1, 3, 5, -3).to_bytes())
     one.turned()
     one.writes(price(1, 3, 9, 0))
-    assert one.link.of("market/street/price/1")[-1] == price(1, 3, 9, 0).to_bytes()
+    assert one.prices_told("street", 1)[-1] == price(1, 3, 9, 0).to_bytes()
 
 
-def test_an_older_price_does_not_take_the_place_of_a_newer_one(joined):
-    one = joined("relay").begun(("market/street/bid/1", bid(1, 1, 5, -3).to_bytes()))
-    one.writes(price(1, 1, 7, 1), price(1, 1, 6, 0), price(1, 1, 7, 1))
-    assert one.link.of("market/street/price/1") == [price(1, 1, 7, 1).to_bytes()] * 2
+@pytest.mark.parametrize("prices", FORMS)
+def test_an_older_price_does_not_take_the_place_of_a_newer_one(joined, prices):
+    one = joined("relay", prices=prices).begun(("market/street/bid/1", bid(1, 1, 5, -3).to_bytes()))
+    for told in (price(1, 1, 7, 1), price(1, 1, 6, 0)):
+        one.writes(told)
+    assert one.prices_told("street", 1) == [price(1, 1, 7, 1).to_bytes()]
 
 
 def test_prices_that_the_broker_retains_are_kept_if_the_child_is_there(joined):
@@ -385,33 +400,40 @@ def test_topics_of_nobody_are_dropped(joined):
     assert one.service.read == [b""]
 
 
+OWN, ALL = "price/3", "prices"
 WRONG_PRICES = [
-    (b"", MARKED, False),
-    (price(3, 1, 7, 1).to_bytes(), (), False),
-    (price(3, 1, 7, 2).to_bytes(), MARKED, True),
-    (price(4, 1, 7, 1).to_bytes(), MARKED, True),
+    (OWN, b"", MARKED, False),
+    (OWN, price(3, 1, 7, 1).to_bytes(), (), False),
+    (OWN, price(3, 1, 7, 2).to_bytes(), MARKED, True),
+    (OWN, price(4, 1, 7, 1).to_bytes(), MARKED, True),
+    (ALL, b"", MARKED, False),
+    (ALL, PriceTable(7, 1, BASIS, {3: 1}).to_bytes(), (), False),
+    (ALL, PriceTable(7, 2, BASIS, {3: 1}).to_bytes(), MARKED, True),
+    (ALL, PriceTable(7, 1, BASIS, {2: 1, 4: 1}).to_bytes(), MARKED, False),
+    (ALL, price(3, 1, 7, 1).to_bytes(), MARKED, True),
 ]
 
 
-@pytest.mark.parametrize(("payload", "properties", "is_told"), WRONG_PRICES)
-def test_a_price_that_would_end_the_service_never_reaches_it(joined, payload, properties, is_told):
+@pytest.mark.parametrize(("topic", "payload", "properties", "is_told"), WRONG_PRICES)
+def test_a_price_that_would_end_the_service_never_reaches_it(joined, topic, payload, properties, is_told):
     one = joined("relay").begun()
-    one.link.comes("market/auctioneer/price/3", payload, properties)
+    one.link.comes(f"market/auctioneer/{topic}", payload, properties)
     one.turned()
     assert one.service.read == [b""]
-    assert any("market/auctioneer/price/3 is not taken" in line for line in one.said) == is_told
+    assert any(f"market/auctioneer/{topic} is not taken" in line for line in one.said) == is_told
 
 
-def test_a_relay_passes_the_time_of_the_clearing_on(joined):
-    one = joined("relay").begun(("market/street/bid/1", bid(1, 1, 5, -3).to_bytes()))
+@pytest.mark.parametrize("prices", FORMS)
+def test_a_relay_passes_the_time_of_the_clearing_on(joined, prices):
+    one = joined("relay", prices=prices).begun(("market/street/bid/1", bid(1, 1, 5, -3).to_bytes()))
     for index in (7, 8, 6):
         one.link.comes("market/auctioneer/price/3", price(3, 1, index, 1).to_bytes(), [("time", f"time {index}"), ("session", SESSION.id)])
         one.turned()
     assert price(3, 1, 6, 1).to_bytes() not in one.service.read, "a newer one came"
     one.writes(price(1, 1, 7, 1))
-    assert dict(one.link.newest["market/street/price/1"].properties)["time"] == "time 7"
-    one.writes(price(1, 1, 9, 1))
-    assert dict(one.link.newest["market/street/price/1"].properties)["time"] == ""
+    assert dict(one.link.sent[-1].properties)["time"] == "time 7"
+    one.writes(price(1, 1, 9, 0))
+    assert dict(one.link.sent[-1].properties)["time"] == ""
     for index in range(10, 90):
         one.link.comes("market/auctioneer/price/3", price(3, 1, index, 1).to_bytes(), [("time", "t"), ("session", SESSION.id)])
         one.turned()

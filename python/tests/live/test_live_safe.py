@@ -35,8 +35,9 @@ from cogmaula.live.frames import Leave, NotCaughtUp, NotChanged, Offer, Send, Se
 from cogmaula.live.messages import LOST
 from cogmaula.live.page_settings import PageSettings
 from cogmaula.live.reader import Reader
-from cogmaula.live.sessions import time_text
+from cogmaula.live.sessions import now_text, time_text
 from cogmaula.live.settings import BrokerSettings, ChildSettings
+from cogmaula.live.silence import Heartbeat
 from cogmaula.live.topics import Topics
 
 OF_HOUSE = (*MARKED, ("sort", "device"), ("node", "house"), ("valid", "150"))
@@ -336,8 +337,10 @@ def test_a_device_stores_a_price_once_and_not_if_number_and_step_are_the_same(jo
     monkeypatch.setattr(one.node._store, "save", lambda stored: (saves.append(stored), save(stored)))
     for index, step, due in ((7, 1, 1), (8, 1, 1), (9, 0, 2), (10, 0, 2)):
         one.writes(Setpoint(2, index, step, (500, -300)[step]), device_resume(2, index, (500, -300)))
-        assert len(saves) == due, f"clearing {index}"
-        assert json.loads(one.control.told[-1])["clearing"] == index
+        assert (len(saves), len(one.control.told)) == (due, due), f"clearing {index}"
+    one.node.serving.beating.hear(Heartbeat(1, 1, now_text()).to_bytes(), time.monotonic(), retained=False)
+    one.turned()
+    assert [json.loads(told)["clearing"] for told in one.control.told] == [7, 9, 10], "a heartbeat tells that it is of a later clearing"
     one.node.serving.end("stopped")
     assert one.node._store.newest().frame == device_resume(2, 10, (500, -300)).to_bytes()
     told = json.loads(one.node._store.newest().setpoint)

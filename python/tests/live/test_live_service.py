@@ -30,7 +30,7 @@ def ended(happened, seconds=SECONDS):
         event = happened.get(timeout=seconds)
         if isinstance(event, Ended):
             return frames, event.why
-        frames.append(event.frame)
+        frames += event.frames
 
 
 def test_hello_and_the_resume_come_first_and_frames_in_order():
@@ -41,7 +41,7 @@ os.read(0, 1)
 os.write(1, b'\\x0b' + bytes(8))
 """
     service, happened = started(code, bytes(range(16, 25)))
-    assert [happened.get(timeout=SECONDS).frame for _ in range(2)] == [WindowFull(), OutOfNumbers()]
+    assert happened.get(timeout=SECONDS).frames == (WindowFull(), OutOfNumbers())
     service.feed(b"\x0e")
     assert ended(happened) == ([Dropped(0, 0)], "status 0: its input ended")
 
@@ -120,5 +120,5 @@ def test_closing_lets_it_end_by_itself_or_kills_it():
 def test_events_name_their_service():
     service, happened = started("os.write(1, b'\\x0a')")
     came, end = happened.get(timeout=SECONDS), happened.get(timeout=SECONDS)
-    assert came == Came(service, WindowFull())
+    assert came == Came(service, (WindowFull(),))
     assert end.service is service

@@ -113,7 +113,7 @@ MISTAKES = [
     ("limits_from = true", "", "limits_from is for a relay"),
     ("giver = 257", "", "giver is 257: give 1 to 256"),
     ("fallback = 1000000001", "", "fallback is 1000000001"),
-    ('sort = "relay"', "", "node has a member sort, basis, broker, page, children or device"),
+    ('sort = "relay"', "", "node has a member sort, basis, broker, page, prices, children or device"),
     ("", "steps = 1", "give 2 to 1000 steps"),
     ("", "max = 0", "from min to a greater max"),
     ("", "min = 1\nsteps = 4", "max - min has to be a multiple of steps - 1"),

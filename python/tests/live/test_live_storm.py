@@ -12,7 +12,7 @@ from datetime import datetime, timezone
 
 import pytest
 from brokers import SECONDS, Mosquitto, Onlooker, live_program, require_broker, wait_until
-from markets import PLACES, STEPS, Market, Process, falls_at
+from markets import PLACES, STEPS, Market, Process, falls_at, prices_in
 
 
 from cogmaula.cli import main
@@ -67,10 +67,8 @@ class Sums:
         """The powers of the children that the newest clearing names, by child, at the step of each."""
         prices = {}
         for topic, (payload, _) in list(self.onlooker.newest.items()):
-            if topic.split("/")[1:3] == [self.parent, "price"] and payload:
-                frame = frame_of(payload, PRICES, STEPS)
-                if isinstance(frame, Price):
-                    prices[frame.child] = frame
+            if topic.split("/")[1] == self.parent:
+                prices |= {frame.child: frame for _, frame in prices_in(topic, payload) if isinstance(frame, Price)}
         seen = self.onlooker.all[self.read :]
         self.read += len(seen)
         for topic, payload, _ in seen:

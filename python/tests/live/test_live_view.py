@@ -35,6 +35,36 @@ def test_a_tree_of_three_levels():
     assert (view.clearing, view.not_taken) == (7, ())
 
 
+def by_tables():
+    """The same market, of which each parent tells its prices together."""
+    told = village().without("auctioneer/price/1", "auctioneer/price/2", "street/price/1", "street/price/2")
+    return told.prices("auctioneer", 7, 2, {1: 5, 2: 6}).prices("street", 7, 4, {1: 3, 2: 4})
+
+
+def test_tables_of_prices_show_what_single_prices_do():
+    assert by_tables().view() == village().view()
+    mixed = by_tables().price("street", 1, 3, 6, 5).price("street", 2, 4, 8, 4)
+    assert [mixed.node(name).price.clearing for name in ("house", "store")] == [7, 8], "of two the newer one"
+    bad = by_tables().put("street/prices", b"no table")
+    assert [(told.topic, "no table of prices" in told.why) for told in bad.view().not_taken] == [("market/street/prices", True)]
+
+
+def test_a_setpoint_is_of_the_newest_clearing_that_gives_the_same():
+    """The table names the bid and the step of the setpoint at a later clearing, and then another step."""
+    told = by_tables().prices("street", 9, 4, {1: 3, 2: 4})
+    assert told.node("house").power == PowerView(100, "setpoint", 9, 9)
+    assert (told.node("street").power, told.node("street").is_within) == (PowerView(-50, "sum", 9, 9), True)
+    told.prices("street", 10, 5, {1: 3, 2: 4})
+    assert told.node("house").power == PowerView(100, "setpoint", 7, 7)
+
+
+def test_a_page_of_a_relay_leaves_its_siblings_out():
+    """It hears nothing of the mill but the number of its bid in the table."""
+    told = by_tables().without("mill/state", "mill/setpoint", "auctioneer/bid/2")
+    assert ("auctioneer", 2) not in [(node.parent, node.child) for node in told.view("street").nodes]
+    assert ("auctioneer", 2) in [(node.parent, node.child) for node in told.view().nodes]
+
+
 def test_the_members_of_a_relay():
     street = village().state("street", "relay", "auctioneer", 1, None, 50, "down", "stopped").node("street")
     assert (street.sort, street.parent, street.child, street.state, street.why) == ("relay", "auctioneer", 1, "down", "stopped")

@@ -8,6 +8,7 @@ from cogmaula.cluster import Basis
 from cogmaula.live.broker import Message
 from cogmaula.live.frames import Bid, Gone, Price, Setpoint
 from cogmaula.live.messages import BasisMessage, StateMessage, setpoint_bytes
+from cogmaula.live.price_table import PriceTable
 from cogmaula.live.view import view_of
 
 BASIS = Basis(0, 9, 10)
@@ -38,6 +39,9 @@ class Told:
 
     def price(self, parent, child, number, index, step, **more):
         return self.put(f"{parent}/price/{child}", Price(child, number, index, step, self.basis.min, self.basis.max, self.basis.steps).to_bytes(), **more)
+
+    def prices(self, parent, index, step, numbers, **more):
+        return self.put(f"{parent}/prices", PriceTable(index, step, self.basis, numbers).to_bytes(), **more)
 
     def setpoint(self, name, power, number, index, step, **more):
         return self.put(f"{name}/setpoint", setpoint_bytes(Setpoint(number, index, step, power), BASIS, MOMENT), **more)
