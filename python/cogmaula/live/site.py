@@ -1,0 +1,170 @@
+"""A site: many nodes of a market in one process, in one loop and over one connection to the broker.
+
+The nodes are those of `cogmaula node`, each with its own process of `live`, its own folder and its own topics. A node has no thread: the
+loop moves the bytes of its service, hands it what came, and lets it look at the clock.
+"""
+
+from __future__ import annotations
+
+import heapq
+import logging
+import math
+import resource
+import time
+from collections import deque
+from collections.abc import Callable, Sequence
+from functools import partial
+
+from ..logs import NodeLog
+from .errors import LiveError
+from .loop import Loop
+from .node import TICK, Node
+from .service import PolledService
+from .settings import Settings
+from .shared import SharedConnection
+from .site_settings import SiteSettings
+
+# A device looks at the clock so often within a heartbeat, and not more seldom than each so many seconds.
+LOOKS, MOST_SECONDS = 6, 5.0
+# The open files of a device: two pipes, its lock and a recording. A parent has a file of bids too. And those of the site itself.
+FILES_OF_DEVICE, FILES_OF_PARENT, FILES = 4, 5, 128
+# The seconds within which the broker has to confirm what nodes say last.
+LAST_SECONDS = 5.0
+
+
+class NoControl:
+    """The control of a device of a site: it offers and is told by the topics of the device alone. See Control."""
+
+    def start(self, notify: Callable[[bytes], None], log: NodeLog) -> None:
+        """See Control."""
+
+    def write(self, setpoint: bytes) -> None:
+        """See Control."""
+
+
+class Site:
+    """The nodes of a site, from their start to their end. `run` does the work, and `stop` ends it from anywhere."""
+
+    def __init__(self, settings: SiteSettings, turns: Callable[[], None] = lambda: None) -> None:
+        """Takes the place of each node on disk.
+
+        turns: is called about each second, as long as the loop turns
+
+        Raises BadStore if another process has a node's folder, NoPackage if paho is missing, LiveError if too few files may be open, and
+        OSError.
+        """
+        require_files(settings.nodes)
+        self.settings = settings
+        self._turns = turns
+        self._turned = -math.inf
+        self._log = NodeLog(logging.getLogger(__name__))
+        self._loop = Loop()
+        client_id = f"cogmaula.{settings.broker.prefix.replace('/', '.')}.{settings.name}"
+        self._connection = SharedConnection(settings.broker, client_id, self._loop, self._log)
+        self._is_stopped = False
+        # The nodes that have something to take, each once, and when each looks at the clock next.
+        self._ready: deque[str] = deque()
+        self._is_ready: set[str] = set()
+        self._looks: list[tuple[float, str]] = []
+        self.nodes: dict[str, Node] = {}
+        for one in settings.nodes:
+            self.nodes[one.name] = Node(
+                one,
+                NoControl() if one.sort == "device" else None,
+                self._log.of_node(one.name),
+                self._connection.link,
+                tick=MOST_SECONDS,
+                make_service=partial(PolledService, self._loop),
+                wake=partial(self._wake, one.name),
+            )
+
+    def _wake(self, name: str) -> None:
+        """Notes that a node has something to take."""
+        if name not in self._is_ready:
+            self._is_ready.add(name)
+            self._ready.append(name)
+
+    def stop(self) -> None:
+        """Ends `run`, from any thread or from the handler of a signal."""
+        self._is_stopped = True
+        self._loop.wake()
+
+    def run(self) -> None:
+        """Works until `stop` is called. A node that fails ends by itself, with a line. Raises LiveError once all have failed."""
+        try:
+            now = time.monotonic()
+            for at, (name, node) in enumerate(self.nodes.items()):
+                node.start()
+                # The nodes do not look at the clock all at once.
+                heapq.heappush(self._looks, (now + MOST_SECONDS * at / len(self.nodes), name))
+            while self.nodes and not self._is_stopped:
+                self._turn()
+            if not self.nodes:
+                raise LiveError("no node of the site is left: the lines above say why")
+        finally:
+            self._end()
+
+    def _turn(self) -> None:
+        """Waits for something to do, and does it."""
+        now = time.monotonic()
+        self._loop.turn(0.0 if self._ready else min(max(0.0, self._looks[0][0] - now), TICK if not self._connection.is_there else 1.0))
+        now = time.monotonic()
+        self._connection.tick(now)
+        for _ in range(len(self._ready)):
+            name = self._ready.popleft()
+            self._is_ready.discard(name)
+            self._work(name)
+        while self._looks and self._looks[0][0] <= now:
+            _, name = heapq.heappop(self._looks)
+            if name in self.nodes:
+                self._work(name)
+                heapq.heappush(self._looks, (now + self._seconds_of(name), name))
+        if now >= self._turned + 1.0:
+            self._turned = now
+            self._turns()
+
+    def _seconds_of(self, name: str) -> float:
+        """The seconds from one look of a node at the clock to the next: it needs no more for its heartbeats, and a parent for its pause."""
+        node = self.nodes.get(name)
+        if node is None or node.settings.sort != "device":
+            return TICK
+        return min(max(TICK, node.serving.beating.silence.times.heartbeat / LOOKS), MOST_SECONDS)
+
+    def _work(self, name: str) -> None:
+        """Lets a node take all that has come. One that fails ends, and the others go on."""
+        node = self.nodes.get(name)
+        if node is None:
+            return
+        try:
+            node.turn()
+        except (LiveError, OSError) as error:
+            self._log.of_node(name).error(f"it ends: {error}")
+            del self.nodes[name]
+            self._end_node(node, str(error))
+
+    def _end_node(self, node: Node, why: str) -> None:
+        try:
+            node.end(why)
+        except (LiveError, OSError) as error:
+            self._log.of_node(node.settings.name).error(str(error))
+
+    def _end(self) -> None:
+        """Ends all nodes, and waits until the broker has what they said last."""
+        for node in self.nodes.values():
+            self._end_node(node, "stopped")
+        end = time.monotonic() + LAST_SECONDS
+        while self._connection.is_there and self._connection.unconfirmed and time.monotonic() < end:
+            self._loop.turn(TICK)
+            self._connection.tick(time.monotonic())
+        self._connection.close()
+        self._loop.close()
+
+
+def require_files(nodes: Sequence[Settings]) -> None:
+    """Lets these nodes have their open files. Raises LiveError if the system allows too few."""
+    needed = FILES + sum(FILES_OF_DEVICE if node.sort == "device" else FILES_OF_PARENT for node in nodes)
+    soft, hard = resource.getrlimit(resource.RLIMIT_NOFILE)
+    if hard != resource.RLIM_INFINITY and hard < needed:
+        raise LiveError(f"{len(nodes)} nodes need {needed} open files, and {hard} are allowed: raise LimitNOFILE of the unit, or ulimit -n")
+    if soft != resource.RLIM_INFINITY and soft < needed:
+        resource.setrlimit(resource.RLIMIT_NOFILE, (needed, hard))

@@ -1,0 +1,204 @@
+"""A site over a real broker: many nodes in one process and one loop, which take part as nodes of their own do."""
+
+from __future__ import annotations
+
+import json
+import os
+import signal
+import threading
+import time
+
+import pytest
+from brokers import SECONDS, Mosquitto, Onlooker, require_broker, wait_until
+from markets import BASIS, PLACES, STEPS, Market, falls_at
+
+from cogmaula.live import BadSettings
+from cogmaula.live.service import PolledService
+from cogmaula.live.site import Site
+from cogmaula.live.site_settings import site_settings_of
+
+CONSTANT = [100] * STEPS
+
+
+def tables_of(folder, port, live, *names, **nodes):
+    """The tables of a site with these nodes of the tests' market, and others."""
+    found = {}
+    for name in names:
+        sort, parent, child = PLACES[name]
+        place = {} if parent is None else {"parent": parent, "child": child}
+        found[name] = {"sort": sort, "pause": 0.05, **place}
+    return {
+        "site": {"name": "north", "state": str(folder / "north"), "live": live},
+        "basis": {"min": BASIS.min, "max": BASIS.max, "steps": BASIS.steps},
+        "broker": {"port": port},
+        "nodes": {**found, **nodes},
+    }
+
+
+class RunningSite:
+    """A site in a thread of the test, whose devices offer and are told by the topics of an onlooker."""
+
+    def __init__(self, tables, onlooker):
+        self.onlooker, self.error = onlooker, None
+        self.site = Site(site_settings_of(tables))
+        self.nodes = dict(self.site.nodes)
+        self.thread = threading.Thread(target=self._run)
+        self.thread.start()
+
+    def _run(self):
+        try:
+            self.site.run()
+        except Exception as error:  # noqa: BLE001 - the test looks at it
+            self.error = error
+
+    def offers(self, **demands):
+        for name, powers in demands.items():
+            self.onlooker.publish(f"market/{name}/offer", json.dumps({"power": powers}).encode())
+
+    def setpoint(self, name):
+        return json.loads(self.onlooker.payload(f"market/{name}/setpoint") or b"{}")
+
+    def settles_at(self, step, **powers):
+        def holds():
+            told = [self.setpoint(name) for name in powers]
+            return all((one.get("step"), one.get("power")) == (step, power) for one, power in zip(told, powers.values(), strict=True))
+
+        wait_until(holds, f"step {step}, {powers}, {self.error}")
+
+    def stop(self):
+        self.site.stop()
+        self.thread.join(SECONDS)
+
+    def __enter__(self):
+        return self
+
+    def __exit__(self, *_):
+        self.stop()
+
+
+@pytest.fixture
+def broker(tmp_path):
+    require_broker()
+    with Mosquitto(tmp_path / "broker") as one:
+        yield one
+
+
+@pytest.fixture
+def onlooker(broker):
+    with Onlooker(broker.port) as one:
+        yield one
+
+
+@pytest.fixture
+def whole(broker, onlooker, live, tmp_path):
+    """A whole market in one site: the house takes 100 W, the store gives 150 W from step 4 on, so it clears there."""
+    with RunningSite(tables_of(tmp_path, broker.port, live, "auctioneer", "street", "house", "store"), onlooker) as one:
+        one.offers(house=CONSTANT, store=falls_at(4, 0, -150))
+        one.settles_at(4, house=100, store=-150)
+        yield one
+
+
+def test_a_whole_market_in_one_process_without_a_thread_for_a_node(whole, onlooker):
+    names = {thread.name for thread in threading.enumerate()}
+    whole.offers(house=falls_at(8, 200, 100))
+    whole.settles_at(8, house=100, store=-150)
+    assert {thread.name for thread in threading.enumerate()} == names
+    for name in whole.nodes:
+        assert json.loads(onlooker.payload(f"market/{name}/state"))["state"] == "up"
+    whole.stop()
+    for name in whole.nodes:
+        wait_until(lambda name=name: json.loads(onlooker.payload(f"market/{name}/state"))["state"] == "down", f"{name} says that it ends")
+    assert whole.error is None
+
+
+def test_a_service_that_is_killed_starts_anew_and_the_others_go_on(whole):
+    for name, step in (("street", 5), ("store", 6), ("auctioneer", 7)):
+        os.kill(whole.nodes[name].serving.service.pid, signal.SIGKILL)
+        wait_until(lambda name=name: whole.nodes[name].serving.counts.restarts, "its end is noticed")
+        whole.offers(store=falls_at(step, 0, -150))
+        whole.settles_at(step, house=100, store=-150)
+
+
+def test_after_the_broker_was_away_all_is_published_again(whole, broker, onlooker):
+    broker.kill()
+    wait_until(lambda: not whole.site._connection.is_there, "the loss is noticed")
+    time.sleep(0.3)
+    broker.start()
+    wait_until(lambda: all(node._link.is_settled for node in whole.nodes.values()), "all are settled again")
+    whole.offers(store=falls_at(6, 0, -150))
+    whole.settles_at(6, house=100, store=-150)
+
+
+def test_a_site_and_nodes_of_their_own_are_one_market(broker, onlooker, live, tmp_path):
+    """The relay and its devices are a site, the auctioneer is not. After a restart the site goes on from its disk."""
+    with Market(broker.port, live, tmp_path) as market:
+        market.start("auctioneer")
+        for turn, step in enumerate((4, 8)):
+            with RunningSite(tables_of(tmp_path, broker.port, live, "street", "house", "store"), onlooker) as one:
+                one.offers(house=falls_at(8, 200, 100) if turn else CONSTANT, store=falls_at(4, 0, -150))
+                one.settles_at(step, house=100, store=-150)
+                assert one.setpoint("house")["bid"] == 2 * (turn + 1), "numbers go on"
+
+
+def test_a_node_that_is_refused_ends_alone(broker, onlooker, live, tmp_path, caplog):
+    """The mill has the place of its basis, and the disk of another name."""
+    folder = tmp_path / "north" / "mill"
+    first = RunningSite(tables_of(tmp_path, broker.port, live, "auctioneer", "mill"), onlooker)
+    first.offers(mill=CONSTANT)
+    first.settles_at(STEPS - 1, mill=100)
+    first.stop()
+    (damaged,) = folder.glob("*.resume")
+    damaged.write_bytes(damaged.read_bytes()[:-1])
+    tables = tables_of(tmp_path, broker.port, live, "auctioneer", "street", "house", "store", "mill")
+    with RunningSite(tables, onlooker) as one:
+        wait_until(lambda: "mill" not in one.site.nodes, "it is refused")
+        one.offers(house=CONSTANT, store=falls_at(4, 0, -250))
+        one.settles_at(4, house=100, store=-250)
+    (line,) = [record for record in caplog.records if "it ends: " in record.getMessage()]
+    assert (line.node, "is damaged" in line.getMessage()) == ("mill", True)
+
+
+def test_a_loop_that_is_asked_to_write_more_than_a_pipe_takes():
+    """The bytes wait, and nothing is lost, while the process reads slowly."""
+    from cogmaula.live.loop import Loop
+
+    loop, happened = Loop(), []
+    code = "import sys, time\ntime.sleep(0.3)\nn = len(sys.stdin.buffer.read(1_000_011))\nsys.stdout.buffer.write(b'\\x0a' * (n == 1_000_011))"
+    service = PolledService(loop, ["/usr/bin/python3", "-c", code], "device", BASIS, b"", happened.append)
+    for _ in range(100):
+        service.feed(b"\x0e" * 10_000)
+    end = time.monotonic() + SECONDS
+    while len(happened) < 2:
+        assert time.monotonic() < end
+        loop.turn(0.1)
+    came, ended = happened
+    assert [type(frame).__name__ for frame in came.frames] == ["WindowFull"]
+    assert ended.why == "status 0: its input ended"
+    service.feed(b"\x0e")
+    service.close()
+    loop.close()
+
+
+WRONG = [
+    ({"nodes": {}}, "has no node"),
+    ({"nodes": {"house": {"parent": "street", "child": 1}}}, "nodes.house.sort is None"),
+    ({"nodes": {"house": {"sort": "device", "parent": "street"}}}, "nodes.house: a device needs parent"),
+    ({"nodes": {"house": {"sort": "device", "parent": "street", "child": 1, "state": "s"}, "store": {"sort": "device", "parent": "street", "child": 2, "state": "s"}}}, "two nodes have the state s"),
+    ({"site": {"name": "a/b", "state": "s"}}, "site.name is 'a/b'"),
+    ({"site": {"name": "north"}}, "site.state is missing"),
+]
+
+
+@pytest.mark.parametrize(("change", "why"), WRONG)
+def test_settings_that_are_wrong(tmp_path, change, why):
+    with pytest.raises(BadSettings, match=why):
+        site_settings_of({**tables_of(tmp_path, 1883, "live", "house"), **change})
+
+
+def test_each_node_has_a_folder_and_what_its_table_says(tmp_path):
+    house = {"sort": "device", "parent": "street", "child": 1, "device": {"kind": "load"}, "fallback": 5}
+    street = {"sort": "relay", "parent": "auctioneer", "child": 1, "children": {"house": {"child": 1, "least": 0}}, "prices": {"together": False}}
+    found = site_settings_of(tables_of(tmp_path, 1883, "live", house=house, street=street))
+    one, other = found.nodes
+    assert (one.name, one.sort, one.fallback, one.device.kind, one.state) == ("house", "device", 5, "load", str(tmp_path / "north" / "house"))
+    assert (other.prices.together, [child.least for child in other.children], other.broker.port) == (False, [0], 1883)
