@@ -92,8 +92,11 @@ OTHER_MEANINGS = [
     ("pm_wire/specs/Kinds.antt", "the first bytes of frames and answers"),
     ("pm_wire/src/kinds.rt", "the first bytes of frames and answers"),
     ("pm_net/specs/SmallDevices.antt", "runs written out"),
+    ("pm_system/proofs/DeepEnd.antt", "a run written out"),
+    ("pm_system/proofs/DeepGiven.antt", "a run written out"),
     ("pm_system/proofs/WorkedEnd.antt", "a run written out"),
     ("pm_system/proofs/WorkedGiven.antt", "a run written out"),
+    ("pm_system/specs/WorkedDeep.antt", "a run written out"),
     ("market/src/main.rt", "an exit status"),
     ("live/src/main.rt", "an exit status"),
 ]

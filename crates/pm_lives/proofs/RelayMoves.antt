@@ -57,7 +57,8 @@ use Rattle.pm_lives.specs.RelayLife.{RelayMayRead, RelayFollows, RelayLets}
 use Rattle.pm_lives.proofs.Staying.{still, then_moves, relay_moved, bid_pushed, prices_pushed, were_sent, both_sent, both_kept}
 use Rattle.pm_lives.proofs.Downs.{downs_sent, downs_keep_none}
 use Rattle.pm_lives.proofs.After.{runs_on, calm_on}
-use Rattle.pm_lives.proofs.RelayValues.{under_numbers, of_price_stays, update_stays, price_is_of, SameNumbers, same_self, kept_stays, AreKept, are_kept, own_kept, looks_same, limits_same, takes_same, takes_held, sent_last}
+use Rattle.pm_lives.proofs.RelayValues.{under_numbers, of_price_stays, update_stays, price_is_of, SameNumbers, same_self, kept_stays, AreKept}
+use Rattle.pm_lives.proofs.RelayValues.{are_kept, own_kept, looks_same, limits_same, takes_same, takes_held, sent_last}
 
 -- ---- words of other crates
 
@@ -563,7 +564,8 @@ module _ (Lets : ℕ → ℕ → Type 0) (lists : Lists) (p : Pricing) (numberin
       let first : Outs = receipt_outs kept giver number ++ bid_again_outs (sys.relays c) did.learnt in
       let told : Moves sys did.learnt first = goes_on sys did.learnt (receipt_outs kept giver number) said (λ r. bid_again_outs (sys.relays c) r)
       (again_if said.new (eqb (sys.relays c).gathered.window.last 0) (ready_by sys did.learnt (receipt_outs kept giver number) said)) in
-      let is : reply ≡ first = did.replied ∙ ap (λ (l : Outs). receipt_outs kept giver number ++ (bid_again_outs (sys.relays c) did.learnt ++ l)) did.tries.1
+      let is : reply ≡ first = did.replied
+      ∙ ap (λ (l : Outs). receipt_outs kept giver number ++ (bid_again_outs (sys.relays c) did.learnt ++ l)) did.tries.1
       ∙ ap (λ (l : Outs). receipt_outs kept giver number ++ l) (append-nil (bid_again_outs (sys.relays c) did.learnt)) in
       subst₂ (λ (a : WaitingRelay) (l : Outs). Learnt sys a l) (sym did.tries.0) (sym is) (record {
         moves = told;

@@ -71,8 +71,10 @@ price_is_of sys c price at = inr (at.0, at.1, ap (λ (q : PriceUpdate). q.number
 
 -- the relay has the same newest bid and the numbers in it, and a price that is no older
 pub record SameNumbers (old new : RelayValue) : Type 0 where
+  -- its newest bid has the same number, and is over the same numbers of its children
   pub last : newest_bid_number new ≡ newest_bid_number old
   pub recorded : new.recorded ≡ old.recorded
+  -- the newest price that it knows is no older
   pub rises : old.index ≤ new.index
 
 same_then : (a b d : RelayValue) → SameNumbers a b → SameNumbers b d → SameNumbers a d
@@ -82,9 +84,11 @@ same_then a b d first then = record {
   rises = omega (arith, first.rises, then.rises);
 }
 
+-- a relay has its own newest bid and numbers
 pub same_self : (a : RelayValue) → SameNumbers a a
 same_self a = record { last = refl; recorded = refl; rises = omega arith }
 
+-- what may be stored of a relay may still be stored once it moved and kept its newest bid and the numbers in it
 pub kept_stays : (p : Pricing) (numbering : Numbering) (c : ℕ) (sys new : System) → OnlyMoves c sys new → SameNumbers (sys.relays c) (new.relays c) →
     (stored : StoredRelay) → IsRelayKept p numbering sys c stored → IsRelayKept p numbering new c stored
 kept_stays p numbering c sys new moves same stored kept = record {
@@ -95,9 +99,11 @@ kept_stays p numbering c sys new moves same stored kept = record {
   older = omega (arith, kept.older, same.rises);
 }
 
+-- what these outputs store of relay c may be stored of it
 abbrev pub AreKept : Pricing → Numbering → System → ℕ → List (Output StoredRelay) → Type 0
 AreKept p numbering sys c outs = EachKept (λ (stored : StoredRelay). IsRelayKept p numbering sys c stored) outs
 
+-- it may still be stored once the relay moved and kept its newest bid and the numbers in it
 pub are_kept : (p : Pricing) (numbering : Numbering) (c : ℕ) (sys new : System) → OnlyMoves c sys new → SameNumbers (sys.relays c) (new.relays c) →
     (outs : List (Output StoredRelay)) → AreKept p numbering sys c outs → AreKept p numbering new c outs
 are_kept p numbering c sys new moves same outs kept =
@@ -147,6 +153,7 @@ limits_known old child number limits =
     (record old { gathered = record (with_child_bid old child number None).gathered { limits = Some limits } }) old
     (λ e. (record { last = refl; recorded = refl; rises = omega arith }, refl, refl)) (λ e. (same_self old, refl, refl))
 
+-- one that learns limits, and then looks for its record
 pub limits_same : (old new : RelayValue) (child number : ℕ) (limits : Limits) → LooksForRecord (with_new_limits old child number limits) new →
     SameNumbers old new × (new.answered ≡ old.answered) × (new.index ≡ old.index)
 limits_same old new child number limits looks =
@@ -177,6 +184,7 @@ takes_same old new price Alone did = record {
   rises = omega (arith, ap (λ (r : RelayValue). r.index) did.3, did.0.newer);
 }
 
+-- the newest price that a relay knows after it read a price was sent to it, if this price and the one before were
 pub takes_held : (sys : System) (c : ℕ) (old new : RelayValue) (price : PriceUpdate) (outcome : PriceOutcome) → relays.TakesPrice old new price outcome →
     IsOfPrice sys c old.answered old.index → IsOfPrice sys c price.number price.index → IsOfPrice sys c new.answered new.index
 takes_held sys c old new price Dropped did held its =

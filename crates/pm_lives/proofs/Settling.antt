@@ -139,7 +139,9 @@ module _ (lists : Lists) (p : Pricing) (numbering : Numbering) (market : IsTreeM
         newest_index world.seen.root ≤ index_of_held lists world.seen c) →
         newest_index world.seen.root ≤ index_above world.seen (parent lists x)
     above_from x node counts earlier = elim (cases_eq (parent lists x) 0) [
-      | inl up ↦ omega (arith, cond-true (eqb (parent lists x) 0) (newest_index seen.root) (seen.relays (parent lists x)).index (eq-eqb (parent lists x) 0 up))
+      | inl up ↦
+          let at_root = eq-eqb (parent lists x) 0 up in
+          omega (arith, cond-true (eqb (parent lists x) 0) (newest_index seen.root) (seen.relays (parent lists x)).index at_root)
       | inr ne ↦
           let c : ℕ = parent lists x in
           let conc : IsConcentrator lists c = parent_relay lists market.law x node ne in
@@ -232,6 +234,7 @@ module _ (lists : Lists) (p : Pricing) (numbering : Numbering) (market : IsTreeM
           );
     }
 
+    -- to a device that took a price of the newest clearing, such a price was handed
     pub handed_taken : (d : ℕ) → IsLeaf lists d → (head_held lists numbering world.seen d).gone ≡ false →
         (world.seen.agents d).index ≡ newest_index world.seen.root → WasHanded d
     handed_taken d leaf there taken =

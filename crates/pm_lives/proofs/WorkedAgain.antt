@@ -25,11 +25,13 @@ use Rattle.pm_lives.specs.Lives.{Lives1, RelayUp, Relay, Root, Device}
 use Rattle.pm_lives.specs.WorkedLives.{small_basis, bid_to_relay}
 use Rattle.pm_lives.proofs.WorkedWorlds.{small_setup, heard, heard_root, sent_outs, cleared_outs, w11, w12, w13, w14, w15, w16, w17, w18, w19, w20, w21, w22}
 
+-- step 12: device 2 offers anew, and sends its bid 4
 pub does_12 : Lives1 small_tree small_pricing small_places w11 (Device 2 (device_frame.Offer Array (small_device_demand 2 4)) 2) w12
 unfolding parent is_leaf is_member changes update place_in children_to said_between reaches suffices
 does_12 =
     record { leaf = refl; runs = refl; may = λ e room. record { has = omega arith; member = refl; is = refl }; handled = inl (omega arith); new_is = refl }
 
+-- step 13: the relay reads bid 4 of device 2
 pub does_13 : Lives1 small_tree small_pricing small_places w12 (bid_to_relay 1 4 2 0) w13
 unfolding parent is_leaf is_member changes update place_in children_to said_between reaches suffices
 does_13 = record {
@@ -54,6 +56,7 @@ does_13 = record {
   new_is = refl;
 }
 
+-- step 14: the relay makes its bid 2; its Resume alone is handled, so the bid is lost
 pub does_14 : Lives1 small_tree small_pricing small_places w13 (Relay 1 relay_frame.Send 1) w14
 unfolding parent is_leaf is_member changes update place_in children_to said_between reaches suffices
 does_14 = record {
@@ -108,6 +111,7 @@ does_14 = record {
   new_is = refl;
 }
 
+-- step 15: the next process of the relay begins, with that Resume
 pub does_15 : Lives1 small_tree small_pricing small_places w14 (RelayUp 1 0) w15
 unfolding parent is_leaf is_member changes update place_in children_to said_between reaches suffices
 does_15 = record {
@@ -135,6 +139,7 @@ does_15 = record {
   new_is = refl;
 }
 
+-- step 16: the relay reads bid 2 of device 3 again
 pub does_16 : Lives1 small_tree small_pricing small_places w15 (bid_to_relay 2 2 3 0) w16
 unfolding parent is_leaf is_member changes update place_in children_to said_between reaches suffices
 does_16 = record {
@@ -166,6 +171,7 @@ does_16 = record {
   new_is = refl;
 }
 
+-- step 17: the relay reads bid 4 of device 2 again, has its record again, and sends its bid 2
 pub does_17 : Lives1 small_tree small_pricing small_places w16 (bid_to_relay 1 4 2 1) w17
 unfolding parent is_leaf is_member changes update place_in children_to said_between reaches suffices
 does_17 = record {
@@ -217,7 +223,9 @@ does_17 = record {
   new_is = refl;
 }
 
-pub does_18 : Lives1 small_tree small_pricing small_places w17 (Root (root_frame.Market (market_frame.Bid 1 2 (negsuc 0 ∷ negsuc 0 ∷ negsuc 0 ∷ []))) 0) w18
+-- step 18: the auctioneer reads bid 2 of the relay
+pub does_18 : Lives1 small_tree small_pricing small_places w17
+    (Root (root_frame.Market (market_frame.Bid 1 2 (negsuc 0 ∷ negsuc 0 ∷ negsuc 0 ∷ []))) 0) w18
 unfolding parent is_leaf is_member changes update place_in children_to said_between reaches suffices
 does_18 =
     record {
@@ -241,6 +249,7 @@ does_18 =
       new_is = refl;
     }
 
+-- step 19: the auctioneer clears again, and its price is handed out
 pub does_19 : Lives1 small_tree small_pricing small_places w18 (Root (root_frame.Market market_frame.Clear) 2) w19
 unfolding parent is_leaf is_member changes update place_in children_to said_between reaches suffices
 does_19 = record {
@@ -265,6 +274,7 @@ does_19 = record {
   new_is = refl;
 }
 
+-- step 20: the relay takes the price, and passes it on to both devices
 pub does_20 : Lives1 small_tree small_pricing small_places w19 (Relay 1 (relay_frame.Parent (Price 1 2 2 0 small_basis)) 3) w20
 unfolding parent is_leaf is_member changes update place_in children_to said_between reaches suffices
 does_20 = record {
@@ -309,10 +319,12 @@ does_20 = record {
   new_is = refl;
 }
 
+-- step 21: device 2 takes the price of its bid 4
 pub does_21 : Lives1 small_tree small_pricing small_places w20 (Device 2 (device_frame.Parent (Price 1 4 2 1 small_basis)) 2) w21
 unfolding parent is_leaf is_member changes update place_in children_to said_between reaches suffices
 does_21 = record { leaf = refl; runs = refl; may = (refl, (0, omega arith, refl)); handled = inl (omega arith); new_is = refl }
 
+-- step 22: device 3 takes the price of its bid 2
 pub does_22 : Lives1 small_tree small_pricing small_places w21 (Device 3 (device_frame.Parent (Price 2 2 2 1 small_basis)) 2) w22
 unfolding parent is_leaf is_member changes update place_in children_to said_between reaches suffices
 does_22 = record { leaf = refl; runs = refl; may = (refl, (0, omega arith, refl)); handled = inl (omega arith); new_is = refl }

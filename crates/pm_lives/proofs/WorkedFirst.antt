@@ -22,10 +22,12 @@ use Rattle.pm_lives.specs.Lives.{Lives1, RelayUp, Relay, RootUp, Root, DeviceUp,
 use Rattle.pm_lives.specs.WorkedLives.{bid_to_relay}
 use Rattle.pm_lives.proofs.WorkedWorlds.{heard, heard_root, sent_outs, cleared_outs, w0, w1, w2, w3, w4, w5, w6, w7, w8, w9, w10, w11}
 
+-- step 1: a process of the auctioneer begins
 pub does_1 : Lives1 small_tree small_pricing small_places w0 (RootUp) w1
 unfolding parent is_leaf is_member changes update place_in children_to said_between reaches suffices
 does_1 = record { root = new_root; back = record { auction = refl; base = refl; recorded = refl }; new_is = refl }
 
+-- step 2: a process of the relay begins, and nothing was stored of it
 pub does_2 : Lives1 small_tree small_pricing small_places w1 (RelayUp 1 0) w2
 unfolding parent is_leaf is_member changes update place_in children_to said_between reaches suffices
 does_2 = record {
@@ -53,14 +55,17 @@ does_2 = record {
   new_is = refl;
 }
 
+-- step 3: a process of device 2 begins
 pub does_3 : Lives1 small_tree small_pricing small_places w2 (DeviceUp 2 0) w3
 unfolding parent is_leaf is_member changes update place_in children_to said_between reaches suffices
 does_3 = record { leaf = refl; new_is = refl }
 
+-- step 4: a process of device 3 begins
 pub does_4 : Lives1 small_tree small_pricing small_places w3 (DeviceUp 3 0) w4
 unfolding parent is_leaf is_member changes update place_in children_to said_between reaches suffices
 does_4 = record { leaf = refl; new_is = refl }
 
+-- step 5: device 2 offers, and sends its bid 2
 pub does_5 : Lives1 small_tree small_pricing small_places w4 (Device 2 (device_frame.Offer Array (small_device_demand 2 2)) 2) w5
 unfolding parent is_leaf is_member changes update place_in children_to said_between reaches suffices
 does_5 = record {
@@ -71,6 +76,7 @@ does_5 = record {
   new_is = refl;
 }
 
+-- step 6: device 3 offers, and sends its bid 2
 pub does_6 : Lives1 small_tree small_pricing small_places w5 (Device 3 (device_frame.Offer Array (small_device_demand 3 2)) 2) w6
 unfolding parent is_leaf is_member changes update place_in children_to said_between reaches suffices
 does_6 = record {
@@ -81,6 +87,7 @@ does_6 = record {
   new_is = refl;
 }
 
+-- step 7: the relay reads bid 2 of device 2
 pub does_7 : Lives1 small_tree small_pricing small_places w6 (bid_to_relay 1 2 2 0) w7
 unfolding parent is_leaf is_member changes update place_in children_to said_between reaches suffices
 does_7 = record {
@@ -105,6 +112,7 @@ does_7 = record {
   new_is = refl;
 }
 
+-- step 8: the relay reads bid 2 of device 3
 pub does_8 : Lives1 small_tree small_pricing small_places w7 (bid_to_relay 2 2 3 0) w8
 unfolding parent is_leaf is_member changes update place_in children_to said_between reaches suffices
 does_8 = record {
@@ -129,6 +137,7 @@ does_8 = record {
   new_is = refl;
 }
 
+-- step 9: the relay sends its bid 1
 pub does_9 : Lives1 small_tree small_pricing small_places w8 (Relay 1 relay_frame.Send 2) w9
 unfolding parent is_leaf is_member changes update place_in children_to said_between reaches suffices
 does_9 = record {
@@ -182,6 +191,7 @@ does_9 = record {
   new_is = refl;
 }
 
+-- step 10: the auctioneer reads bid 1 of the relay
 pub does_10 : Lives1 small_tree small_pricing small_places w9 (Root (root_frame.Market (market_frame.Bid 1 1 (pos 5 ∷ pos 5 ∷ negsuc 2 ∷ []))) 0) w10
 unfolding parent is_leaf is_member changes update place_in children_to said_between reaches suffices
 does_10 =
@@ -207,6 +217,7 @@ does_10 =
       new_is = refl;
     }
 
+-- step 11: the auctioneer clears; its Resume alone is handled, so the price is lost
 pub does_11 : Lives1 small_tree small_pricing small_places w10 (Root (root_frame.Market market_frame.Clear) 1) w11
 unfolding parent is_leaf is_member changes update place_in children_to said_between reaches suffices
 does_11 = record {

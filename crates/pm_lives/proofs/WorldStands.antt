@@ -83,6 +83,7 @@ pub record WorldStands (lists : Lists) (p : Pricing) (numbering : Numbering) (wo
 
 -- ---- the same values
 
+-- what holds of a relay's values holds of equal ones
 pub relay_ok_as : (p : Pricing) (numbering : Numbering) (sys : System) (c : ℕ) (up up' : Bool) (r r' : RelayValue) (w w' : Option PriceUpdate)
     (k k' : StoredRelay) → up' ≡ up → r' ≡ r → w' ≡ w →
     k' ≡ k → RelayOk p numbering sys c up r w k → RelayOk p numbering sys c up' r' w' k'
@@ -97,6 +98,7 @@ root_ok_as sys up up' r r' k k' e1 e2 e4 ok =
     subst (λ (x : Bool). RootOk sys x r' k') (sym e1) (subst (λ (x : RootValue). RootOk sys up x k') (sym e2)
     (subst (λ (x : StoredRoot). RootOk sys up r x) (sym e4) ok))
 
+-- what holds of a device's values holds of equal ones
 pub agent_ok_as : (sys : System) (d : ℕ) (up up' : Bool) (r r' : DeviceAgent) (k k' : StoredAgent) → up' ≡ up → r' ≡ r → k' ≡ k →
     AgentOk sys d up r k →
     AgentOk sys d up' r' k'
@@ -165,15 +167,20 @@ agent_elsewhere y d sys new moves ne up r k ok =
 
 -- two worlds are the same but for node y and what was handed out
 pub record AgreesBut (y : ℕ) (world new : World) : Type 0 where
+  -- the same processes run
   pub up : (z : ℕ) → (z ≡ y → ⊥) → new.up z ≡ world.up z
   pub relays : (z : ℕ) → (z ≡ y → ⊥) → new.seen.relays z ≡ world.seen.relays z
+  -- and each other device has the same value, also the auctioneer unless it is y
   pub agents : (z : ℕ) → (z ≡ y → ⊥) → new.seen.agents z ≡ world.seen.agents z
   pub root : (0 ≡ y → ⊥) → new.seen.root ≡ world.seen.root
+  -- each other relay has the same price waiting, and the same Resume stored
   pub waiting : (z : ℕ) → (z ≡ y → ⊥) → new.waiting z ≡ world.waiting z
   pub relay_kept : (z : ℕ) → (z ≡ y → ⊥) → new.relay_kept z ≡ world.relay_kept z
+  -- the same Resume is stored of each other device, and of the auctioneer unless it is y
   pub agent_kept : (z : ℕ) → (z ≡ y → ⊥) → new.agent_kept z ≡ world.agent_kept z
   pub root_kept : (0 ≡ y → ⊥) → new.root_kept ≡ world.root_kept
 
+-- Node y alone moved. If it stands for its node in the new system, the new world stands for the new system.
 pub stands_but : (lists : Lists) (p : Pricing) (numbering : Numbering) (y : ℕ) (world new : World) (sys after : System) → AgreesBut y world new →
     OnlyMoves y sys after →
     WorldStands lists p numbering world sys → AllIn lists p new.seen after → (IsConcentrator lists y → RelayOkIn p numbering after new y) →
@@ -222,6 +229,7 @@ module _ (lists : Lists) (p : Pricing) (numbering : Numbering) (seen sys : Syste
         passes = may.passes;
       }
 
+  -- limits that a relay may read by what was handed out, it may read by what was sent
   pub limits_carried : (c sender number : ℕ) (limits : Limits) → CarriesLimits lists p numbering seen c sender number limits →
       CarriesLimits lists p numbering sys c sender number limits
   limits_carried c sender number limits may =
@@ -243,6 +251,7 @@ module _ (lists : Lists) (p : Pricing) (numbering : Numbering) (seen sys : Syste
       let there = all.prices x at.0 node at.1 in
       (there.0, there.1, there.2 ∙ at.2)
 
+  -- so it is of each frame of a relay
   pub relay_may : (own : RelaySetup) (c : ℕ) → IsConcentrator lists c → seen.relays c ≡ sys.relays c → (frame : RelayFrame) →
       RelayMayRead lists p numbering own seen c frame → RelayMayRead lists p numbering own sys c frame
   relay_may own c conc same (Child (Hello basis)) may = tt
@@ -260,6 +269,7 @@ module _ (lists : Lists) (p : Pricing) (numbering : Numbering) (seen sys : Syste
   relay_may own c conc same (Bound sender bound) may = tt
   relay_may own c conc same (Resume stored) may = may
 
+  -- of each frame of the auctioneer
   pub root_may : seen.root ≡ sys.root → (frame : RootFrame) → RootMayRead lists p numbering seen frame → RootMayRead lists p numbering sys frame
   root_may same (root_frame.Market (Hello basis)) may = tt
   root_may same (root_frame.Market (Bid sender number demand)) may = bid_carried 0 sender number (Some demand) may
@@ -271,6 +281,7 @@ module _ (lists : Lists) (p : Pricing) (numbering : Numbering) (seen sys : Syste
   root_may same (root_frame.Bound sender bound) may = tt
   root_may same (root_frame.Resume stored) may = may
 
+  -- and of each frame of a device
   pub device_may : (own : BasisValue) (d : ℕ) → IsNode lists d → seen.agents d ≡ sys.agents d → (frame : DeviceFrame) →
       DeviceMayRead lists p own seen d frame → DeviceMayRead lists p own sys d frame
   device_may own d node same (device_frame.Hello basis) may = tt

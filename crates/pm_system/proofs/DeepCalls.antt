@@ -141,6 +141,7 @@ first l = record {
   made_under = refl;
 }
 
+-- each node comes up for the first time
 pub started : IsStarted deep_tree deep_pricing s0
 started = record {
   root = record { auction = refl; base = refl; recorded = refl };

@@ -31,6 +31,7 @@ two_fall a b c ab bc zero inside = ab
 two_fall a b c ab bc (suc zero) inside = bc
 two_fall a b c ab bc (suc (suc step)) inside = absurd (omega (arith, inside))
 
+-- three powers within the limit of demands that do not rise are a demand at three steps
 pub is_demand : (a b c : ℤ) → IsWithin demand_limit a → IsWithin demand_limit b → IsWithin demand_limit c → b ≤ℤ a → c ≤ℤ b →
     IsDemand 3 (a ∷ b ∷ c ∷ [])
 is_demand a b c in_a in_b in_c ab bc = record {
@@ -39,9 +40,11 @@ is_demand a b c in_a in_b in_c ab bc = record {
   falls = two_fall a b c ab bc;
 }
 
+-- the powers of the worked systems are within the limit of demands: those up to 9 watts
 pub within : (a : ℤ) → pos 0 ≤ℤ a → a ≤ℤ pos 9 → IsWithin demand_limit a
 within a low high = record { low = omega (arith, ints, low); high = omega (arith, ints, high) }
 
+-- and those down to -9 watts
 pub below : (a : ℤ) → negsuc 8 ≤ℤ a → a ≤ℤ pos 0 → IsWithin demand_limit a
 below a low high = record { low = omega (arith, ints, low); high = omega (arith, ints, high) }
 

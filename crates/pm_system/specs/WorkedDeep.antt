@@ -46,8 +46,8 @@ deep_pricing = placed_pricing deep_tree 3 deep_demand (λ c n. deep_limits c) no
 -- passes it to relay 2 and to device 4, and relay 2 passes it to device 3.
 abbrev pub deep_calls : List NodeCall
 deep_calls =
-    Bids 3 ∷ Bids 4 ∷ TakesBid 3 0 ∷ Sends 2 ∷ TakesBid 2 0 ∷ TakesBid 4 0 ∷ Sends 1 ∷ TakesBid 1 0 ∷ Clears ∷ TakesPrice 1 0 ∷ TakesPrice 2 0
-    ∷ TakesPrice 3 0 ∷ TakesPrice 4 0 ∷ []
+    Bids 3 ∷ Bids 4 ∷ TakesBid 3 0 ∷ Sends 2 ∷ TakesBid 2 0 ∷ TakesBid 4 0 ∷ Sends 1 ∷ TakesBid 1 0 ∷ Clears
+    ∷ TakesPrice 1 0 ∷ TakesPrice 2 0 ∷ TakesPrice 3 0 ∷ TakesPrice 4 0 ∷ []
 
 -- Device 3 asks for more than 5 watts at steps 0 and 1, so relay 2 settles at step 2, and announces 2 watts at each step. Relay 1 announces
 -- 3, 0, -4. The root clears at step 1, at 0 watts. Device 4 goes by step 1, and device 3 by step 2.
