@@ -89,7 +89,7 @@ class Controlling:
         due = stored.setpoint, self._silence.newest
         if self._told is None or self._told[1] != due[1] or not is_same_setpoint(self._told[0], due[0]):
             self._told = due
-            told = with_until(stored.setpoint, self._silence.until(now))
+            told = with_until(stored.setpoint, self._silence.until(now, has_bid))
             self._write(told)
             self._keeping.publish(self._settings.own_topic("setpoint"), told, now_text())
 

@@ -104,8 +104,12 @@ class Silence:
 
     def is_silent(self, now: float, renews: bool) -> bool:
         """Whether the control has to fall back. `renews` says whether the node has a bid, whose renewals the broker has to confirm."""
+        return bool(self.let_go_since) or now >= self._ends(renews)
+
+    def _ends(self, renews: bool) -> float:
+        """When it has to fall back if nothing newer comes: validity after the heartbeat or the confirmed renewal, whichever is older."""
         newest = min(self.heard, self._renewed) if renews else self.heard
-        return bool(self.let_go_since) or now >= newest + self.times.validity
+        return newest + self.times.validity
 
     @property
     def since(self) -> str:
@@ -117,7 +121,10 @@ class Silence:
         """Why it is silent, in words."""
         return self._why or f"no heartbeat of the auctioneer came for {self.times.validity:g} s"
 
-    def until(self, now: float) -> str:
-        """Until when a setpoint holds that is told now, by the clock of this machine (RFC 3339)."""
-        left = self.heard + self.times.validity - now
-        return time_text(datetime.now(timezone.utc) + timedelta(seconds=left))
+    def until(self, now: float, renews: bool) -> str:
+        """Until when a setpoint holds that is told now, by the clock of this machine (RFC 3339).
+
+        A node that dies renews no more, and its parent counts from its last renewal. So the control of a node with a bid falls back by
+        itself before the parent lets the device go.
+        """
+        return time_text(datetime.now(timezone.utc) + timedelta(seconds=self._ends(renews) - now))

@@ -50,7 +50,21 @@ def test_silence_begins_validity_after_the_newest_heartbeat():
     assert not one.is_silent(1109.9, renews=False)
     assert one.is_silent(1110.0, renews=False)
     assert -1 < seconds_to(one.since) <= 0
-    assert 29 < seconds_to(one.until(1080.0)) <= 30
+    assert 29 < seconds_to(one.until(1080.0, renews=False)) <= 30
+
+
+# When the broker confirmed the node's bid last, against a heartbeat at 1010, and the seconds that a setpoint told at 1080 holds.
+RENEWED = {"before the heartbeat": (1003.0, 23), "after the heartbeat": (1040.0, 30)}
+
+
+@pytest.mark.parametrize(("renewed", "holds"), RENEWED.values(), ids=RENEWED)
+def test_a_setpoint_holds_no_longer_than_the_bid_was_renewed(renewed, holds):
+    one = begun()
+    one.hear(Heartbeat(1, 1, at(0)), 1010.0, retained=False)
+    one.renewed(renewed)
+    assert holds - 1 < seconds_to(one.until(1080.0, renews=True)) <= holds
+    assert not one.is_silent(1080.0 + holds - 0.1, renews=True)
+    assert one.is_silent(1080.0 + holds, renews=True)
 
 
 # Of each heartbeat that comes after start 3, count 7: its start, its count and what the auctioneer's clock adds to the first one's time.
