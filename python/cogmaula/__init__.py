@@ -44,7 +44,7 @@ from .nodes import (
 )
 from .phases import Event, Events, Join, Leave, Phase, State, Tick
 from .program import Program
-from .report import report
+from .report import history_page, report
 from .runs import Run
 from .states import Bid, DeviceState, Snapshot
 from .study import study
@@ -111,6 +111,7 @@ __all__ = [
     "continued",
     "explain",
     "from_csv",
+    "history_page",
     "parts_of",
     "report",
     "resumed",

@@ -48,8 +48,11 @@ def node_of(view, name):
 
 
 def start_limited(market, **pages):
-    """The market of `test_a_relay_keeps_its_limits`: it clears at 2, and the street, which takes at most 50 W, passes 4."""
-    for name, more in (("auctioneer", {}), ("street", {"ceiling": 50}), ("house", {}), ("store", {}), ("mill", {})):
+    """The market of `test_a_relay_keeps_its_limits`: it clears at 2, and the street, which takes at most 50 W, passes 4.
+
+    A price that gives what the one before gave is told within two heartbeats, here within four seconds.
+    """
+    for name, more in (("auctioneer", {"validity": 20.0, "heartbeat": 2.0}), ("street", {"ceiling": 50}), ("house", {}), ("store", {}), ("mill", {})):
         market.start(name, **more, **({"page": pages[name]} if name in pages else {}))
     market.offers(house=[100] * STEPS, store=falls_at(4, 0, -150), mill=falls_at(2, 60, -60))
     market.settles_at(2, mill=-60)
