@@ -7,7 +7,8 @@
 //! closed rests on no thread, no wake-up and no fairness. These are its two stages: [`run_threads`], and `complete` of
 //! `pm_turns`. A gate of `pm_nodes` is told of each turn.
 //!
-//! Who has work is told by one file, `pending`; at which bell a node sleeps, by `sleeping` and `bells`.
+//! Which move gives whom work is in one file, `pending`; at which bell a node sleeps, in `sleeping` and `bells`. Who sleeps, and whose
+//! bell is to be rung, is kept by the roster of `pm_waking`.
 #![tactic(auto)]
 
 mod bells;

@@ -25,11 +25,11 @@
 //!
 //! # Why nothing is missed
 //!
-//! **No wake-up is lost.** While the lock is free, a node that is noted as sleeping has no work. Its thread notes the bell in
-//! the same hold in which it finds no work. `recount` runs after each change of a node's parts: it takes the note away if the
-//! node now has work, and lists the bell. Whoever lets the lock go takes that list and rings its bells. A bell that rings
-//! between the unlocking and the sleeping of a thread keeps it from sleeping, so it is enough to ring afterwards. A thread that
-//! wakes at a bell that rang for others finds no work, notes its bell and sleeps again.
+//! **No wake-up is lost.** A node that is noted as sleeping has no work: that is what the type of the roster keeps (`pm_waking`). Its
+//! thread notes the bell in the same hold in which it finds no work. Whatever gives the node work takes the note away, and lists the
+//! bell. Whoever lets the lock go takes that list and rings its bells. A bell that rings between the unlocking and the sleeping of a
+//! thread keeps it from sleeping, so it is enough to ring afterwards. A thread that wakes at a bell that rang for others finds no
+//! work, notes its bell and sleeps again.
 //!
 //! **Nothing stalls.** Suppose no node has work. Then no device has a change left, and no price waits. Take a lowest one of the
 //! parents that are owed something. Its children owe it changes, of which none is left, or publishings of concentrators that
@@ -47,183 +47,122 @@ use pm_market::Move;
 use pm_plan::{Plan, is_device};
 use pm_tree::NodeId;
 use pm_turns::next_of;
+use pm_waking::{DevicePending, NodeSort, NodePending, ParentPending, Rings, Roster};
 use std::alloc::{AllocError, Global};
 
 /// From so many devices on that change in a phase, those that wait for its end yield before they sleep.
-const CROWD: u32 = 64;
+const CROWD: usize = 64;
 
 /// What is pending at each node.
 #[derive(Drop)]
 pub(crate) struct Pending {
-    /// By the numbers of the nodes, the auctioneer first.
-    pub(crate) nodes: Vec<NodePending>,
+    /// The nodes by their numbers, the auctioneer first, and where each sleeps.
+    roster: Roster,
     pub(crate) bells: Bells,
-    /// How many nodes have work.
-    working: u32,
-    /// How many devices have a change to make in the open phase.
-    changing: u32,
-    /// How many numbers wait to be learnt.
-    offered: u32,
-    /// How many parents learnt something that they have not sent.
-    unsent: u32,
     /// Whether the open phase has changes.
     pub(crate) active: bool,
     /// Whether many devices change in the open phase.
     pub(crate) crowded: bool,
     /// Whether the open phase is the last.
     last: bool,
-    /// The bells to ring after this hold, each once. It has room for all bells.
-    pub(crate) rings: Vec<u32>,
-}
-
-/// What is pending at one node.
-#[derive(Clone, Copy)]
-pub(crate) struct NodePending {
-    /// The number of its parent's node.
-    pub(crate) parent: u32,
-    /// Whether it is a device.
-    pub(crate) device: bool,
-    /// Of a device: it has a change to make in the open phase.
-    changes: bool,
-    /// Of a device: it changes in the open phase.
-    pub(crate) active: bool,
-    /// Of a device: its newest change left it a member.
-    pub(crate) member: bool,
-    /// A clearing may be passed to it: its parent learnt a bid of it, and of a device the newest one that it learnt is not gone.
-    addressed: bool,
-    /// A clearing may wait to be passed to it.
-    price: bool,
-    /// Of a device: it was passed a clearing since the last closing.
-    pub(crate) passed: bool,
-    /// Its newest number waits to be learnt.
-    offered: bool,
-    /// How many of its children's numbers wait to be learnt.
-    bids: u32,
-    /// It learnt something that it has not published or cleared since.
-    learnt: bool,
-    /// How many of its children still owe it a change or a publishing in the open phase.
-    below: u32,
-    /// It owes its parent a publishing in the open phase.
-    owes: bool,
-    /// Its last turn found no move, and nothing came to it since.
-    stuck: bool,
-    /// Whether it is counted among the nodes with work.
-    counted: bool,
-    /// The bell at which it sleeps.
-    pub(crate) asleep: Option<u32>,
-}
-
-impl NodePending {
-    /// A node before the first move, awake and without work.
-    fn new(parent: u32, device: bool) -> NodePending {
-        NodePending {
-            parent,
-            device,
-            changes: false,
-            active: false,
-            member: false,
-            addressed: false,
-            price: false,
-            passed: false,
-            offered: false,
-            bids: 0,
-            learnt: false,
-            below: 0,
-            owes: false,
-            stuck: false,
-            counted: false,
-            asleep: None,
-        }
-    }
-
-    /// Whether it may make a move: a clearing waits; a device has a change; or a parent has something to learn or to
-    /// send, and no child owes it anything.
-    fn has_work(&self) -> bool {
-        self.price || self.changes || (self.below == 0 && !self.stuck && self.has_news())
-    }
-
-    fn has_news(&self) -> bool {
-        self.bids > 0 || self.learnt
-    }
 }
 
 impl Pending {
     /// Nothing is pending, and all nodes are awake.
     pub(crate) fn new(alloc: Global, plan: &Plan, bells: Bells) -> Result<Pending, AllocError> {
         let count = plan.tree().len() as usize + 1;
-        let mut nodes = Vec::with_capacity(alloc, count)?;
-        nodes.push(NodePending::new(0, false))?;
+        let mut roster = Roster::with_capacity(alloc, count, bells.count())?;
+        roster.add(0, false)?;
         for number in 1..plan.tree().len() + 1 {
             let node = NodeId(number);
             let parent = plan.tree().parent(node);
-            nodes.push(NodePending::new(parent.0, plan.tree().is_leaf(node)))?;
+            roster.add(parent.0, plan.tree().is_leaf(node))?;
         }
         Ok(Pending {
-            nodes,
+            roster,
             bells,
-            working: 0,
-            changing: 0,
-            offered: 0,
-            unsent: 0,
             active: false,
             crowded: false,
             last: false,
-            rings: Vec::with_capacity(alloc, bells.count() as usize)?,
         })
+    }
+
+    /// What is pending at a node; none if there is no such node.
+    pub(crate) fn at(&self, node: u32) -> Option<NodePending> {
+        self.roster.get(node)
     }
 
     /// Whether a node may have a move to make.
     pub(crate) fn has_work(&self, node: u32) -> bool {
-        match self.nodes.get(node as usize) {
-            Some(work) => work.has_work(),
+        match self.at(node) {
+            Some(pending) => pending.has_work(),
             None => false,
         }
     }
 
     /// Whether a device has a change to make, and no price is to be taken first.
     pub(crate) fn may_change(&self, node: u32) -> bool {
-        match self.nodes.get(node as usize) {
-            Some(work) => work.changes && !work.price,
+        match self.at(node) {
+            Some(pending) => pending.has_change() && !pending.price,
             None => false,
         }
     }
 
     /// Whether a node is a device without work that may be given some in the run.
     pub(crate) fn is_resting(&self, node: u32) -> bool {
-        match self.nodes.get(node as usize) {
-            Some(work) => work.device && !work.has_work() && !self.is_finished(node),
-            None => false,
-        }
+        let Some(pending) = self.at(node) else {
+            return false;
+        };
+        pending.device().is_some() && !pending.has_work() && !self.is_finished(node)
     }
 
     /// Whether no node has work.
     pub(crate) fn is_quiet(&self) -> bool {
-        self.working == 0
+        self.roster.is_quiet()
     }
 
     /// Whether nothing will come to a node any more: the open phase is the last, all of it is cleared, and no clearing
     /// waits on the way to the node.
     pub(crate) fn is_finished(&self, node: u32) -> bool {
-        let unsettled = self.changing > 0 || self.offered > 0 || self.unsent > 0;
-        self.last && !unsettled && !self.awaits_price(node)
+        self.last && self.roster.is_settled() && !self.awaits_price(node)
     }
 
     /// Whether a clearing waits at a node or at one above it.
     fn awaits_price(&self, node: u32) -> bool {
         let mut here = node;
-        for _ in 0..self.nodes.len() {
-            let Some(work) = self.nodes.get(here as usize) else {
+        for _ in 0..self.roster.len() {
+            let Some(pending) = self.at(here) else {
                 return true;
             };
-            if work.price {
+            if pending.price {
                 return true;
             }
             if here == 0 {
                 return false;
             }
-            here = work.parent;
+            here = pending.parent;
         }
         true
+    }
+
+    /// Wakes all that sleep.
+    pub(crate) fn wake_all(&mut self) {
+        self.roster.wake_all();
+    }
+
+    /// A node sleeps at a bell.
+    pub(crate) fn sleep(&mut self, node: u32, bell: u32) {
+        self.roster.sleep(node, bell);
+    }
+
+    /// A node is awake.
+    pub(crate) fn rise(&mut self, node: u32) {
+        self.roster.rise(node);
+    }
+
+    /// Hands out the bells that are to be rung, for a list without any.
+    pub(crate) fn hand_out(&mut self, rings: &mut Rings) {
+        self.roster.hand_out(rings);
     }
 
     /// A phase was opened: which devices change in it, and who owes whom.
@@ -237,80 +176,94 @@ impl Pending {
                 self.begin(number, changes);
             }
         }
-        self.crowded = self.changing >= CROWD;
+        self.crowded = self.roster.changing() >= CROWD;
     }
 
     /// A phase begins for a device, with changes of it or without.
-    fn begin(&mut self, device: u32, changes: bool) {
-        let Some(work) = self.nodes.get_mut(device as usize) else {
+    fn begin(&mut self, number: u32, changes: bool) {
+        let Some((node, device)) = self.device_at(number) else {
             return;
         };
-        work.changes = changes;
-        work.active = changes;
-        work.passed = false;
+        let device = DevicePending {
+            changes,
+            active: changes,
+            passed: false,
+            ..device
+        };
+        self.set_device(number, node, device);
         if changes {
             self.active = true;
-            self.changing = self.changing.saturating_add(1);
-            self.owe(device);
+            self.owe(number);
         }
-        self.recount(device);
     }
 
     /// A node owes its parent, and the parent, if it is a concentrator to which nothing was owed before, its own.
-    fn owe(&mut self, node: u32) {
-        let mut here = node;
-        for _ in 0..self.nodes.len() {
-            let parent = self.parent_of(here);
-            let Some(work) = self.nodes.get_mut(parent as usize) else {
+    fn owe(&mut self, number: u32) {
+        let mut here = number;
+        for _ in 0..self.roster.len() {
+            let Some(pending) = self.at(here) else {
                 return;
             };
-            work.below = work.below.saturating_add(1);
-            if work.below > 1 || parent == 0 {
+            let above = pending.parent;
+            let Some((node, parent)) = self.parent_at(above) else {
+                return;
+            };
+            let goes_on = parent.below == 0 && above != 0;
+            let below = parent.below.saturating_add(1);
+            let owes = parent.owes || goes_on;
+            self.set_parent(
+                above,
+                node,
+                ParentPending {
+                    below,
+                    owes,
+                    ..parent
+                },
+            );
+            if !goes_on {
                 return;
             }
-            work.owes = true;
-            here = parent;
-        }
-    }
-
-    fn parent_of(&self, node: u32) -> u32 {
-        match self.nodes.get(node as usize) {
-            Some(work) => work.parent,
-            None => 0,
+            here = above;
         }
     }
 
     /// A device made a change; whether it has another one in the open phase.
     pub(crate) fn changed(&mut self, made: Next, more: bool) {
-        let Some(work) = self.nodes.get_mut(made.device as usize) else {
+        let Some((node, device)) = self.device_at(made.device) else {
             return;
         };
-        work.member = made.member;
-        work.changes = more;
-        if !more {
-            self.changing = self.changing.saturating_sub(1);
-        }
+        let device = DevicePending {
+            member: made.member,
+            changes: more,
+            ..device
+        };
+        self.set_device(made.device, node, device);
         self.offer(made.device, !more);
     }
 
     /// A number of a node waits to be learnt, and the node owes its parent no more, if `paid`.
-    fn offer(&mut self, node: u32, paid: bool) {
-        let Some(work) = self.nodes.get_mut(node as usize) else {
+    fn offer(&mut self, number: u32, paid: bool) {
+        let Some(node) = self.at(number) else {
             return;
         };
-        let newly = !work.offered;
-        work.offered = true;
-        let parent = work.parent;
-        if newly {
-            self.offered = self.offered.saturating_add(1);
-        }
-        if let Some(above) = self.nodes.get_mut(parent as usize) {
-            above.bids = above.bids.saturating_add(newly as u32);
-            above.below = above.below.saturating_sub(paid as u32);
-            above.stuck = false;
-        }
-        self.recount(node);
-        self.recount(parent);
+        let newly = !node.offered;
+        self.roster.set(
+            number,
+            NodePending {
+                offered: true,
+                ..node
+            },
+        );
+        let Some((above, parent)) = self.parent_at(node.parent) else {
+            return;
+        };
+        let parent = ParentPending {
+            bids: parent.bids.saturating_add(newly as u32),
+            below: parent.below.saturating_sub(paid as u32),
+            stuck: false,
+            ..parent
+        };
+        self.set_parent(node.parent, above, parent);
     }
 
     /// A node made a move.
@@ -324,60 +277,95 @@ impl Pending {
         }
     }
 
+    /// A parent learnt a number of a child: a clearing may be passed to the child, unless it is a device whose bid is gone.
     fn learnt(&mut self, child: u32) {
-        let Some(work) = self.nodes.get_mut(child as usize) else {
+        let Some(node) = self.at(child) else {
             return;
         };
-        work.offered = false;
-        work.addressed = !work.device || work.member;
-        let parent = work.parent;
-        self.offered = self.offered.saturating_sub(1);
-        let Some(above) = self.nodes.get_mut(parent as usize) else {
+        let addressed = match node.device() {
+            Some(device) => device.member,
+            None => true,
+        };
+        let offered = false;
+        self.roster.set(
+            child,
+            NodePending {
+                offered,
+                addressed,
+                ..node
+            },
+        );
+        let Some((above, parent)) = self.parent_at(node.parent) else {
             return;
         };
-        above.bids = above.bids.saturating_sub(1);
-        if !above.learnt {
-            above.learnt = true;
-            self.unsent = self.unsent.saturating_add(1);
-        }
-        self.recount(parent);
+        let bids = parent.bids.saturating_sub(1);
+        let learnt = true;
+        self.set_parent(
+            node.parent,
+            above,
+            ParentPending {
+                bids,
+                learnt,
+                ..parent
+            },
+        );
     }
 
-    fn published(&mut self, node: u32) {
-        let Some(work) = self.nodes.get_mut(node as usize) else {
+    /// A concentrator published all that it learnt, and owes its parent no more.
+    fn published(&mut self, number: u32) {
+        let Some((node, parent)) = self.parent_at(number) else {
             return;
         };
-        let paid = work.owes;
-        work.owes = false;
-        self.sent(node);
-        self.offer(node, paid);
+        let paid = parent.owes;
+        let (owes, learnt) = (false, false);
+        self.set_parent(
+            number,
+            node,
+            ParentPending {
+                owes,
+                learnt,
+                ..parent
+            },
+        );
+        self.offer(number, paid);
     }
 
+    /// The auctioneer cleared all that it learnt.
     fn cleared(&mut self, plan: &Plan) {
-        self.sent(0);
-        self.price_children(plan, 0);
-        self.recount(0);
-    }
-
-    /// A parent sent all that it learnt.
-    fn sent(&mut self, node: u32) {
-        if let Some(work) = self.nodes.get_mut(node as usize) {
-            work.learnt = false;
-            self.unsent = self.unsent.saturating_sub(1);
+        if let Some((node, parent)) = self.parent_at(0) {
+            let learnt = false;
+            self.set_parent(0, node, ParentPending { learnt, ..parent });
         }
+        self.price_children(plan, 0);
     }
 
-    fn passed(&mut self, plan: &Plan, node: u32) {
-        let Some(work) = self.nodes.get_mut(node as usize) else {
+    /// A clearing was passed to a node, and may be passed on to its children.
+    fn passed(&mut self, plan: &Plan, number: u32) {
+        let Some(node) = self.at(number) else {
             return;
         };
-        work.price = false;
-        work.passed = true;
-        work.stuck = false;
-        if !work.device {
-            self.price_children(plan, node);
+        let price = false;
+        let sort = match node.sort {
+            NodeSort::Device(device) => NodeSort::Device(DevicePending {
+                passed: true,
+                ..device
+            }),
+            NodeSort::Parent(parent) => NodeSort::Parent(ParentPending {
+                stuck: false,
+                ..parent
+            }),
+        };
+        self.roster.set(
+            number,
+            NodePending {
+                price,
+                sort,
+                ..node
+            },
+        );
+        if node.device().is_none() {
+            self.price_children(plan, number);
         }
-        self.recount(node);
     }
 
     /// A clearing reached a parent, and each of its children that may be addressed can be passed it.
@@ -390,42 +378,75 @@ impl Pending {
         }
     }
 
-    fn price(&mut self, node: u32) {
-        let Some(work) = self.nodes.get_mut(node as usize) else {
+    /// A clearing may be passed to a node, if it is addressed.
+    fn price(&mut self, number: u32) {
+        let Some(node) = self.at(number) else {
             return;
         };
-        if work.addressed {
-            work.price = true;
-            work.stuck = false;
-            self.recount(node);
+        if node.addressed {
+            let price = true;
+            let sort = with_stuck(node.sort, false);
+            self.roster.set(
+                number,
+                NodePending {
+                    price,
+                    sort,
+                    ..node
+                },
+            );
         }
     }
 
     /// A turn of a node found no move. Nothing but a bid or a price that comes to it gives it work again.
-    pub(crate) fn found_nothing(&mut self, node: u32) {
-        let Some(work) = self.nodes.get_mut(node as usize) else {
+    pub(crate) fn found_nothing(&mut self, number: u32) {
+        let Some(node) = self.at(number) else {
             return;
         };
-        work.price = false;
-        work.stuck = true;
-        self.recount(node);
+        let price = false;
+        let sort = with_stuck(node.sort, true);
+        self.roster.set(
+            number,
+            NodePending {
+                price,
+                sort,
+                ..node
+            },
+        );
     }
 
-    /// Counts a node with or without work, and wakes it where it has some.
-    fn recount(&mut self, node: u32) {
-        let Some(work) = self.nodes.get_mut(node as usize) else {
-            return;
-        };
-        let has_work = work.has_work();
-        if has_work == work.counted {
-            return;
+    /// A node that is a device, with what is pending at the device.
+    fn device_at(&self, number: u32) -> Option<(NodePending, DevicePending)> {
+        let node = self.at(number)?;
+        match node.sort {
+            NodeSort::Device(device) => Some((node, device)),
+            NodeSort::Parent(_) => None,
         }
-        work.counted = has_work;
-        if has_work {
-            self.working = self.working.saturating_add(1);
-            self.wake(node as usize);
-        } else {
-            self.working = self.working.saturating_sub(1);
+    }
+
+    /// A node with children, with what is pending at it as such.
+    fn parent_at(&self, number: u32) -> Option<(NodePending, ParentPending)> {
+        let node = self.at(number)?;
+        match node.sort {
+            NodeSort::Device(_) => None,
+            NodeSort::Parent(parent) => Some((node, parent)),
         }
+    }
+
+    fn set_device(&mut self, number: u32, node: NodePending, device: DevicePending) {
+        let sort = NodeSort::Device(device);
+        self.roster.set(number, NodePending { sort, ..node });
+    }
+
+    fn set_parent(&mut self, number: u32, node: NodePending, parent: ParentPending) {
+        let sort = NodeSort::Parent(parent);
+        self.roster.set(number, NodePending { sort, ..node });
+    }
+}
+
+/// The sort of a node whose last turn found no move, or to which something came since; a device has no such note.
+fn with_stuck(sort: NodeSort, stuck: bool) -> NodeSort {
+    match sort {
+        NodeSort::Device(device) => NodeSort::Device(device),
+        NodeSort::Parent(parent) => NodeSort::Parent(ParentPending { stuck, ..parent }),
     }
 }

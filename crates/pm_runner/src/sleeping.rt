@@ -1,9 +1,8 @@
-//! Where nodes sleep, and which bells are to be rung.
+//! Where nodes without work go to sleep.
 
 use crate::pending::Pending;
 use pm_plan::{Plan, is_device};
 use pm_tree::NodeId;
-use std::mem;
 
 /// Where a node sleeps.
 #[derive(Clone, Copy)]
@@ -15,45 +14,6 @@ pub(crate) struct Berth {
 }
 
 impl Pending {
-    /// Wakes a node, if it sleeps.
-    pub(crate) fn wake(&mut self, node: usize) {
-        let Some(work) = self.nodes.get_mut(node) else {
-            return;
-        };
-        let Some(bell) = work.asleep.take() else {
-            return;
-        };
-        if !self.rings.contains(&bell) {
-            let _ = self.rings.push(bell);
-        }
-    }
-
-    /// Wakes all that sleep.
-    pub(crate) fn wake_all(&mut self) {
-        for node in 0..self.nodes.len() {
-            self.wake(node);
-        }
-    }
-
-    /// A node sleeps at a bell.
-    pub(crate) fn sleep(&mut self, node: u32, bell: u32) {
-        if let Some(work) = self.nodes.get_mut(node as usize) {
-            work.asleep = Some(bell);
-        }
-    }
-
-    /// A node is awake.
-    pub(crate) fn rise(&mut self, node: u32) {
-        if let Some(work) = self.nodes.get_mut(node as usize) {
-            work.asleep = None;
-        }
-    }
-
-    /// Hands the bells that are to be rung out, for an empty list with room for all bells.
-    pub(crate) fn hand_out(&mut self, rings: &mut Vec<u32>) {
-        mem::swap(&mut self.rings, rings);
-    }
-
     /// Where a node without work goes to sleep: a device with those that wait for the same thing.
     ///
     /// A device is near its next work if many devices change in the open phase, and it awaits the price of one in which it changes
@@ -67,16 +27,16 @@ impl Pending {
     pub(crate) fn berth_of(&self, plan: &Plan, closed: usize, node: u32) -> Berth {
         let bell = self.bells.own(node);
         let near = false;
-        let Some(work) = self.nodes.get(node as usize) else {
+        let Some(pending) = self.at(node) else {
             return Berth { bell, near };
         };
-        if !work.device {
+        let Some(device) = pending.device() else {
             return Berth { bell, near };
-        }
-        let prices = self.bells.prices(work.parent);
+        };
+        let prices = self.bells.prices(pending.parent);
         let crowded = self.crowded && closed > 0;
-        if work.member && self.active && !work.passed {
-            let near = crowded && work.active;
+        if device.member && self.active && !device.passed {
+            let near = crowded && device.active;
             return Berth { bell: prices, near };
         }
         if changes_after(plan, closed, node) {
@@ -86,7 +46,7 @@ impl Pending {
                 near: crowded,
             };
         }
-        let bell = if work.member { prices } else { bell };
+        let bell = if device.member { prices } else { bell };
         Berth { bell, near }
     }
 

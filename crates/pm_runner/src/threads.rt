@@ -14,6 +14,7 @@ use pm_nodes::Gate;
 use pm_plan::{Plan, is_device};
 use pm_tree::NodeId;
 use pm_turns::complete;
+use pm_waking::Rings;
 use std::alloc::{AllocError, Global};
 use std::marker::Brand;
 use std::sync::{Mutex, Wait};
@@ -102,7 +103,7 @@ fn make_workers(alloc: Global, plan: &Plan, bells: u32) -> Result<Vec<Mutex<Work
     let mut workers = Vec::with_capacity(alloc, nodes as usize + 1)?;
     for node in 0..nodes + 1 {
         let bid = bid_of(alloc, plan, NodeId(node))?;
-        let rings = Vec::with_capacity(alloc, bells as usize)?;
+        let rings = Rings::with_capacity(alloc, bells)?;
         workers.push(Mutex::new(Worker { bid, rings }))?;
     }
     Ok(workers)

@@ -9,6 +9,7 @@ use pm_agent::Made;
 use pm_bid::ArrayBid;
 use pm_market::Line;
 use pm_nodes::{Gate, make_bid, pause};
+use pm_waking::Rings;
 use std::sync::{Condvar, Mutex, MutexGuard, Wait};
 use std::thread;
 
@@ -41,7 +42,7 @@ pub(crate) struct Worker {
     /// The bid of a device, in which it makes its demand after its next change.
     pub(crate) bid: Option<ArrayBid>,
     /// The bells to ring once the lock is free. It has room for all bells.
-    pub(crate) rings: Vec<u32>,
+    pub(crate) rings: Rings,
 }
 
 /// What a turn came to.
@@ -119,6 +120,11 @@ pub(crate) fn give_up<R: Wait>(rt: &R, shared: Shared) {
     let mut desk = shared.lock(rt);
     desk.halt();
     drop(desk);
+    ring_all(shared);
+}
+
+/// Rings all bells.
+fn ring_all(shared: Shared) {
     for bell in shared.bells {
         bell.notify_all();
     }
@@ -204,7 +210,7 @@ fn made_in(bid: &mut Option<ArrayBid>, job: Job) -> Option<Made> {
 /// Ends the turn of a node. The lock is free afterwards.
 pub(crate) fn end_turn<'a, 'p>(
     shared: Shared<'a, 'p>,
-    rings: &mut Vec<u32>,
+    rings: &mut Rings,
     node: u32,
     desk: MutexGuard<'a, Desk<'p>>,
     line: Option<Line>,
@@ -258,13 +264,16 @@ fn rest_at(shared: Shared, desk: &mut Desk, node: u32) -> Option<Rest> {
 /// Frees the lock, and rings the bells of those that the hold gave work.
 pub(crate) fn let_go<'a, 'p>(
     shared: Shared<'a, 'p>,
-    rings: &mut Vec<u32>,
+    rings: &mut Rings,
     desk: MutexGuard<'a, Desk<'p>>,
 ) {
     let mut desk = desk;
     desk.pending.hand_out(rings);
     drop(desk);
-    for bell in rings.as_slice() {
+    if rings.all {
+        ring_all(shared);
+    }
+    for bell in rings.bells.as_slice() {
         if let Some(bell) = shared.bells.get(*bell as usize) {
             bell.notify_all();
         }
