@@ -47,7 +47,7 @@ use pm_market::Move;
 use pm_plan::{Plan, is_device};
 use pm_tree::NodeId;
 use pm_turns::next_of;
-use pm_waking::{DevicePending, NodeSort, NodePending, ParentPending, Rings, Roster};
+use pm_waking::{DevicePending, NodePending, NodeSort, ParentPending, Rings, Roster};
 use std::alloc::{AllocError, Global};
 
 /// From so many devices on that change in a phase, those that wait for its end yield before they sleep.
