@@ -490,7 +490,8 @@ stub cases
 # Prints what a check writes.
 due_of() {
     case "$1" in
-        program | traces | serve | memory | hostile) echo crates/market/out/market ;;
+        program | traces | serve | hostile) echo crates/market/out/market ;;
+        memory) echo crates/market/out/market crates/live/out/live ;;
         live) echo crates/live/out/live crates/market/out/market ;;
         network) echo crates/live/out/live ;;
         python | pages | schema | pictures | names | places) echo ;;

@@ -159,7 +159,7 @@ def test_an_agent_appears_and_is_switched_off_and_on(tmp_path):
             wait_until(lambda: home.newest[topic], "it appears again")
             # The connection breaks: the broker says so, until it is back.
             agent._home._client._client.socket().shutdown(socket.SHUT_RDWR)
-            wait_until(lambda: home.availability[-2:] == ["offline", "online"], f"away and back: {home.availability}")
+            wait_until(lambda: "offline" in home.availability and home.availability[-1] == "online", "away and back")
         finally:
             agent.stop()
             thread.join(SECONDS)
