@@ -133,8 +133,10 @@ def test_an_agent_appears_and_is_switched_off_and_on(tmp_path):
         try:
             due = {"points": [[0, 800], [4, 0], [9, -700]]}
             wait_until(lambda: home.tells("store/state", "500") or home.offer == due, f"the offer: {home.offer}, {said}")
+            wait_until(lambda: len([topic for topic in list(home.newest) if topic.endswith("/config")]) == 6, "it appears")
             configurations = {topic: json.loads(text) for topic, text in home.newest.items() if topic.endswith("/config")}
-            assert len([require_documented(topic, payload) for topic, payload in configurations.items()]) == 6
+            for topic, payload in configurations.items():
+                require_documented(topic, payload)
             home.shows(price=None, setpoint=None, offered_least=-700, offered_greatest=800, takes_part="ON")
             assert home.newest["cogmaula/store/availability"] == "online"
             home.setpoint(-400, 6)
