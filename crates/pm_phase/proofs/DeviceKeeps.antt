@@ -1,5 +1,5 @@
 -- Each call of a device keeps what the device keeps.
-use Rattle.std.proofs.Common.{◌≡◌, ◌∙◌, sym, ap, subst, ℕ, zero, suc, ◌+◌, ◌<◌, ◌≤◌, ◌⊎◌, ℤ, Bool, true, false, cond}
+use Rattle.std.proofs.Common.{◌≡◌, ◌∙◌, sym, ap, subst, ℕ, ◌+◌, ◌<◌, ◌≤◌, ℤ, Bool, true, false, cond}
 use Rattle.std.proofs.Common.{List, [], ◌∷◌, ◌++◌, Option, Some, None, ltb, refl, arith, inl, inr}
 use Rattle.std.specs.Prelude.{map, All, IfSome, OnErr, Result, Ok, Err, slice_get}
 use Rattle.std.specs.declared.alloc.AllocError.{AllocError}
@@ -8,7 +8,7 @@ use Rattle.std.proofs.lemmas.List.Elements.{All-push}
 use Rattle.pm_agent.specs.Agents.{Agent}
 use Rattle.pm_agent.specs.MadeBids.{demand_after_change}
 use Rattle.pm_bid.specs.Bids.{zeros}
-use Rattle.pm_cells.specs.Ends.{LinkEnd, after_put_bid}
+use Rattle.pm_cells.specs.Ends.{LinkEnd}
 use Rattle.pm_cells.specs.declared.view.CellView.{CellView}
 use Rattle.pm_cells.specs.declared.message.UpMessage.{UpMessage}
 use Rattle.pm_cells.specs.declared.message.Message.{Message}
@@ -26,8 +26,8 @@ use Rattle.pm_session.specs.Ports.{Seat}
 use Rattle.pm_session.specs.declared.price.PriceUpdate.{PriceUpdate}
 use Rattle.pm_carried.specs.Carried.{last_price}
 use Rattle.pm_phase.specs.declared.device.DevicePart.{DevicePart}
-use Rattle.pm_phase.specs.Devices.{MayMakeChange, MakesChange, changed_demand, seat_after_change, after_price_is_given}
-use Rattle.pm_phase.specs.Waiting.{PutsBid, PutBid, KeepsBid, DropsBid, TakesPriceFromLink}
+use Rattle.pm_phase.specs.Devices.{MayMakeChange, MakesChange, changed_demand, seat_after_change}
+use Rattle.pm_phase.specs.Waiting.{PutsBid}
 use Rattle.pm_phase.specs.Hearing.{HearsPrice}
 use Rattle.pm_phase.specs.Telling.{IsPlannedNext, AreNext, TellsChange, TellsMessage, bid_after, prices_among, KeepsDevice}
 

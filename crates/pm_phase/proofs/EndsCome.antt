@@ -1,14 +1,14 @@
 -- The ends that come back are those of the nodes, also as places are written, taken off and logged.
-use Rattle.std.proofs.Common.{◌≡◌, ◌∙◌, sym, ap, subst, ℕ, zero, suc, ◌+◌, ◌-◌, ◌<◌, ◌≤◌, ◌⊎◌, List, [], ◌∷◌}
-use Rattle.std.proofs.Common.{◌++◌, length, get_or, set, Option, Some, None, refl, arith, inl, inr, Contains, All}
+use Rattle.std.proofs.Common.{◌≡◌, sym, ap, subst, ℕ, ◌+◌, ◌<◌, List, [], ◌∷◌}
+use Rattle.std.proofs.Common.{◌++◌, length, get_or, set, Option, Some, None, refl, arith, inl, inr, All}
 use Rattle.std.proofs.Common.{get_or-set_same, get_or-set_other}
 use Rattle.std.proofs.Math.ListN.{length-set}
 use Rattle.std.specs.Prelude.{IfSome}
 use Rattle.std.proofs.lemmas.Bool.{cases_eq, cases_lt}
-use Rattle.std.proofs.lemmas.List.{length-append, get_or_push, get_or_append_left, get_or_default}
+use Rattle.std.proofs.lemmas.List.{length-append, get_or_push, get_or_append_left}
 use Rattle.pm_cells.specs.Ends.{LinkEnd}
 use Rattle.pm_cells.specs.declared.link.LinkLog.{LinkLog}
-use Rattle.pm_phase.specs.Closing.{ChildFrom, ParentFrom, IsReturned, AreReturned, IsEmptyPlace, ClosedLink, AreClosed, parts_of_nodes}
+use Rattle.pm_phase.specs.Closing.{ChildFrom, ParentFrom, IsReturned, AreReturned, IsEmptyPlace, ClosedLink, parts_of_nodes}
 use Rattle.pm_phase.specs.declared.closing.Places.{Places}
 use Rattle.pm_phase.specs.declared.node.FreeNode.{FreeNode}
 use Rattle.pm_phase.specs.declared.node.NodePart.{NodePart}

@@ -1,8 +1,8 @@
 -- A bid that is taken over a link is one more that came, and the entries stay those that came.
-use Rattle.std.proofs.Common.{◌≡◌, ◌∙◌, sym, ap, subst, ℕ, List, [], ◌∷◌, ◌++◌, ◌⊎◌, Some, None, refl, inl, inr}
+use Rattle.std.proofs.Common.{◌≡◌, ◌∙◌, sym, ap, subst, ℕ, List, [], ◌∷◌, ◌++◌, Some, None, refl, inl, inr}
 use Rattle.pm_cache.specs.Cache.{Cache}
 use Rattle.pm_cache.specs.Learning.{after_learning}
-use Rattle.pm_cells.specs.Ends.{LinkEnd, after_taken_bid}
+use Rattle.pm_cells.specs.Ends.{LinkEnd}
 use Rattle.pm_cells.specs.declared.message.UpMessage.{UpMessage}
 use Rattle.pm_cells.specs.declared.message.Message.{Message}
 use Rattle.pm_cells.specs.declared.message.Message.TheVariants.{Bid, Price}

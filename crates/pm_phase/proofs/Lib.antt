@@ -21,3 +21,4 @@ pub mod StandsAgain
 pub mod HeldEnd
 pub mod NewParts
 pub mod NewEnd
+pub mod ReadLines

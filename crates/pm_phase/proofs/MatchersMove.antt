@@ -1,20 +1,18 @@
 -- A matcher that learnt, made a bid, passed a price on or cleared tells what it told before.
-use Rattle.std.proofs.Common.{◌≡◌, ◌∙◌, sym, ap, subst, ℕ, ◌+◌, ◌<◌, ◌≤◌, ◌⊎◌, ℤ, Bool, true, false, List, [], ◌∷◌}
-use Rattle.std.proofs.Common.{length, Option, Some, None, refl, arith, inl, inr}
-use Rattle.std.proofs.Math.ListN.{set, length-set}
+use Rattle.std.proofs.Common.{◌≡◌, ◌∙◌, sym, ap, ℕ, ℤ, true, false, List}
+use Rattle.std.proofs.Common.{length, Option, Some, None, refl}
+use Rattle.std.proofs.Math.ListN.{length-set}
 use Rattle.std.proofs.lemmas.Bool.{cond-false, lt-leb}
 use Rattle.pm_auctioneer.specs.Auctions.{Auction, MarketCleared}
 use Rattle.pm_bid.specs.Bids.{zeros}
-use Rattle.pm_bid.specs.declared.head.BidHead.{BidHead}
 use Rattle.pm_cache.specs.Cache.{Cache}
 use Rattle.pm_cache.specs.Learning.{after_learning, with_newer_bid}
 use Rattle.pm_cells.specs.declared.message.UpMessage.{UpMessage}
-use Rattle.pm_concentrator.specs.Concentrators.{Gathered, BidMade, Passed, own_demand}
-use Rattle.pm_plan.specs.Plans.{PlanData, limits_of, node}
+use Rattle.pm_concentrator.specs.Concentrators.{Gathered, BidMade, Passed}
+use Rattle.pm_plan.specs.Plans.{PlanData}
 use Rattle.pm_session.specs.declared.price.PriceUpdate.{PriceUpdate}
 use Rattle.pm_phase.specs.Matchers.{cache_of_matcher, after_bid, MayLearnBid, MayPassOn}
-use Rattle.pm_phase.specs.TellingParents.{KeepsRecord}
-use Rattle.pm_phase.specs.KeepingParents.{IsShapedMatcher, IsKindOf, TellsOwn, TellsBid, TellsPrice, MovesOn}
+use Rattle.pm_phase.specs.KeepingParents.{IsShapedMatcher, IsKindOf, MovesOn}
 use Rattle.pm_phase.specs.declared.matcher.Matcher.{Matcher}
 use Rattle.pm_phase.specs.declared.matcher.Matcher.TheVariants.{Concentrator, Auctioneer}
 use Rattle.pm_phase.proofs.ParentKeeps.{learn_keeps_record, learn_keeps_bid, learn_keeps_price, learn_keeps_clearing}

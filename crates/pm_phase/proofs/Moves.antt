@@ -1,10 +1,10 @@
 -- The calls of a node with children on its ends of links keep what such a node keeps.
-use Rattle.std.proofs.Common.{◌≡◌, ◌∙◌, sym, ap, subst, ℕ, ◌+◌, ◌<◌, ◌≤◌, ◌⊎◌, ℤ, Bool, true, false, cond, ltb, List, []}
+use Rattle.std.proofs.Common.{◌≡◌, ◌∙◌, sym, ap, subst, ℕ, ◌+◌, ◌<◌, ◌⊎◌, Bool, true, false, cond, ltb, List, []}
 use Rattle.std.proofs.Common.{◌∷◌, ◌++◌, length, get_or, set, Option, Some, None, refl, arith, inl, inr, Contains}
 use Rattle.std.proofs.Common.{get_or-set_same, get_or-set_other}
 use Rattle.std.proofs.Math.ListN.{length-set}
 use Rattle.std.specs.Prelude.{All, IfSome}
-use Rattle.std.proofs.lemmas.Bool.{cases_lt, cases_eq, cases_Bool, cond-true, cond-false}
+use Rattle.std.proofs.lemmas.Bool.{cases_lt, cases_eq}
 use Rattle.std.proofs.lemmas.List.{get_or_past}
 use Rattle.std.proofs.lemmas.List.Elements.{All-weaker, All-push, Contains-push, Contains-append_left}
 use Rattle.pm_cache.specs.Cache.{Cache}
@@ -12,18 +12,17 @@ use Rattle.pm_cache.specs.Learning.{after_learning}
 use Rattle.pm_cells.specs.Ends.{LinkEnd}
 use Rattle.pm_cells.specs.declared.message.UpMessage.{UpMessage}
 use Rattle.pm_cells.specs.declared.message.Message.{Message}
-use Rattle.pm_cells.specs.declared.message.Message.TheVariants.{Bid, Price}
-use Rattle.pm_concentrator.specs.Concentrators.{Gathered}
+use Rattle.pm_cells.specs.declared.message.Message.TheVariants.{Bid}
 use Rattle.pm_plan.specs.Plans.{PlanData}
 use Rattle.pm_session.specs.declared.price.PriceUpdate.{PriceUpdate}
 use Rattle.pm_phase.specs.Hearing.{HearsPriceToPass, with_pending_price}
-use Rattle.pm_phase.specs.Matchers.{cache_of_matcher, waiting_at, after_bid}
+use Rattle.pm_phase.specs.Matchers.{cache_of_matcher, waiting_at}
 use Rattle.pm_phase.specs.Messages.{prices_among}
-use Rattle.pm_phase.specs.TellingParents.{EntryCame, FollowsAbove, TakesIn, bids_among}
+use Rattle.pm_phase.specs.TellingParents.{EntryCame, TakesIn, bids_among}
 use Rattle.pm_phase.specs.Waiting.{TakesBidFromLink, TakesPriceFromLink, PutsPrice, PutsBid}
-use Rattle.pm_phase.specs.KeepingParents.{IsShapedMatcher, TellsOwn, TellsBid, TellsBidMessage, TellsPrice, MovesOn, learnt_at, IsUpHere, IsDownHere}
-use Rattle.pm_phase.specs.KeepingParents.{came_over, sent_over}
-use Rattle.pm_phase.specs.KeepingParents.{KeepsPart, KeepsChild, KeepsEach, ChildMovesOn, ChildrenMoveOn, UpMovesOn}
+use Rattle.pm_phase.specs.KeepingParents.{IsShapedMatcher, TellsOwn, TellsBid, TellsBidMessage, TellsPrice, MovesOn, learnt_at, IsDownHere}
+use Rattle.pm_phase.specs.KeepingParents.{came_over}
+use Rattle.pm_phase.specs.KeepingParents.{KeepsPart, KeepsChild, ChildMovesOn, ChildrenMoveOn, UpMovesOn}
 use Rattle.pm_phase.specs.declared.ends.DownEnd.{DownEnd}
 use Rattle.pm_phase.specs.declared.ends.UpEnd.{UpEnd}
 use Rattle.pm_phase.specs.declared.matcher.Matcher.{Matcher}

@@ -1,14 +1,14 @@
 -- A turn of a node keeps what the node keeps.
-use Rattle.std.proofs.Common.{◌≡◌, ◌∙◌, sym, ap, subst, ℕ, List, length, Option, refl, Some}
-use Rattle.std.specs.Prelude.{Vec, IfSome, slice_get, All}
+use Rattle.std.proofs.Common.{◌≡◌, subst, ℕ, List, Option, refl}
+use Rattle.std.specs.Prelude.{Vec, IfSome, slice_get}
 use Rattle.std.specs.declared.alloc.Global.{Global}
 use Rattle.pm_cache.specs.Cache.{Cache}
 use Rattle.pm_cells.specs.declared.message.UpMessage.{UpMessage}
 use Rattle.pm_cells.specs.declared.message.Message.{Message}
 use Rattle.pm_device.specs.declared.state.Next.{Next}
 use Rattle.pm_plan.specs.Plans.{PlanData}
-use Rattle.pm_phase.specs.KeepingParents.{IsUpHere, OverEnd, KeepsParent, PartMovesOn, ChildrenMoveOn, UpMovesOn, TellsBidMessage, sent_over, came_over}
-use Rattle.pm_phase.specs.Telling.{AreNext, KeepsDevice, DutyKeeps, NodeKeeps, StepsOn}
+use Rattle.pm_phase.specs.KeepingParents.{IsUpHere, OverEnd, KeepsParent, PartMovesOn, ChildrenMoveOn, UpMovesOn, sent_over, came_over}
+use Rattle.pm_phase.specs.Telling.{AreNext, KeepsDevice, DutyKeeps, StepsOn}
 use Rattle.pm_phase.specs.declared.device.DevicePart.{DevicePart}
 use Rattle.pm_phase.specs.declared.parent.ParentPart.{ParentPart}
 use Rattle.pm_phase.specs.declared.node.FreeNode.{FreeNode}

@@ -1,14 +1,14 @@
 -- What a node is while it is handed its ends of the new links.
-use Rattle.std.proofs.Common.{◌≡◌, ◌∙◌, sym, ap, subst, ℕ, ◌+◌, ◌<◌, ◌≤◌, ◌⊎◌, List, [], ◌∷◌, ◌++◌, length}
+use Rattle.std.proofs.Common.{◌≡◌, ◌∙◌, sym, ap, subst, ℕ, ◌+◌, ◌⊎◌, List, [], ◌∷◌, ◌++◌, length}
 use Rattle.std.proofs.Common.{get_or, Option, Some, None, refl, arith, inl, inr, Contains}
-use Rattle.std.specs.Prelude.{All, IfSome, IfOk, Result, Ok, Err}
+use Rattle.std.specs.Prelude.{IfSome, IfOk, Result, Ok, Err}
 use Rattle.std.proofs.lemmas.Bool.{cases_lt}
 use Rattle.std.proofs.lemmas.List.{length-append, get_or_push, get_or_append_left}
 use Rattle.std.proofs.lemmas.List.Elements.{Contains-push, Contains-push_cases}
 use Rattle.pm_cells.specs.Ends.{LinkEnd}
 use Rattle.pm_cells.specs.declared.message.UpMessage.{UpMessage}
 use Rattle.pm_cells.specs.declared.message.Message.{Message}
-use Rattle.pm_cells.specs.declared.message.Message.TheVariants.{Bid, Price}
+use Rattle.pm_cells.specs.declared.message.Message.TheVariants.{Bid}
 use Rattle.pm_plan.specs.Plans.{PlanData}
 use Rattle.pm_plan.specs.Plans as plans
 use Rattle.pm_tree.specs.Entries.{place_of}
@@ -17,8 +17,8 @@ use Rattle.pm_phase.specs.Opening.{PutsAgain}
 use Rattle.pm_phase.specs.TellingParents.{bids_among}
 use Rattle.pm_phase.specs.Waiting.{TakesBidFromLink, KeepsBid, DropsBid}
 use Rattle.pm_phase.specs.KeepingParents.{IsDownHere, learnt_at}
-use Rattle.pm_phase.specs.Standing.{learnt_of, HadBid}
-use Rattle.pm_phase.specs.Beginning.{StartsFrom, BegunDuty, OpenedDuty, OpenedParent, OpenUp, OpenDown, IsOpenedNode, IsFreshUp, IsFreshDown, LearntAgain}
+use Rattle.pm_phase.specs.Standing.{learnt_of}
+use Rattle.pm_phase.specs.Beginning.{StartsFrom, BegunDuty, OpenedDuty, OpenUp, OpenDown, IsOpenedNode, IsFreshUp, IsFreshDown, LearntAgain}
 use Rattle.pm_phase.specs.declared.ends.UpEnd.{UpEnd}
 use Rattle.pm_phase.specs.declared.ends.DownEnd.{DownEnd}
 use Rattle.pm_phase.specs.declared.node.Duty.{Duty}

@@ -1,12 +1,10 @@
 -- Each call of a node with children keeps what such a node keeps.
-use Rattle.std.proofs.Common.{◌≡◌, ◌∙◌, sym, ap, subst, ℕ, suc, ◌+◌, ◌-◌, ◌<◌, ◌≤◌, ◌⊎◌, ℤ, Bool, true, false, cond}
-use Rattle.std.proofs.Common.{List, [], ◌∷◌, ◌++◌, length, get_or, Option, Some, None, leb, refl, arith, inl, inr, Contains}
+use Rattle.std.proofs.Common.{◌≡◌, ◌∙◌, sym, ap, subst, ℕ, ◌<◌, ℤ, Bool, true, false, cond}
+use Rattle.std.proofs.Common.{List, [], ◌∷◌, ◌++◌, length, Option, Some, None, leb, refl, arith, inl, inr, Contains}
 use Rattle.std.proofs.Common.{get_or-set_same, get_or-set_other}
-use Rattle.std.proofs.Math.ListN.{set}
-use Rattle.std.proofs.lemmas.Bool.{cases_eq, cases_Bool, cond-true, cond-false, both_ways, lt-leb}
+use Rattle.std.proofs.lemmas.Bool.{cases_eq, cond-false, lt-leb}
 use Rattle.std.proofs.lemmas.List.Elements.{Contains-append_left, Contains-push}
 use Rattle.pm_auctioneer.specs.Auctions.{Auction, MarketCleared}
-use Rattle.pm_base.specs.declared.limits.Limits.{Limits}
 use Rattle.pm_bid.specs.Bids.{zeros}
 use Rattle.pm_bid.specs.Clearing.{clearing_step}
 use Rattle.pm_bid.specs.Heads.{nothing_sent}
@@ -18,11 +16,11 @@ use Rattle.pm_cells.specs.declared.message.UpMessage.{UpMessage}
 use Rattle.pm_concentrator.specs.Concentrators.{Gathered, published_heads, BidMade, Passed, own_demand}
 use Rattle.pm_concentrator.specs.Limited.{sum_kept, local_step_of_record}
 use Rattle.pm_session.specs.Prices.{head_at, price_to}
-use Rattle.pm_session.specs.Windows.{Sent, newest_record, record_of, Keeps}
+use Rattle.pm_session.specs.Windows.{Sent, newest_record, record_of}
 use Rattle.pm_session.specs.declared.price.PriceUpdate.{PriceUpdate}
 use Rattle.pm_carried.specs.Kept.{IsPassedDown, TellsAuction}
 use Rattle.pm_phase.specs.Matchers.{MayLearnBid, MayPassOn}
-use Rattle.pm_phase.specs.TellingParents.{IsEntryOf, IsAsBefore, CameOver, EntryCame, HasSent, TellsSum, KeepsRecord, FollowsAbove, FollowsClearing}
+use Rattle.pm_phase.specs.TellingParents.{EntryCame, HasSent, TellsSum, KeepsRecord, FollowsAbove, FollowsClearing}
 
 -- ---- a bid is learnt
 

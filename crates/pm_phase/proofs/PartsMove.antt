@@ -1,5 +1,5 @@
 -- The calls of a node with children that touch no end of a link keep what such a node keeps.
-use Rattle.std.proofs.Common.{◌≡◌, ◌∙◌, sym, ap, subst, ℕ, ◌+◌, ◌<◌, ◌≤◌, ◌⊎◌, ℤ, Bool, true, false, List, [], ◌∷◌}
+use Rattle.std.proofs.Common.{◌≡◌, ◌∙◌, sym, ap, subst, ℕ, Bool, true, false, List}
 use Rattle.std.proofs.Common.{length, Option, Some, None, refl, arith, inl, inr, Contains}
 use Rattle.std.specs.Prelude.{All, IfSome, OnErr, Result, Ok, Err}
 use Rattle.std.specs.declared.alloc.AllocError.{AllocError}
@@ -20,13 +20,12 @@ use Rattle.pm_session.specs.declared.price.PriceUpdate.{PriceUpdate}
 use Rattle.pm_phase.specs.Matchers.{cache_of_matcher, waiting_at, newer_price, PricesWait}
 use Rattle.pm_phase.specs.Parents.{ClearsMarket, MakesBid, PassesOn, DropsPending}
 use Rattle.pm_phase.specs.TellingParents.{EntryCame, bids_among}
-use Rattle.pm_phase.specs.KeepingParents.{TellsOwn, TellsBid, TellsBidMessage, TellsPrice, MovesOn, learnt_at, KeepsPart, KeepsChild, PartMovesOn}
+use Rattle.pm_phase.specs.KeepingParents.{TellsOwn, TellsBid, TellsBidMessage, TellsPrice, MovesOn, learnt_at, KeepsChild, PartMovesOn}
 use Rattle.pm_phase.specs.declared.ends.DownEnd.{DownEnd}
 use Rattle.pm_phase.specs.declared.matcher.Matcher.{Matcher}
-use Rattle.pm_phase.specs.declared.matcher.Matcher.TheVariants.{Concentrator, Auctioneer}
 use Rattle.pm_phase.specs.declared.parent.ParentPart.{ParentPart}
 use Rattle.pm_phase.proofs.ParentKeeps.{made_tells, passed_follows, cleared_follows}
-use Rattle.pm_phase.proofs.MatchersMove.{moves_refl, make_moves, pass_moves, clear_moves}
+use Rattle.pm_phase.proofs.MatchersMove.{make_moves, pass_moves, clear_moves}
 
 -- a part that did nothing moved on
 pub part_refl : (part : ParentPart) → PartMovesOn part part

@@ -1,5 +1,5 @@
 -- The end of a phase that the parts of the nodes hold.
-use Rattle.std.specs.Prelude.{◌≡◌, ℕ, Bool, false, List, [], map, filter, slice_get}
+use Rattle.std.specs.Prelude.{◌≡◌, ℕ, Bool, false, if◌then◌else◌, List, [], ◌∷◌, ◌++◌, map, filter, slice_get}
 use Rattle.pm_base.specs.Cuts.{Cut}
 use Rattle.pm_plan.specs.Auction.{EndData}
 use Rattle.pm_plan.specs.Plans.{PlanData, node_numbers}
@@ -30,3 +30,7 @@ parts_end plan parts =
 pub record EndsPlainly (plan : PlanData) (parts : List NodePart) (cut : Cut) : Type 0 where
   pub end : parts_end plan parts ≡ end_of plan cut
   pub stand : PartsStand plan parts cut
+
+-- the line of a node joins those of the nodes before it, if the node passes the test
+abbrev pub AddsLine : {A : Type 0} → (ℕ → A) → (ℕ → Bool) → ℕ → List A → List A → Type 0
+AddsLine line test x old new = new ≡ old ++ (if test x then line x ∷ [] else [])

@@ -161,6 +161,14 @@ fn phases_with_links(run: &FreeRun) -> usize {
         .count()
 }
 
+/// How many phases of a run came over their links, so that their ends are those that the nodes hold.
+fn phases_over_links(run: &FreeRun) -> usize {
+    run.phases
+        .iter()
+        .filter(|phase| phase.end.is_some())
+        .count()
+}
+
 /// How many changes a device makes in a phase, which counts from 1; of any other node 0.
 #[tactic(auto, using(pm_plan::proofs::MarketLists::leaf_of_plan))]
 fn changes_in(plan: &Plan, phase: u32, node: u32) -> u32 {
@@ -183,7 +191,7 @@ fn phases_with_changes(plan: &Plan) -> usize {
         .count()
 }
 
-/// Whether each phase came over the links to what the board's end of the phase says, and the ends are right.
+/// Whether each phase came over the links, to what the board's end of the phase says, and the ends are right.
 fn is_carried(alloc: Global, plan: &Plan, run: &FreeRun) -> Result<bool, Fail> {
     let ends = run.board.ends();
     for (place, phase) in run.phases.iter().enumerate() {
@@ -197,6 +205,7 @@ fn is_carried(alloc: Global, plan: &Plan, run: &FreeRun) -> Result<bool, Fail> {
     Ok(
         run.phases.len() == ends.len()
             && phases_with_links(run) == phases_with_changes(plan)
+            && phases_over_links(run) == ends.len()
             && are_right(alloc, plan, ends)?,
     )
 }

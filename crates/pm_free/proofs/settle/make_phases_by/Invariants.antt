@@ -1,9 +1,11 @@
--- Of `make_phases_by`: what lasts from turn to turn.
-use Rattle.std.proofs.Common.{◌≡◌}
-use Rattle.std.specs.Prelude.{IfSome}
+-- Of `make_phases_by`: what its loop over `phase` keeps.
+use Rattle.std.proofs.Common.{◌≡◌, ◌+◌, ◌-◌, length}
 use Rattle.pm_nodes.specs.DeviceAgents.{AreAgents}
 use Rattle.pm_free.specs.Links.{AreKept}
+use Rattle.pm_free.specs.Nodes.{StandAfter}
+use Rattle.pm_free.proofs.Chain.{HaveLeft}
 use Rattle.pm_free.proofs.settle.make_phases_by.Given as goal
 
-abbrev pub invariant-loop : goal.invariant-loop
-invariant-loop g l = (l.board.plan ≡ l.fn.board.plan) × AreAgents l.board.plan l.agents × IfSome l.phases (λ kept. AreKept kept.items)
+abbrev pub invariant-loop-phase : goal.invariant-loop-phase
+invariant-loop-phase g l = (l.board.plan ≡ l.fn.board.plan) × AreAgents l.board.plan l.agents × (length l.kept.items + 1 ≡ l.phase)
+    × AreKept l.kept.items × StandAfter l.board.plan (l.phase - 1) l.nodes × HaveLeft l.board.plan l.kept.items l.nodes.parts.items

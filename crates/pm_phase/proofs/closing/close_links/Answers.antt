@@ -1,5 +1,5 @@
 -- Of `close_links`: the turns of its loop over `node`; its clause `parts`.
-use Rattle.std.proofs.Common.{◌∙◌, ◌++◌, List, All, Contains, ap, sym, subst, refl, arith}
+use Rattle.std.proofs.Common.{◌∙◌, ◌++◌, List, All, Contains, ap, sym, subst, arith}
 use Rattle.std.proofs.lemmas.List.{append-nil}
 use Rattle.std.proofs.lemmas.List.Elements.{All-head, All-tail, All-contains_itself}
 use Rattle.pm_cells.specs.Ends.{TableId}

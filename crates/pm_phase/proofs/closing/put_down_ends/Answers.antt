@@ -1,5 +1,5 @@
 -- Of `put_down_ends`: the turns of its loop over `down`.
-use Rattle.std.proofs.Common.{◌≡◌, sym, subst, refl, List, All, Contains}
+use Rattle.std.proofs.Common.{sym, subst, refl, List, All, Contains}
 use Rattle.std.proofs.lemmas.List.Elements.{All-head, All-tail, All-contains_itself}
 use Rattle.pm_phase.specs.Ends.{IsDownOf}
 use Rattle.pm_phase.specs.declared.ends.DownEnd.{DownEnd}

@@ -1,5 +1,5 @@
 -- Of `has_settled`: what it ensures; the turns of its loop over `node`.
-use Rattle.std.proofs.Common.{◌≡◌, ◌∙◌, sym, ap, ℕ, ◌+◌, ◌<◌, ◌≤◌, true, List, length, subst, arith, inl, inr}
+use Rattle.std.proofs.Common.{sym, ap, ℕ, ◌+◌, ◌<◌, ◌≤◌, List, length, subst, arith, inl, inr}
 use Rattle.std.proofs.lemmas.Bool.{cases_eq}
 use Rattle.pm_tree.specs.Entries.{Entry}
 use Rattle.std.specs.Prelude.{slice_get}

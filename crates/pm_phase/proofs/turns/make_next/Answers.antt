@@ -1,8 +1,7 @@
 -- Of `make_next`: its clause `keeps`.
-use Rattle.std.proofs.Common.{◌≡◌, ◌∙◌, sym, ap, subst, List, Some}
+use Rattle.std.proofs.Common.{◌≡◌, ◌∙◌, sym, ap, subst, Some}
 use Rattle.std.specs.Prelude.{slice_get}
 use Rattle.std.proofs.lemmas.Option.{slice_get-get_or}
-use Rattle.pm_device.specs.declared.state.Next.{Next}
 use Rattle.pm_phase.specs.Telling.{AreNext}
 use Rattle.pm_phase.proofs.DeviceKeeps.{made_or_not, told_of}
 use Rattle.pm_phase.proofs.turns.make_next.Goals as goal

@@ -2,7 +2,7 @@
 use Rattle.std.proofs.Common.{length, ap, arith}
 use Rattle.pm_plan.specs.Plans.{PlanData}
 use Rattle.pm_plan.proofs.MarketLists.{nodes_are}
-use Rattle.pm_free.proofs.settle.take_turns.Goals as goal
+use Rattle.pm_free.proofs.planning.take_turns.Goals as goal
 
 pub turn_of-requires-clause-inside : goal.turn_of-requires-clause-inside
 turn_of-requires-clause-inside c =

@@ -1,6 +1,6 @@
 -- Of `sweep`: what its loops over `before` and `node` keep.
 use Rattle.std.proofs.Common.{◌≡◌}
-use Rattle.pm_free.proofs.settle.sweep.Given as goal
+use Rattle.pm_free.proofs.planning.sweep.Given as goal
 
 abbrev pub invariant-loop-before : goal.invariant-loop-before
 invariant-loop-before l = l.board.plan ≡ l.fn.board.plan
