@@ -15,7 +15,7 @@ use Rattle.pm_phase.specs.declared.node.NodePart.{NodePart}
 use Rattle.pm_phase.specs.declared.phase.PhaseRun.{PhaseRun}
 use Rattle.pm_phase.proofs.HeldEnd.{ends_plainly}
 use Rattle.pm_free.specs.Counting.{AreTold, HaveNone}
-use Rattle.pm_free.specs.Nodes.{AreAfter, StandAfter, IsRead, IsSettledBy, IsLeft}
+use Rattle.pm_free.specs.Nodes.{AreAfter, StandAfter, IsReadAfter, IsSettledBy, IsOutcome}
 use Rattle.pm_free.specs.OverLinks.{CameOverLinks}
 use Rattle.pm_free.specs.declared.phase.FreePhase.{FreePhase}
 use Rattle.pm_free.specs.declared.phase.Nodes.{Nodes}
@@ -24,13 +24,16 @@ use Rattle.pm_free.proofs.Counted.{after_is, counts_are, changes_next, none_more
 
 -- the nodes stand after the phase, and its end came over the links
 pub record Came (plan : PlanData) (phase : ℕ) (parts left : List NodePart) (kept : FreePhase) (carried : Carried) : Type 0 where
+  -- so many changes are made
   pub after : AreAfter plan phase left carried.made.items
+  -- and the end is read of the parts
   pub over : CameOverLinks plan phase parts left kept carried.end.end
 
+-- of a settled run
 pub run_came : (plan : PlanData) → IsPlan plan → (phase : ℕ) (parts : List NodePart) (made : Option (Vec ℕ Global)) (changes : List (Vec Next Global))
     (run : PhaseRun) (kept : FreePhase) (carried : Carried) → 1 ≤ phase → IfSome made (λ m. AreAfter plan (phase - 1) parts m.items) →
     AreTold plan changes → HasRun plan changes parts run → IsSettledBy plan made changes run →
-    IsRead plan phase made changes run.parts.items carried → kept.links.items ≡ run.links.items →
+    IsReadAfter plan phase made changes run.parts.items carried → kept.links.items ≡ run.links.items →
     kept.held.items ≡ map held_by_node run.parts.items → Came plan phase parts run.parts.items kept carried
 run_came plan is_plan phase parts None changes run kept carried first stand told ran settled read logs held = absurd settled
 run_came plan is_plan phase parts (Some m) changes run kept carried first stand told ran settled read logs held =
@@ -55,9 +58,10 @@ run_came plan is_plan phase parts (Some m) changes run kept carried first stand 
       };
     }
 
+-- of a phase without changes
 pub rest_came : (plan : PlanData) → (phase : ℕ) (parts : List NodePart) (made : Option (Vec ℕ Global)) (changes : List (Vec Next Global))
     (kept : FreePhase) (carried : Carried) → 1 ≤ phase → IfSome made (λ m. AreAfter plan (phase - 1) parts m.items) →
-    AreTold plan changes → HaveNone changes → IsRead plan phase made changes parts carried → kept.links.items ≡ [] →
+    AreTold plan changes → HaveNone changes → IsReadAfter plan phase made changes parts carried → kept.links.items ≡ [] →
     kept.held.items ≡ map held_by_node parts → Came plan phase parts parts kept carried
 rest_came plan phase parts None changes kept carried first stand told none read logs held = absurd read
 rest_came plan phase parts (Some m) changes kept carried first stand told none read logs held =
@@ -81,17 +85,19 @@ rest_came plan phase parts (Some m) changes kept carried first stand told none r
 
 -- ---- what the phase leaves
 
+-- what follows of a value follows of a result
 pub ok_too : {A E : Type 0} (P Q : A → Type 0) (r : Result A E) → ((a : A) → P a → Q a) → IfOk r P → IfOk r Q
 ok_too P Q (Ok a) then is = then a is
 ok_too P Q (Err e) then is = is
 
 -- the nodes that are left stand, and the end came over the links, if something came
 pub record Leaves (plan : PlanData) (phase : ℕ) (parts : List NodePart) (left : Nodes) (kept : FreePhase) : Type 0 where
+  -- for the next phase
   pub stand : StandAfter plan phase left
   pub over : IfSome kept.end (λ end. CameOverLinks plan phase parts left.parts.items kept end.end)
 
 leaves : (plan : PlanData) (phase : ℕ) (parts : List NodePart) (own : Vec NodePart Global) (links : Vec (Option LinkLog) Global)
-    (came : Option Carried) (left : Nodes) (kept : FreePhase) → IsLeft own links came left kept →
+    (came : Option Carried) (left : Nodes) (kept : FreePhase) → IsOutcome own links came left kept →
     IfSome came (λ c. Came plan phase parts own.items kept c) → Leaves plan phase parts left kept
 leaves plan phase parts own links came left kept is all =
     let mine = subst (λ (ps : Vec NodePart Global). IfSome came (λ c. Came plan phase parts ps.items kept c)) (sym is.same_parts) all in
@@ -110,28 +116,32 @@ leaves plan phase parts own links came left kept is all =
     comes None is = is
     comes (Some c) is = is.over
 
+-- those of a run with changes do
 pub run_leaves : (plan : PlanData) → IsPlan plan → (phase : ℕ) (parts : List NodePart) (made : Option (Vec ℕ Global)) (changes : List (Vec Next Global))
-    (run : PhaseRun) (came : Option Carried) (left : Nodes) (kept : FreePhase) → 1 ≤ phase → IfSome made (λ m. AreAfter plan (phase - 1) parts m.items) →
-    AreTold plan changes → HasRun plan changes parts run → IfSome came (λ c. IsSettledBy plan made changes run) →
-    IfSome came (IsRead plan phase made changes run.parts.items) → IsLeft run.parts run.links came left kept → Leaves plan phase parts left kept
+    (run : PhaseRun) (came : Option Carried) (left : Nodes) (kept : FreePhase) → 1 ≤ phase →
+    IfSome made (λ m. AreAfter plan (phase - 1) parts m.items) → AreTold plan changes → HasRun plan changes parts run →
+    IfSome came (λ c. IsSettledBy plan made changes run) → IfSome came (IsReadAfter plan phase made changes run.parts.items) →
+    IsOutcome run.parts run.links came left kept → Leaves plan phase parts left kept
 run_leaves plan is_plan phase parts made changes run came left kept first stand told ran settled read is =
     leaves plan phase parts run.parts run.links came left kept is (by came settled read)
   where
-    by : (o : Option Carried) → IfSome o (λ c. IsSettledBy plan made changes run) → IfSome o (IsRead plan phase made changes run.parts.items) →
+    by : (o : Option Carried) → IfSome o (λ c. IsSettledBy plan made changes run) → IfSome o (IsReadAfter plan phase made changes run.parts.items) →
         IfSome o (λ c. Came plan phase parts run.parts.items kept c)
     by None settled read = settled
     by (Some c) settled read =
         run_came plan is_plan phase parts made changes run kept c first stand told ran settled read
         (ap (λ (ls : Vec (Option LinkLog) Global). ls.items) is.same_links) is.held
 
+-- and those of a phase without
 pub rest_leaves : (plan : PlanData) (phase : ℕ) (own : Vec NodePart Global) (made : Option (Vec ℕ Global)) (changes : List (Vec Next Global))
     (links : Vec (Option LinkLog) Global) (came : Option Carried) (left : Nodes) (kept : FreePhase) → 1 ≤ phase →
     IfSome made (λ m. AreAfter plan (phase - 1) own.items m.items) → AreTold plan changes → HaveNone changes →
-    IfSome came (IsRead plan phase made changes own.items) → links.items ≡ [] → IsLeft own links came left kept → Leaves plan phase own.items left kept
+    IfSome came (IsReadAfter plan phase made changes own.items) → links.items ≡ [] → IsOutcome own links came left kept →
+    Leaves plan phase own.items left kept
 rest_leaves plan phase own made changes links came left kept first stand told none read empty is =
     leaves plan phase own.items own links came left kept is (by came read)
   where
-    by : (o : Option Carried) → IfSome o (IsRead plan phase made changes own.items) → IfSome o (λ c. Came plan phase own.items own.items kept c)
+    by : (o : Option Carried) → IfSome o (IsReadAfter plan phase made changes own.items) → IfSome o (λ c. Came plan phase own.items own.items kept c)
     by None read = read
     by (Some c) read =
         rest_came plan phase own.items made changes kept c first stand told none read

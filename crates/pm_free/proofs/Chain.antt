@@ -1,5 +1,6 @@
 -- One phase more, which begins with the parts that those before it left.
-use Rattle.std.proofs.Common.{◌≡◌, ◌∙◌, sym, ap, subst, ℕ, zero, suc, ◌+◌, ◌<◌, ◌≤◌, cond, List, [], ◌∷◌, ◌++◌, length, inl, inr, refl, arith}
+use Rattle.std.proofs.Common.{◌≡◌, ◌∙◌, sym, ap, subst, ℕ, zero, suc, ◌+◌, ◌<◌, ◌≤◌, cond, List, [], ◌∷◌, ◌++◌, length}
+use Rattle.std.proofs.Common.{inl, inr, refl, arith}
 use Rattle.std.specs.Prelude.{IfSome, nat_le}
 use Rattle.std.proofs.lemmas.Bool.{cond-true, cond-false, le-leb, lt-leb}
 use Rattle.std.proofs.lemmas.List.{length-append}
@@ -15,6 +16,7 @@ use Rattle.pm_free.proofs.Lists.{in_more}
 
 -- the phases so far left these parts
 pub record HaveLeft (plan : PlanData) (phases : List FreePhase) (parts : List NodePart) : Type 0 where
+  -- each phase began with what the one before left
   pub chain : AreOverLinks plan phases
   pub last : chain.parts (length phases) ≡ parts
 
@@ -33,6 +35,7 @@ one_kept : (phase : FreePhase) → HasLogs phase → AreKept (phase ∷ [])
 one_kept phase logs zero d lt = logs
 one_kept phase logs (suc k) d lt = absurd (omega (arith, lt))
 
+-- one phase more, with its logs
 pub kept_more : (phases : List FreePhase) (phase : FreePhase) → AreKept phases → HasLogs phase → AreKept (phases ++ phase ∷ [])
 kept_more phases phase before logs = All-append HasLogs phases (phase ∷ []) before (one_kept phase logs)
 
@@ -52,6 +55,7 @@ module _ (plan : PlanData) (phases : List FreePhase) (now : List NodePart) (had 
   the_last : then_parts (n + 1) ≡ left
   the_last = cond-false (nat_le (n + 1) n) (old (n + 1)) left (lt-leb (n + 1) n (omega arith))
 
+  -- one phase more, which began with the parts that were left
   pub one_left : IfSome phase.end (λ end. CameOverLinks plan (n + 1) now left phase end.end) → HaveLeft plan (phases ++ phase ∷ []) left
   one_left over = record {
     chain = record {

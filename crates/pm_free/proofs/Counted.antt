@@ -1,6 +1,6 @@
 -- The counts after a phase are those of the plan, and its changes are those that follow.
-use Rattle.std.proofs.Common.{◌≡◌, ◌∙◌, sym, ap, subst, ℕ, zero, suc, ◌+◌, ◌-◌, ◌<◌, ◌≤◌, false, List, [], ◌∷◌, ◌++◌, length}
-use Rattle.std.proofs.Common.{Option, Some, None, inl, inr, refl, arith, get_or}
+use Rattle.std.proofs.Common.{◌≡◌, ◌∙◌, sym, ap, subst, ℕ, zero, suc, ◌+◌, ◌-◌, ◌<◌, ◌≤◌, false, List, [], ◌∷◌, ◌++◌}
+use Rattle.std.proofs.Common.{length, Option, Some, None, inl, inr, refl, arith, get_or}
 use Rattle.std.specs.Prelude.{Vec, nat_le, slice_get, slice_index_or}
 use Rattle.std.specs.List.{prefix_len}
 use Rattle.std.specs.declared.alloc.Global.{Global}
@@ -13,9 +13,9 @@ use Rattle.pm_device.specs.declared.state.Next.{Next}
 use Rattle.pm_market.proofs.Tree.{leaf_node}
 use Rattle.pm_plan.specs.Kept.{IsPlan}
 use Rattle.pm_plan.specs.Market.{plan_lists}
-use Rattle.pm_plan.specs.Plans.{PlanData, NodeData, node, is_device, changes_of, is_leaf, is_up_to, end_cut, phase_changes}
-use Rattle.pm_plan.specs.declared.node.Node.TheVariants.{Concentrator, Limited, Device}
+use Rattle.pm_plan.specs.Plans.{PlanData, node, is_leaf, is_up_to, end_cut, phase_changes}
 use Rattle.pm_plan.specs.declared.planned.Change.{Change}
+use Rattle.pm_plan.proofs.DeviceNodes.{changes_of-none}
 use Rattle.pm_plan.proofs.Ends.{end-rises}
 use Rattle.pm_plan.proofs.MarketLists.{lawful, is_leaf-is, nodes_are}
 use Rattle.pm_phase.specs.SettledParts.{changes_count, cut_after}
@@ -24,15 +24,11 @@ use Rattle.pm_free.specs.Counting.{AreTold, Follow, IsCounted, AreCounted, HaveN
 
 -- ---- a node that is no device makes no change
 
-no_changes_of : (n : NodeData) → is_device n ≡ false → changes_of n ≡ []
-no_changes_of Concentrator fails = refl
-no_changes_of (Limited limits) fails = refl
-no_changes_of (Device planned) fails = absurd (cc fails)
-
 no_end : (plan : PlanData) → IsPlan plan → (p d : ℕ) → is_leaf plan d ≡ false → end_cut plan p d ≡ 0
 unfolding end_cut
-no_end plan is_plan p d fails = ap (λ (cs : List Change). prefix_len (is_up_to p) cs) (no_changes_of (node plan d) (is_plan.nodes.devices d ∙ fails))
+no_end plan is_plan p d fails = ap (λ (cs : List Change). prefix_len (is_up_to p) cs) (changes_of-none (node plan d) (is_plan.nodes.devices d ∙ fails))
 
+-- so it has none in a phase
 pub none_due : (plan : PlanData) → IsPlan plan → (p d : ℕ) → is_leaf plan d ≡ false → 0 ≡ phase_changes plan p d
 none_due plan is_plan p d fails = omega (arith, no_end plan is_plan p d fails, no_end plan is_plan (p - 1) d fails)
 
@@ -75,10 +71,11 @@ count_listed (Some list) = refl
 
 -- node n, by its list
 pub counted_here : (plan : PlanData) (phase : ℕ) (made : List ℕ) (changes : List (Vec Next Global)) (n count before : ℕ) (list : List Next) →
-    before ≡ cut_of made n → list ≡ listed_changes (slice_get changes n) → count ≡ before + length list → length list ≡ phase_changes plan phase n →
-    Follow before list → IsCounted plan phase made changes n count
+    before ≡ cut_of made n → list ≡ listed_changes (slice_get changes n) → count ≡ before + length list →
+    length list ≡ phase_changes plan phase n → Follow before list → IsCounted plan phase made changes n count
 counted_here plan phase made changes n count before list before_is list_is counted all follow =
-    let long : length list ≡ changes_count (slice_get changes n) = ap (λ (ns : List Next). length ns) list_is ∙ count_listed (slice_get changes n) in
+    let long : length list ≡ changes_count (slice_get changes n) =
+    ap (λ (ns : List Next). length ns) list_is ∙ count_listed (slice_get changes n) in
     record {
       counted = omega (arith, counted, before_is, long);
       all = sym long ∙ all;
@@ -89,6 +86,7 @@ counted_here plan phase made changes n count before list before_is list_is count
 abbrev pub CountedTo : PlanData → ℕ → List ℕ → List (Vec Next Global) → ℕ → List ℕ → Type 0
 CountedTo plan phase made changes n counts = (d : ℕ) → d < n → IsCounted plan phase made changes d (cut_of counts d)
 
+-- one node more
 pub counted_more : (plan : PlanData) (phase : ℕ) (made : List ℕ) (changes : List (Vec Next Global)) (n : ℕ) (counts : List ℕ) (count : ℕ) →
     length counts ≡ n → CountedTo plan phase made changes n counts → IsCounted plan phase made changes n count →
     CountedTo plan phase made changes (n + 1) (counts ++ count ∷ [])
@@ -103,6 +101,7 @@ counted_more plan phase made changes n counts count long before here d low = eli
       (before d (omega (arith, low, ne)))
 ]
 
+-- counts of all nodes are counts: past the last there is no change
 pub all_counted : (plan : PlanData) → IsPlan plan → (phase : ℕ) (made : List ℕ) (changes : List (Vec Next Global)) (counts : List ℕ) →
     length made ≤ length plan.entries + 1 → length changes ≤ length plan.entries + 1 → length counts ≡ length plan.entries + 1 →
     CountedTo plan phase made changes (length plan.entries + 1) counts → AreCounted plan phase made changes counts
@@ -116,6 +115,7 @@ all_counted plan is_plan phase made changes counts few_made few_changes long to 
 
 -- ---- what the counts say
 
+-- the changes end where the plan's phase does
 pub after_is : (plan : PlanData) (phase : ℕ) (made counts : List ℕ) (changes : List (Vec Next Global)) → 1 ≤ phase →
     cut_of made ≡ end_cut plan (phase - 1) → AreCounted plan phase made changes counts → cut_after made changes ≡ end_cut plan phase
 after_is plan phase made counts changes first before counted = λ i d. at d i
@@ -127,6 +127,7 @@ after_is plan phase made counts changes first before counted = λ i d. at d i
         let rises = end-rises plan (phase - 1) phase d (omega (arith, first)) in
         omega (arith, own, all, rises)
 
+-- and the counts are those of its end
 pub counts_are : (plan : PlanData) (phase : ℕ) (made counts : List ℕ) (changes : List (Vec Next Global)) → 1 ≤ phase →
     cut_of made ≡ end_cut plan (phase - 1) → AreCounted plan phase made changes counts → cut_of counts ≡ end_cut plan phase
 counts_are plan phase made counts changes first before counted =

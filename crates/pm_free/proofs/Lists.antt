@@ -20,6 +20,7 @@ get_set_same [] k x lt = absurd (omega (arith, lt))
 get_set_same (y ∷ ys) zero x lt = refl
 get_set_same (y ∷ ys) (suc k) x lt = get_set_same ys k x (omega (arith, lt))
 
+-- and what stands elsewhere
 pub get_set_other : {X : Type 0} (xs : List X) (k j : ℕ) (x : X) → (j ≡ k → ⊥) → slice_get (set xs k x) j ≡ slice_get xs j
 get_set_other [] k j x ne = refl
 get_set_other (y ∷ ys) zero zero x ne = absurd (ne refl)

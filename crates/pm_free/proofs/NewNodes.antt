@@ -19,6 +19,7 @@ use Rattle.pm_free.proofs.Lists.{in_more}
 abbrev pub NewTo : PlanData → List NodePart → Type 0
 NewTo plan parts = (x : ℕ) (part : NodePart) → slice_get parts x ≡ Some part → (part.number ≡ x) × IsNewDuty plan x part.duty
 
+-- one part more
 pub parts_more : (plan : PlanData) (n : ℕ) (parts : List NodePart) (part : NodePart) → length parts ≡ n → NewTo plan parts → part.number ≡ n →
     IsNewDuty plan n part.duty → NewTo plan (parts ++ part ∷ [])
 parts_more plan n parts part long before number duty x other at = elim (in_more parts part x other at) [
@@ -36,8 +37,8 @@ zero_at n d = elim (cases_Bool (nat_le n d)) [
 ]
 
 -- they stand, and hold the end over no changes
-pub new_after : (plan : PlanData) → IsPlan plan → (parts : List NodePart) (made : List ℕ) (n : ℕ) → AreNewParts plan parts → made ≡ replicate n 0 →
-    AreAfter plan 0 parts made
+pub new_after : (plan : PlanData) → IsPlan plan → (parts : List NodePart) (made : List ℕ) (n : ℕ) → AreNewParts plan parts →
+    made ≡ replicate n 0 → AreAfter plan 0 parts made
 new_after plan is_plan parts made n new made_is =
     let none : (d : ℕ) → 0 ≡ end_cut plan 0 d = λ d. sym (end-none plan d is_plan.in_phases) in
     record {

@@ -1,5 +1,6 @@
 -- The ends that came over the links are those of the plan.
-use Rattle.std.proofs.Common.{◌≡◌, ◌∙◌, sym, ap, subst, ℕ, zero, suc, ◌+◌, ◌<◌, List, [], ◌∷◌, length, Option, Some, None, refl, arith}
+use Rattle.std.proofs.Common.{◌≡◌, ◌∙◌, sym, ap, subst, ℕ, zero, suc, ◌+◌, ◌<◌, List, [], ◌∷◌, length, Option, Some, None, refl}
+use Rattle.std.proofs.Common.{arith}
 use Rattle.std.specs.Prelude.{IfSome, slice_get, unwrap_or}
 use Rattle.std.proofs.Math.ListN.{set}
 use Rattle.std.proofs.lemmas.List.FromFn.{length-map-range_with_len, get_or-map-range_with_len}
@@ -37,7 +38,8 @@ over_same plan phases ends n over long is k phase at =
     )
 
 -- an end put in its own place changes nothing
-pub set_same : (ends : List EndValue) (k : ℕ) (end : EndValue) → slice_get (kept_ends ends) k ≡ Some end.end → kept_ends (set ends k end) ≡ kept_ends ends
+pub set_same : (ends : List EndValue) (k : ℕ) (end : EndValue) → slice_get (kept_ends ends) k ≡ Some end.end →
+    kept_ends (set ends k end) ≡ kept_ends ends
 set_same [] k end at = refl
 set_same (e ∷ es) zero end at = ap (λ (d : EndData). d ∷ kept_ends es) (sym (ap (λ (o : Option EndData). unwrap_or o e.end) at))
 set_same (e ∷ es) (suc k) end at = ap (λ (ds : List EndData). e.end ∷ ds) (set_same es k end at)
@@ -48,6 +50,7 @@ pub rest_same : (place : ℕ) (phase : FreePhase) (rest : List FreePhase) (ends 
 rest_same place phase rest ends same k other at =
     subst (λ (p : ℕ). IsSameEnd p other.end ends) (let e : place + suc k ≡ place + 1 + k = omega arith in e) (same (suc k) other at)
 
+-- and the first one's
 pub first_same : (place : ℕ) (phase : FreePhase) (rest : List FreePhase) (ends : List EndData) → AreSameEnds place (phase ∷ rest) ends →
     IsSameEnd place phase.end ends
 first_same place phase rest ends same =

@@ -40,7 +40,8 @@ told_set plan changes device list had next inside had_is pushed is told d k othe
       ∙ ap (λ (j : ℕ). slice_get (listed_changes (slice_get (set changes device list) j)) k) (sym e) ∙ at in
       elim (in_more had next k other here) [
         | inl before ↦
-            told d k other (ap (λ (j : ℕ). slice_get (listed_changes (slice_get changes j)) k) e ∙ ap (λ (ns : List Next). slice_get ns k) had_is ∙ before)
+            told d k other (ap (λ (j : ℕ). slice_get (listed_changes (slice_get changes j)) k) e
+            ∙ ap (λ (ns : List Next). slice_get ns k) had_is ∙ before)
         | inr last ↦
             subst (λ (n : Next). IsPlannedNext plan d n.number n) last.1 (subst (λ (j : ℕ). IsPlannedNext plan j next.number next) (sym e) is)
       ]

@@ -25,14 +25,15 @@ abbrev pub StandAfter : PlanData → ℕ → Nodes → Type 0
 StandAfter plan phases nodes = IfSome nodes.made (λ made. AreAfter plan phases nodes.parts.items made.items)
 
 -- the changes are counted, and the end is read of these parts
-pub record IsReadOf (plan : PlanData) (phase : ℕ) (made : List ℕ) (changes : List (Vec Next Global)) (parts : List NodePart) (carried : Carried) : Type 0 where
+pub record IsCarriedBy (plan : PlanData) (phase : ℕ) (made : List ℕ) (changes : List (Vec Next Global)) (parts : List NodePart)
+    (carried : Carried) : Type 0 where
   pub counted : AreCounted plan phase made changes carried.made.items
   pub read : carried.end.end ≡ parts_end plan parts
 
 -- the nodes stood before the phase, and their end was read after it
-abbrev pub IsRead : PlanData → ℕ → Option (Vec ℕ Global) → List (Vec Next Global) → List NodePart → Carried → Type 0
-IsRead plan phase None changes parts carried = ⊥
-IsRead plan phase (Some made) changes parts carried = IsReadOf plan phase made.items changes parts carried
+abbrev pub IsReadAfter : PlanData → ℕ → Option (Vec ℕ Global) → List (Vec Next Global) → List NodePart → Carried → Type 0
+IsReadAfter plan phase None changes parts carried = ⊥
+IsReadAfter plan phase (Some made) changes parts carried = IsCarriedBy plan phase made.items changes parts carried
 
 -- and the phase is settled
 abbrev pub IsSettledBy : PlanData → Option (Vec ℕ Global) → List (Vec Next Global) → PhaseRun → Type 0
@@ -40,7 +41,8 @@ IsSettledBy plan None changes run = ⊥
 IsSettledBy plan (Some made) changes run = AreSettled plan run.parts.items made.items changes run.links.items
 
 -- the nodes that a phase left, and what it came to: these parts, these logs of its links, and what came over them
-pub record IsLeft (parts : Vec NodePart Global) (links : Vec (Option LinkLog) Global) (carried : Option Carried) (nodes : Nodes) (phase : FreePhase) : Type 0 where
+pub record IsOutcome (parts : Vec NodePart Global) (links : Vec (Option LinkLog) Global) (carried : Option Carried) (nodes : Nodes)
+    (phase : FreePhase) : Type 0 where
   pub same_parts : nodes.parts ≡ parts
   pub counts : nodes.made ≡ option_map (λ (c : Carried). c.made) carried
   pub ends : phase.end ≡ option_map (λ (c : Carried). c.end) carried

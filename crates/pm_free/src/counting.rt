@@ -66,7 +66,7 @@ fn due_of(plan: &Plan, phase: u32, node: u32) -> u32
 }
 
 /// How many changes a node has made with those of a phase. None if these are not all its changes of the phase, in their order.
-fn count_of(plan: &Plan, phase: u32, node: u32, made: u32, list: &[Next]) -> Option<u32>
+fn count_after(plan: &Plan, phase: u32, node: u32, made: u32, list: &[Next]) -> Option<u32>
     requires first { 1 ≤ phase }
     requires last { phase ≤ phases plan.now }
     requires inside { node ≤ length plan.now.entries }
@@ -83,7 +83,7 @@ fn count_of(plan: &Plan, phase: u32, node: u32, made: u32, list: &[Next]) -> Opt
 
 /// How many changes each node has made with those of a phase, which counts from 1. None if these are not all changes of the
 /// phase, each node's in their order.
-pub(crate) fn count_changes(
+pub(crate) fn counts_after(
     alloc: Global,
     plan: &Plan,
     phase: u32,
@@ -103,7 +103,7 @@ pub(crate) fn count_changes(
     let mut counts = Vec::with_capacity(alloc, places)?;
     for node in 0..nodes + 1 {
         let before = made_by(made, node);
-        let Some(count) = count_of(plan, phase, node, before, changes_of(changes, node)) else {
+        let Some(count) = count_after(plan, phase, node, before, changes_of(changes, node)) else {
             return Ok(None);
         };
         counts.push(count)?;

@@ -6,10 +6,10 @@ ghost use Rattle.pm_nodes.specs.DeviceAgents.{AreAgents};
 ghost use Rattle.pm_phase.specs.Nodes.{AreNewParts, held_by_node};
 ghost use Rattle.pm_free.specs.Counting.{AreTold, HaveNone};
 ghost use Rattle.pm_free.specs.Links.{HasLogs};
-ghost use Rattle.pm_free.specs.Nodes.{StandAfter, IsRead, IsSettledBy, IsLeft};
+ghost use Rattle.pm_free.specs.Nodes.{StandAfter, IsReadAfter, IsSettledBy, IsOutcome};
 ghost use Rattle.pm_free.specs.OverLinks.{CameOverLinks};
 
-use crate::counting::{count_changes, have_none};
+use crate::counting::{counts_after, have_none};
 use crate::planning::plan_phase;
 use pm_agent::DeviceAgent;
 use pm_board::Board;
@@ -168,7 +168,7 @@ fn rest(
 {
     let Nodes { parts, made } = nodes;
     let carried = read_carried(alloc, plan, phase, &made, changes, parts.as_slice())?;
-    leave(alloc, parts, Vec::new(alloc), carried)
+    outcome(alloc, parts, Vec::new(alloc), carried)
 }
 
 /// A phase with changes: the nodes make them over links.
@@ -197,7 +197,7 @@ fn carry<R: Threads + Sync, G: Gate>(
     let run = run_phase(rt, alloc, plan, gate, parts, changes, count)?;
     let carried = read_settled(alloc, plan, phase, &made, changes, &run)?;
     let PhaseRun { parts, links } = run;
-    leave(alloc, parts, links, carried)
+    outcome(alloc, parts, links, carried)
 }
 
 /// What came over the links of a phase, by these counts before it: the end that the parts hold after it, with the counts then. None
@@ -213,12 +213,12 @@ fn read_carried(
     requires first { 1 ≤ phase }
     requires last { phase ≤ phases plan.now }
     ensures { IfOk result (λ read. IfSome read
-        (IsRead plan.now phase made.now changes.now parts.now)) }
+        (IsReadAfter plan.now phase made.now changes.now parts.now)) }
 {
     let Some(made) = made else {
         return Ok(None);
     };
-    let Some(counts) = count_changes(alloc, plan, phase, made.as_slice(), changes)? else {
+    let Some(counts) = counts_after(alloc, plan, phase, made.as_slice(), changes)? else {
         return Ok(None);
     };
     let Some(end) = read_end(alloc, plan, parts)? else {
@@ -228,7 +228,12 @@ fn read_carried(
 }
 
 /// Whether a phase is settled, by these counts before it.
-fn is_settled(plan: &Plan, made: &Option<Vec<u32>>, changes: &[Vec<Next>], run: &PhaseRun) -> bool
+fn is_phase_settled(
+    plan: &Plan,
+    made: &Option<Vec<u32>>,
+    changes: &[Vec<Next>],
+    run: &PhaseRun,
+) -> bool
     ensures { result ≡ true → IsSettledBy plan.now made.now changes.now run.now }
 {
     match made {
@@ -257,22 +262,22 @@ fn read_settled(
     ensures settled { IfOk result (λ read. IfSome read
         (λ _. IsSettledBy plan.now made.now changes.now run.now)) }
     ensures read { IfOk result (λ read. IfSome read
-        (IsRead plan.now phase made.now changes.now run.now.parts.items)) }
+        (IsReadAfter plan.now phase made.now changes.now run.now.parts.items)) }
 {
-    if !is_settled(plan, made, changes, run) {
+    if !is_phase_settled(plan, made, changes, run) {
         return Ok(None);
     }
     read_carried(alloc, plan, phase, made, changes, run.parts.as_slice())
 }
 
 /// The nodes after a phase, and what it came to.
-fn leave(
+fn outcome(
     alloc: Global,
     parts: Vec<NodePart>,
     links: Vec<Option<LinkLog>>,
     carried: Option<Carried>,
 ) -> Result<(Nodes, FreePhase), AllocError>
-    ensures { IfOk result (λ left. IsLeft parts links carried left.0 left.1) }
+    ensures { IfOk result (λ left. IsOutcome parts links carried left.0 left.1) }
 {
     let held = held_by(alloc, parts.as_slice())?;
     let (made, end) = split(carried);

@@ -23,7 +23,7 @@ use Rattle.pm_session.specs.Ports.{held_by}
 use Rattle.pm_session.specs.declared.price.Held.{Held}
 use Rattle.pm_tree.specs.Entries.{place_of}
 use Rattle.pm_carried.specs.Carried.{Carried, cache_at, entry_head, entry_demand, carried_power, carried_member, carried_step, carried_limited, carried_end}
-use Rattle.pm_phase.specs.PartsEnd.{held_of_parts, is_member_in, parts_end, AddsLine}
+use Rattle.pm_phase.specs.PartsEnd.{held_of_parts, is_member_in, parts_end, AddsLineIf}
 use Rattle.pm_phase.specs.declared.node.NodePart.{NodePart}
 
 -- the line of a member, by the cache of the node above
@@ -41,7 +41,8 @@ member_is plan c d above place number' cache held power' above_is cache_is place
     ∙ ap (λ (q : Cache). carried_power (held_by (c.seats d)) (child_demand q place)) same
     ∙ ap (λ (k : ℕ). carried_power (held_by (c.seats d)) (child_demand (cache_at c y) k)) place_is
     )
-    ∙ ap (λ (n : ℕ). let line : MemberLine = record { node = d; power = carried_power (held_by (c.seats d)) (child_demand (cache_at c y) p); number = n } in line) (
+    ∙ ap (λ (n : ℕ).
+    let line : MemberLine = record { node = d; power = carried_power (held_by (c.seats d)) (child_demand (cache_at c y) p); number = n } in line) (
     number_is ∙ ap (λ (q : Cache). (child_head q place).number) same ∙ ap (λ (k : ℕ). (child_head (cache_at c y) k).number) place_is
     )
 
@@ -62,7 +63,7 @@ limited_is plan c g k local limits sum total' limits_is step_is sum_is local_is 
 
 -- the lines of one node more
 pub one_more : {A : Type 0} (line : ℕ → A) (test : ℕ → Bool) (n : ℕ) (old new : List A) → 1 ≤ n →
-    old ≡ map line (filter test (range_with_len 1 (n - 1))) → AddsLine line test n old new →
+    old ≡ map line (filter test (range_with_len 1 (n - 1))) → AddsLineIf line test n old new →
     new ≡ map line (filter test (range_with_len 1 (n + 1 - 1)))
 one_more {A} line test n old new first is adds =
     let before : List A = map line (filter test (range_with_len 1 (n - 1))) in

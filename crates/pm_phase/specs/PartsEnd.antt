@@ -32,5 +32,5 @@ pub record EndsPlainly (plan : PlanData) (parts : List NodePart) (cut : Cut) : T
   pub stand : PartsStand plan parts cut
 
 -- the line of a node joins those of the nodes before it, if the node passes the test
-abbrev pub AddsLine : {A : Type 0} → (ℕ → A) → (ℕ → Bool) → ℕ → List A → List A → Type 0
-AddsLine line test x old new = new ≡ old ++ (if test x then line x ∷ [] else [])
+abbrev pub AddsLineIf : {A : Type 0} → (ℕ → A) → (ℕ → Bool) → ℕ → List A → List A → Type 0
+AddsLineIf line test x old new = new ≡ old ++ (if test x then line x ∷ [] else [])

@@ -9,7 +9,7 @@ ghost use Rattle.pm_plan.specs.Auction.{limited_nodes};
 ghost use Rattle.pm_plan.specs.Plans.{node as planned_node, limits_of, is_limited, node_numbers};
 ghost use Rattle.pm_session.specs.Ports.{held_by};
 ghost use Rattle.pm_carried.specs.Carried.{cache_at, carried_power, carried_member, carried_limited};
-ghost use Rattle.pm_phase.specs.PartsEnd.{held_of_parts, is_member_in, parts_end, AddsLine};
+ghost use Rattle.pm_phase.specs.PartsEnd.{held_of_parts, is_member_in, parts_end, AddsLineIf};
 
 use crate::matcher::Matcher;
 use crate::node::{Duty, NodePart};
@@ -178,7 +178,7 @@ fn add_member(
     requires first { 1 ≤ node }
     requires last { node ≤ length plan.now.entries }
     ensures { IfOk result (λ added. added ≡ true →
-        AddsLine (carried_member plan.now (held_of_parts parts.now))
+        AddsLineIf (carried_member plan.now (held_of_parts parts.now))
         (is_member_in parts.now) node lines.old.items lines.new.items) }
 {
     if !is_member(parts, node) {
@@ -202,7 +202,7 @@ fn add_limited(
     requires last { node ≤ length plan.now.nodes }
     requires step { step ≡ (held_of_parts parts.now).auctioneer.step }
     ensures { IfOk result (λ added. added ≡ true →
-        AddsLine (carried_limited plan.now (held_of_parts parts.now))
+        AddsLineIf (carried_limited plan.now (held_of_parts parts.now))
         (is_limited plan.now) node lines.old.items lines.new.items) }
 {
     let Some((floor, ceiling)) = plan.limits(NodeId(node)) else {

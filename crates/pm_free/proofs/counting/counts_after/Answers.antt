@@ -1,8 +1,8 @@
--- Of `count_changes`: what it ensures; the turns of its loop over `node`.
+-- Of `counts_after`: what it ensures; the turns of its loop over `node`.
 use Rattle.std.proofs.Common.{◌≡◌, ap, sym, subst, ℕ, ◌+◌, List, length, arith}
 use Rattle.pm_tree.specs.Entries.{Entry}
 use Rattle.pm_free.proofs.Counted.{CountedTo, counted_here, counted_more, all_counted}
-use Rattle.pm_free.proofs.counting.count_changes.Goals as goal
+use Rattle.pm_free.proofs.counting.counts_after.Goals as goal
 
 pub loop-node-preserved : goal.loop-node-preserved
 loop-node-preserved c =
