@@ -1,7 +1,7 @@
 #!/usr/bin/env python3
 """Proves and builds a program, with all processors: the crates that it stands on side by side, the longest chain first.
 
-    python3 script/prove.py [market|live] [--jobs N] [--anew]
+    python3 script/prove.py [market|live|over_links] [--jobs N] [--anew]
 
 `rt run` proves one crate after the other, and `rt ci` also every test and every must-fail edit. This script asks the kit's
 own calls behind `rt ci` for the proofs alone that the program stands on. Each crate is proved from nothing, and the program is
@@ -36,8 +36,8 @@ import kept  # noqa: E402
 
 TOP = Path(__file__).resolve().parent.parent
 
-# The programs that a user runs, first the one that is meant if none is named.
-PROGRAMS = ("market", "live")
+# The programs: first the one that is meant if none is named, and last one for a check.
+PROGRAMS = ("market", "live", "over_links")
 
 # The seconds between two lines that say how far the proofs are.
 PERIOD = 60

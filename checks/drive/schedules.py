@@ -89,10 +89,10 @@ def when_idle():
     os.sched_setscheduler(0, os.SCHED_IDLE, os.sched_param(0))
 
 
-def busy(count):
-    """Busy loops, which end by themselves if nobody ends them."""
+def busy(count, priority=10):
+    """Busy loops of a priority (nice), which end by themselves if nobody ends them."""
     loop = f"exec timeout {LOAD_SECONDS} sh -c 'while :; do :; done'"
-    return [subprocess.Popen(["nice", "-n", "10", "sh", "-c", loop], stdout=subprocess.DEVNULL, start_new_session=True) for _ in range(count)]
+    return [subprocess.Popen(["nice", "-n", str(priority), "sh", "-c", loop], stdout=subprocess.DEVNULL, start_new_session=True) for _ in range(count)]
 
 
 def end(loops):
