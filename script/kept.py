@@ -85,9 +85,10 @@ class Stores:
         return bool(self.own.give(crate_seen, False, key) or self.passed.give(crate_seen, False, key))
 
     def keep(self, crate: Any) -> None:
-        """Keeps what was proved just now of a crate, unless its files changed meanwhile."""
+        """Keeps what was proved just now of a crate, unless its files or those of a crate below changed meanwhile."""
         crate_seen = self.crates[crate.name]
-        self.own.keep(crate_seen, False, self.own.key(crate_seen))
+        if all(below.name in self.own.marks for below in crate_seen.below()):
+            self.own.keep(crate_seen, False, self.own.key(crate_seen))
 
     def shrink(self) -> None:
         """Removes what was not used for longest, until the store is within bounds."""
