@@ -48,6 +48,7 @@ def add_arguments(parser: argparse.ArgumentParser) -> None:
     adding.add_argument("--parent", metavar="NODE", required=True, help="the node above")
     adding.add_argument("--child", metavar="CHILD", type=int, help="its number there; default the one behind the greatest")
     adding.add_argument("--host", metavar="HOST", help="the machine that it runs on")
+    adding.add_argument("--site", metavar="SITE", help="the site in whose process it runs; default a process of its own")
     adding.add_argument("--least", metavar="WATTS", type=int, help="the least power that it may bid, 0 or below")
     adding.add_argument("--greatest", metavar="WATTS", type=int, help="the greatest power that it may bid, 0 or above")
     adding.add_argument("--fallback", metavar="WATTS", type=int, help="what its control is told while the market is silent; default 0")
@@ -84,7 +85,7 @@ def _init(arguments: argparse.Namespace) -> str:
 def _add(arguments: argparse.Namespace) -> str:
     more = {word: value for word in ("fallback", "offer_validity") if (value := getattr(arguments, word)) is not None}
     told = {word: getattr(arguments, word) for word in ("name", "parent", "child", "least", "greatest", "host", "control")}
-    return "\n".join(add_device(Path(arguments.out), Member("device", more=more, **told)))
+    return "\n".join(add_device(Path(arguments.out), Member("device", more=more, **told), arguments.site))
 
 
 def _limits(arguments: argparse.Namespace) -> str:

@@ -22,6 +22,9 @@ MORE = (
 def add_arguments(parser: argparse.ArgumentParser) -> None:
     """Adds the arguments of site."""
     parser.add_argument("config", metavar="CONFIG", help="the TOML file of the site")
+    parser.add_argument(
+        "--password-folder", metavar="FOLDER", help="where the files of passwords are, under the names that the settings give them"
+    )
 
 
 def main(arguments: argparse.Namespace) -> int:
@@ -33,6 +36,8 @@ def main(arguments: argparse.Namespace) -> int:
     notifier = Notifier(os.environ)
     try:
         settings = read_site(arguments.config)
+        if arguments.password_folder is not None:
+            settings = settings.with_passwords_in(arguments.password_folder)
         settings.require_files()
     except BadSettings as error:
         print(f"cogmaula: {error}", file=sys.stderr)

@@ -47,8 +47,13 @@ NODE = """
     command: [@sort@, --config, /etc/market/@name@.toml]
     volumes: ["./@name@:/etc/market:ro", "@name@:/var/lib/market"]
 """
-
-
+SITE = """
+  @name@:
+    <<: *node
+    entrypoint: [cogmaula, site]
+    command: [/etc/market/@name@.toml]
+    volumes: ["./@name@:/etc/market:ro", "@name@:/var/lib/market"]
+"""
 HISTORY = """
   @name@:
     <<: *node
@@ -61,13 +66,17 @@ HISTORY = """
 def compose_text(tree: Tree) -> str:
     """The file of compose. The broker's service has the name by which nodes know it, which is what podman-compose takes too."""
     text = FIRST.replace("@host@", json.dumps(tree.broker.host))
-    for member in tree.members:
+    alone = [member for member in tree.members if tree.site_of(member.name) is None]
+    for member in alone:
         text += NODE.replace("@name@", member.name).replace("@sort@", member.sort)
+    for site in tree.sites:
+        text += SITE.replace("@name@", site.name)
     histories = histories_of(tree)
     for history in histories:
         url = f"sqlite:///{STATE}/{FILE}" if history.database == SQLITE else str(history.database)
         text += HISTORY.replace("@name@", history.name).replace("@url@", json.dumps(url))
     clients = "".join(f', "./{folder}:/etc/clients/{folder}:ro"' for folder in login_folders(tree))
     text += CLIENT.replace("@clients@", clients)
-    volumes = ["broker", *(member.name for member in tree.members), *(history.name for history in histories)]
+    sites = [site.name for site in tree.sites]
+    volumes = ["broker", *(member.name for member in alone), *sites, *(history.name for history in histories)]
     return text + "\nvolumes:\n" + "".join(f"  {name}:\n" for name in volumes)

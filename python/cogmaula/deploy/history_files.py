@@ -40,10 +40,12 @@ def history_unit_text(tree: Tree, login: Login, places: Places) -> str:
     words = {
         "what": f"History {login.name} of a market",
         "name": login.name,
-        "command": f"{tree.market.command} history",
+        "command": f"{tree.market.command} history --config {ETC}/{login.name}.toml --password-file %d/password --to {url}",
+        "credentials": f"LoadCredential=password:{ETC}/{login.name}.password\n" + (pgpass if has_server(login) else ""),
         "memory": "256M",
-        "options": f" --to {url}",
-        "more": pgpass if has_server(login) else "",
+        "tasks": "32",
+        "files": "",
+        "patience": "5",
         "told": "",
         "ends": "2",
     }

@@ -5,8 +5,6 @@ from __future__ import annotations
 from collections.abc import Iterable
 
 from .files import ETC
-from .node_files import unit_of
-from .tree import Member
 
 # The clients of mosquitto, each of which reads a file of its name.
 CLIENTS = ("mosquitto_pub", "mosquitto_sub")
@@ -39,11 +37,10 @@ fi
 """
 
 
-def node_text(member: Member, logins: Iterable[str]) -> str:
-    """The script of a node, with these logins."""
-    unit = unit_of(member)
-    return _FIRST.format(what=f"Puts the files of the {member.sort} {member.name} on this machine, and starts it.", etc=ETC) + (
-        f"install -m 644 ca.crt {member.name}.toml {ETC}\n"
+def unit_text(what: str, name: str, unit: str, logins: Iterable[str]) -> str:
+    """The script of a node or a site, with the name of its unit and the logins whose passwords it has. `what` says what it is."""
+    return _FIRST.format(what=f"Puts the files of the {what} {name} on this machine, and starts it.", etc=ETC) + (
+        f"install -m 644 ca.crt {name}.toml {ETC}\n"
         f"install -m 600 {' '.join(f'{login}.password' for login in logins)} {ETC}\n"
         f"install -m 644 {unit}.service /etc/systemd/system\n"
         f"systemctl daemon-reload\nsystemctl enable {unit}\nsystemctl restart {unit}\n"

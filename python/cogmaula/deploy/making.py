@@ -9,7 +9,7 @@ from collections.abc import Mapping
 from pathlib import Path
 
 from ..live.errors import BadSettings
-from . import broker_files, history_files, installing, node_files
+from . import broker_files, history_files, installing, node_files, site_files
 from .containers import compose_text
 from .files import OPEN, RUN, SECRET, Places, text_of, write_file
 from .keys import make_authority, make_certificate, make_passwords
@@ -29,27 +29,37 @@ def init_market(tree: Tree, out: Path) -> list[str]:
     return [*first, *_lines(tree, out, list(_folders(tree)))]
 
 
-def add_device(out: Path, device: Member) -> list[str]:
-    """Adds a device to a market. Gives lines about what to do. Raises BadSettings, LiveError and OSError."""
+def add_device(out: Path, device: Member, site: str | None = None) -> list[str]:
+    """Adds a device to a market, in a site of it or by itself. Gives lines about what to do. Raises BadSettings, LiveError and OSError."""
     before = read_tree(out / TREE)
-    tree = before.with_device(device)
+    tree = before.with_device(device, site)
     _make(tree, out)
-    changed = ["broker", device.parent or "", *(folder for folder in _folders(tree) if folder not in _folders(before))]
+    known = _folders(before)
+    nodes = [tree.folder_of(name) for name in (device.parent or "", device.name)]
+    changed = list(dict.fromkeys(["broker", *nodes, *(folder for folder in _folders(tree) if folder not in known)]))
     first = ["Let the broker read its files again, by SIGHUP."] if tree.market.here else []
     return [*first, *_lines(tree, out, changed)]
 
 
 def _folders(tree: Tree) -> dict[str, str]:
     """Each folder, and the machine that it is for."""
-    machines = {member.name: member.host or f"the machine of {member.name}" for member in tree.members}
-    others = {folder: f"the machine of {folder}" for folder in node_files.folders_of(tree) if folder not in machines}
-    return {"broker": tree.broker.host, **machines, **others}
+    machines: dict[str, str] = {"broker": tree.broker.host}
+    for member in tree.members:
+        folder = tree.folder_of(member.name)
+        if host := tree.host_of(member):
+            machines[folder] = host
+        machines.setdefault(folder, f"the machine of {folder}")
+    for folder in node_files.folders_of(tree):
+        machines.setdefault(folder, f"the machine of {folder}")
+    return machines
 
 
 def _make(tree: Tree, out: Path) -> None:
     """Makes what is lacking, and all that follows from the tree anew."""
     places = Places(out, tree.market.here)
-    texts = {member.name: node_files.settings_text(tree, member, places) for member in tree.members}
+    alone = _alone(tree)
+    texts = {member.name: node_files.settings_text(tree, member, places) for member in alone}
+    texts |= {site.name: site_files.settings_text(tree, site, places) for site in tree.sites}
     out.mkdir(mode=0o700, parents=True, exist_ok=True)
     authority, broker = out / AUTHORITY, out / "broker"
     broker.mkdir(mode=0o700, exist_ok=True)
@@ -63,13 +73,18 @@ def _make(tree: Tree, out: Path) -> None:
     for folder in ("broker", *folders):
         write_file(out / folder / "ca.crt", ca, OPEN)
     _make_broker(tree, places)
-    for member in tree.members:
-        own = out / member.name
-        write_file(own / f"{member.name}.toml", texts[member.name], OPEN)
-        write_file(own / f"{node_files.unit_of(member)}.service", node_files.unit_text(tree, member), OPEN)
-        write_file(own / "install.sh", installing.node_text(member, folders[member.name]), RUN)
+    for name, text in texts.items():
+        write_file(out / name / f"{name}.toml", text, OPEN)
         if tree.market.here:
-            Path(places.state(member.name)).mkdir(mode=0o700, parents=True, exist_ok=True)
+            Path(places.state(name)).mkdir(mode=0o700, parents=True, exist_ok=True)
+    for member in alone:
+        own, unit = out / member.name, node_files.unit_of(member)
+        write_file(own / f"{unit}.service", node_files.unit_text(tree, member), OPEN)
+        write_file(own / "install.sh", installing.unit_text(member.sort, member.name, unit, folders[member.name]), RUN)
+    for site in tree.sites:
+        own, unit = out / site.name, site_files.unit_of(site)
+        write_file(own / f"{unit}.service", site_files.unit_text(tree, site, folders[site.name]), OPEN)
+        write_file(own / "install.sh", installing.unit_text("site", site.name, unit, folders[site.name]), RUN)
     for login in node_files.login_folders(tree):
         write_file(out / login / f"{login}.toml", node_files.login_text(tree, login, places), OPEN)
         options = node_files.client_text(tree, login, (out / login / f"{login}.password").read_text().strip(), places)
@@ -88,6 +103,11 @@ def _make(tree: Tree, out: Path) -> None:
     write_file(out / TREE, "# Made by `cogmaula market`. The market, with the number of each node.\n" + toml_text(tree.to_tables()), OPEN)
 
 
+def _alone(tree: Tree) -> list[Member]:
+    """The nodes that run by themselves, in no site."""
+    return [member for member in tree.members if tree.site_of(member.name) is None]
+
+
 def _make_broker(tree: Tree, places: Places) -> None:
     folder = places.out / "broker"
     write_file(folder / "mosquitto.acl", broker_files.rights_text(tree), SECRET)
@@ -101,9 +121,11 @@ def _make_broker(tree: Tree, places: Places) -> None:
 def _lines(tree: Tree, out: Path, changed: list[str]) -> list[str]:
     """What to do with the folders that changed."""
     if tree.market.here:
-        nodes = [f"cogmaula node {member.sort} --config {out / member.name / member.name}.toml" for member in tree.members if member.name in changed]
+        nodes = [f"cogmaula node {member.sort} --config {out / member.name / member.name}.toml" for member in _alone(tree) if member.name in changed]
+        sites = [f"cogmaula site {out / site.name / site.name}.toml" for site in tree.sites if site.name in changed]
         places = Places(out, True)
-        return nodes + [history_files.history_command(tree, one, places) for one in history_files.histories_of(tree) if one.name in changed]
+        histories = [history_files.history_command(tree, one, places) for one in history_files.histories_of(tree) if one.name in changed]
+        return [*nodes, *sites, *histories]
     machines: Mapping[str, str] = _folders(tree)
     by_machine: dict[str, list[str]] = {}
     for folder in changed:

@@ -17,7 +17,8 @@ DEVICE_PAUSE = 1.0
 WATCHED = "# It tells that its loop turns: one that stands still for a minute is started anew.\nWatchdogSec=60\n"
 
 
-def _broker_table(tree: Tree, login: str, etc: str) -> dict[str, Any]:
+def broker_table(tree: Tree, login: str, etc: str) -> dict[str, Any]:
+    """The table `broker` of a login whose files are in the folder `etc`."""
     return {
         "host": tree.broker.host,
         "port": tree.broker.port,
@@ -30,11 +31,11 @@ def _broker_table(tree: Tree, login: str, etc: str) -> dict[str, Any]:
 
 def tables_of(tree: Tree, member: Member, places: Places) -> dict[str, dict[str, Any]]:
     """The tables of a node's settings."""
-    etc = places.etc(member.name)
+    etc = places.etc(tree.folder_of(member.name))
     node = {"name": member.name, "state": places.state(member.name), "parent": member.parent, "child": member.child, **member.more}
-    found = {"node": node, "basis": dict(vars(tree.basis)), "broker": _broker_table(tree, member.name, etc)}
+    found = {"node": node, "basis": dict(vars(tree.basis)), "broker": broker_table(tree, member.name, etc)}
     if member.page is not None:
-        own = {"user": member.name + PAGE, "password_file": f"{etc}/{member.name}{PAGE}.password"} if member.page.get("whole") else {}
+        own = {"user": member.name + PAGE, "password_file": f"{etc}/{member.name}{PAGE}.password"} if has_page_login(member) else {}
         found["page"] = {**member.page, **own}
     if member.device is not None:
         found["device"] = dict(member.device)
@@ -67,12 +68,12 @@ def require_settings(member: Member, tables: dict[str, dict[str, Any]]) -> Setti
 
 def login_text(tree: Tree, login: str, places: Places) -> str:
     """The settings of who is no node, for `cogmaula market` and for clients of the broker."""
-    return f"{MADE} The login {login}.\n{toml_text({'broker': _broker_table(tree, login, places.etc(login))})}"
+    return f"{MADE} The login {login}.\n{toml_text({'broker': broker_table(tree, login, places.etc(login))})}"
 
 
 def client_text(tree: Tree, login: str, password: str, places: Places) -> str:
     """The options of mosquitto's own clients, which they read from a folder that XDG_CONFIG_HOME names: no password is an argument."""
-    table = _broker_table(tree, login, places.etc(login))
+    table = broker_table(tree, login, places.etc(login))
     options = {"-h": table["host"], "-p": table["port"], "--cafile": table["ca"], "-u": login, "-P": password, "-q": 1}
     return "".join(f"{option} {value}\n" for option, value in options.items())
 
@@ -84,25 +85,39 @@ def unit_of(member: Member) -> str:
 
 def unit_text(tree: Tree, member: Member) -> str:
     """A node's unit."""
-    has_page_login = member.page is not None and bool(member.page.get("whole"))
+    command = f"{tree.market.command} node {member.sort} --config {ETC}/{member.name}.toml --password-file %d/password"
+    credentials = f"LoadCredential=password:{ETC}/{member.name}.password\n"
+    if has_page_login(member):
+        command += " --page-password-file %d/page"
+        credentials += f"LoadCredential=page:{ETC}/{member.name}{PAGE}.password\n"
     words = {
         "what": f"Node {member.name} of a market",
         "name": member.name,
-        "command": f"{tree.market.command} node {member.sort}",
+        "command": command,
+        "credentials": credentials,
         "memory": "512M" if member.page is not None else "256M",
-        "options": " --page-password-file %d/page" if has_page_login else "",
-        "more": f"LoadCredential=page:{ETC}/{member.name}{PAGE}.password\n" if has_page_login else "",
+        "tasks": "32",
+        "files": "",
+        "patience": "5",
         "told": WATCHED,
         "ends": "2 5 6",
     }
     return Template(text_of("unit.service")).substitute(words)
 
 
+def has_page_login(member: Member) -> bool:
+    """Whether the page of a node shows the whole market, which it reads by a login of its own."""
+    return member.page is not None and bool(member.page.get("whole"))
+
+
 def folders_of(tree: Tree) -> dict[str, list[str]]:
-    """Each folder of files beside that of the broker, and the logins whose passwords are there."""
+    """Each folder of files beside that of the broker, and the logins whose passwords are there. The nodes of a site share one."""
     found: dict[str, list[str]] = {}
     for member in tree.members:
-        found[member.name] = [member.name] + ([member.name + PAGE] if member.page is not None and member.page.get("whole") else [])
+        folder = tree.folder_of(member.name)
+        found.setdefault(folder, [folder])
+        if has_page_login(member):
+            found[folder].append(member.name + PAGE)
         if member.control:
             found[member.name + CONTROL] = [member.name + CONTROL]
     return {**found, **{login.name: [login.name] for login in tree.logins}}
@@ -110,5 +125,5 @@ def folders_of(tree: Tree) -> dict[str, list[str]]:
 
 def login_folders(tree: Tree) -> list[str]:
     """The folders of those who are no nodes."""
-    nodes = {member.name for member in tree.members}
+    nodes = {tree.folder_of(member.name) for member in tree.members}
     return [folder for folder in folders_of(tree) if folder not in nodes]

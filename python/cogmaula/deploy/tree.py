@@ -7,21 +7,32 @@ import re
 import shutil
 from collections.abc import Mapping
 from dataclasses import dataclass, field, replace
+from functools import cached_property
 from typing import Any, Literal, cast
 from urllib.parse import urlsplit
 
 from ..cluster import Basis
 from ..live.errors import BadSettings
 from ..live.frames import CHILDREN, Sort
-from ..live.rights import Place, Right, rights_of_control, rights_of_grid_operator, rights_of_node, rights_of_operator, rights_of_reader
+from ..live.rights import (
+    Place,
+    Right,
+    rights_of_control,
+    rights_of_grid_operator,
+    rights_of_node,
+    rights_of_operator,
+    rights_of_reader,
+    united,
+)
 from ..live.settings import PriceSettings
 from ..live.toml_tables import read_tables, require_types, table_of, value_of
 from ..live.topics import Topics, require_name
+from .site_plan import SitePlan, require_sites, site_plan_of
 
-TABLES = ("market", "basis", "broker", "prices", "auctioneer", "relays", "devices", "logins")
+TABLES = ("market", "basis", "broker", "prices", "auctioneer", "relays", "devices", "sites", "logins")
 # The most relays between a device and the auctioneer: deeper trees may not settle by what is proved of them.
 MOST_RELAYS = 6
-# Names of folders beside those of nodes and logins.
+# Names of folders beside those of nodes, sites and logins.
 TAKEN = ("broker", "authority", "state")
 # The database of a history that is a file of SQLite on its machine.
 SQLITE = "sqlite"
@@ -120,14 +131,16 @@ class Tree:
     members: tuple[Member, ...]
     logins: tuple[Login, ...] = ()
     prices: PriceSettings = field(default_factory=PriceSettings)
+    sites: tuple[SitePlan, ...] = ()
 
     def __post_init__(self) -> None:
         """Raises BadSettings."""
-        names = [member.name for member in self.members] + [login.name for login in self.logins]
+        names = [member.name for member in self.members] + [site.name for site in self.sites] + [login.name for login in self.logins]
         for name in names:
             if names.count(name) > 1 or name in TAKEN:
                 raise BadSettings(f"{name} is {'there twice' if name not in TAKEN else 'a name of another folder'}: give another name")
         self._require_tree()
+        require_sites(self.sites, {member.name: member.host for member in self.members})
         for login in self.logins:
             relays = [member.name for member in self.members if member.sort == "relay" and member.more.get("limits_from")]
             if lacking := [relay for relay in login.relays if relay not in relays]:
@@ -167,23 +180,44 @@ class Tree:
         """The nodes directly below one, by their numbers."""
         return sorted((member for member in self.members if member.parent == name), key=lambda member: member.child or 0)
 
+    def site_of(self, name: str) -> SitePlan | None:
+        """The site that a node runs in, None if it runs by itself."""
+        return self._sites.get(name)
+
+    def folder_of(self, name: str) -> str:
+        """The folder of a node's files, and its login at the broker: those of its site, or else its own."""
+        site = self.site_of(name)
+        return name if site is None else site.name
+
+    def host_of(self, member: Member) -> str | None:
+        """The machine that the file names for a node or for its site, None if it names none."""
+        site = self.site_of(member.name)
+        return member.host if site is None or site.host is None else site.host
+
+    @cached_property
+    def _sites(self) -> dict[str, SitePlan]:
+        return {node: site for site in self.sites for node in site.nodes}
+
     @property
     def topics(self) -> Topics:
         """The topics of the market."""
         return Topics(self.market.prefix)
 
     def rights(self) -> dict[str, list[Right]]:
-        """What each login at the broker may do, by its name."""
-        topics, found = self.topics, {}
+        """What each login at the broker may do, by its name. That of a site has the rights of all its nodes."""
+        topics = self.topics
+        found: dict[str, list[Right]] = {}
         places = [(member.parent, member.child) for member in self.members if member.parent is not None and member.child is not None]
         for member in self.members:
             children = {below.child: below.name for below in self.children(member.name) if below.child is not None}
             place = Place(member.sort, member.name, member.parent, member.child, children, bool(member.more.get("limits_from")))
-            found[member.name] = rights_of_node(topics, place)
+            found.setdefault(self.folder_of(member.name), []).extend(rights_of_node(topics, place))
             if member.control:
                 found[member.name + CONTROL] = rights_of_control(topics, member.name)
             if member.page is not None and member.page.get("whole"):
                 found[member.name + PAGE] = rights_of_reader(topics)
+        for site in self.sites:
+            found[site.name] = united(found[site.name])
         for login in self.logins:
             match login.role:
                 case "operator":
@@ -194,15 +228,21 @@ class Tree:
                     found[login.name] = rights_of_grid_operator(topics, login.relays)
         return found
 
-    def with_device(self, device: Member) -> Tree:
-        """The tree with one more device. Without a number it gets the one behind the greatest of its parent. Raises BadSettings."""
+    def with_device(self, device: Member, site: str | None = None) -> Tree:
+        """The tree with one more device, which runs in a site or by itself.
+
+        Without a number it gets the one behind the greatest of its parent. Raises BadSettings.
+        """
         parent = self.member(device.parent or "")
         if device.child is None:
             numbers = [child.child or 0 for child in self.children(parent.name)]
             number = max(numbers, default=0) + 1
             number += number == _giver_of(parent)
             device = replace(device, child=_require_child(number, device.name))
-        return replace(self, members=(*self.members, device))
+        if site is not None and site not in (known := [one.name for one in self.sites]):
+            raise BadSettings(f"no site is called {site}: {f'give {chr(32).join(known)}' if known else 'the market has none'}")
+        sites = tuple(replace(one, nodes=(*one.nodes, device.name)) if one.name == site else one for one in self.sites)
+        return replace(self, members=(*self.members, device), sites=sites)
 
     def to_tables(self) -> dict[str, dict[str, Any]]:
         """The tables of a file that names this market, with all numbers."""
@@ -214,6 +254,8 @@ class Tree:
                 found["auctioneer"] = {"name": member.name, **told}
             else:
                 found.setdefault(f"{member.sort}s", {})[member.name] = told
+        if self.sites:
+            found["sites"] = {site.name: site.to_table() for site in self.sites}
         if self.logins:
             found["logins"] = {
                 login.name: {"role": login.role, "relays": list(login.relays) or None, "database": login.database} for login in self.logins
@@ -258,7 +300,8 @@ def tree_of(tables: Mapping[str, Any]) -> Tree:
             place = f"{word}.{name}"
             members.append(_member(cast(Sort, sort), name, {"parent": root.name, **table_of(table, place)}, place))
     logins = [_login(name, table_of(table, f"logins.{name}")) for name, table in tables.get("logins", {}).items()]
-    return Tree(market, basis, broker, tuple(_numbered(members)), tuple(logins), prices)
+    sites = [site_plan_of(name, table) for name, table in tables.get("sites", {}).items()]
+    return Tree(market, basis, broker, tuple(_numbered(members)), tuple(logins), prices, tuple(sites))
 
 
 def _member(sort: Sort, name: str, table: Mapping[str, Any], place: str) -> Member:

@@ -89,6 +89,15 @@ def rights_of_node(topics: Topics, place: Place) -> list[Right]:
     return found
 
 
+def united(rights: Iterable[Right]) -> list[Right]:
+    """What a login may do that has all of these rights, each topic once: that of a site has those of its nodes."""
+    found: dict[str, Access] = {}
+    for right in rights:
+        is_same = found.setdefault(right.topic, right.access) == right.access
+        found[right.topic] = right.access if is_same else "readwrite"
+    return [Right(access, topic) for topic, access in found.items()]
+
+
 def rights_of_control(topics: Topics, device: str) -> list[Right]:
     """What the login of a device's own control may do."""
     return [Right("read", topics.basis), *_below(topics, device, _OF_CONTROL)]

@@ -12,11 +12,12 @@ import math
 import resource
 import time
 from collections import deque
-from collections.abc import Callable, Sequence
+from collections.abc import Callable, Iterable, Sequence
 from functools import partial
 
 from ..logs import NodeLog
 from .errors import LiveError
+from .frames import Sort
 from .loop import Loop
 from .node import TICK, Node
 from .service import PolledService
@@ -160,9 +161,14 @@ class Site:
         self._loop.close()
 
 
+def files_of(sorts: Iterable[Sort]) -> int:
+    """How many files a site has open that has nodes of these sorts."""
+    return FILES + sum(FILES_OF_DEVICE if sort == "device" else FILES_OF_PARENT for sort in sorts)
+
+
 def require_files(nodes: Sequence[Settings]) -> None:
     """Lets these nodes have their open files. Raises LiveError if the system allows too few."""
-    needed = FILES + sum(FILES_OF_DEVICE if node.sort == "device" else FILES_OF_PARENT for node in nodes)
+    needed = files_of(node.sort for node in nodes)
     soft, hard = resource.getrlimit(resource.RLIMIT_NOFILE)
     if hard != resource.RLIM_INFINITY and hard < needed:
         raise LiveError(f"{len(nodes)} nodes need {needed} open files, and {hard} are allowed: raise LimitNOFILE of the unit, or ulimit -n")

@@ -4,7 +4,7 @@ from __future__ import annotations
 
 import os
 from collections.abc import Mapping
-from dataclasses import dataclass
+from dataclasses import dataclass, replace
 from pathlib import Path
 from typing import Any, cast
 
@@ -46,6 +46,16 @@ class SiteSettings:
         """Raises BadSettings if a file that a node needs is missing or cannot be read."""
         for node in {(node.live, node.broker): node for node in self.nodes}.values():
             node.require_files()
+
+    def with_passwords_in(self, folder: str) -> SiteSettings:
+        """The same settings, with each file of a password in this folder, under the name that it has where the settings say."""
+
+        def moved(path: str | None) -> str | None:
+            return None if path is None else str(Path(folder) / Path(path).name)
+
+        broker = replace(self.broker, password_file=moved(self.broker.password_file))
+        pages = [None if node.page is None else replace(node.page, password_file=moved(node.page.password_file)) for node in self.nodes]
+        return replace(self, broker=broker, nodes=tuple(replace(node, broker=broker, page=page) for node, page in zip(self.nodes, pages, strict=True)))
 
 
 @dataclass(frozen=True)

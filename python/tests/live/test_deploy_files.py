@@ -14,11 +14,13 @@ from cogmaula.deploy import BadSettings, Member, add_device, init_market, keys, 
 from cogmaula.deploy.broker_files import limits_of
 from cogmaula.deploy.files import Places
 from cogmaula.deploy.node_files import tables_of
+from cogmaula.deploy.site_plan import SitePlan
 from cogmaula.deploy.toml_text import toml_text
 from cogmaula.deploy.tree import tree_of
 from cogmaula.live import Node, settings_of
 from cogmaula.live.kinds import DeviceKind
-from cogmaula.live.rights import Right
+from cogmaula.live.rights import Right, united
+from cogmaula.live.site_settings import site_settings_of
 
 BASIS = "[basis]\nmin = 0\nmax = 9\nsteps = 10\n"
 RELAYS = "[relays.a]\n[relays.b]\nparent = 'a'\n"
@@ -62,6 +64,21 @@ NO_MARKETS = [
     ("[logins.a]\nrole = 'reader'\ndatabase = 'postgresql://a@b/c d'", "logins.a.database is"),
     ("[relays.b]\n[logins.a]\nrole = 'grid operator'\nrelays = ['b']", "limits b, no relay with limits_from"),
     ("[logins.a]\nrole = 'reader'\nrelays = 'b'", "logins.a.relays is 'b'"),
+    ("[devices.a]\n[sites.s]\nnodes = ['a', 'x']", "sites.s.nodes has x, which is no node of the file: give the auctioneer, a relay or a device"),
+    ("[devices.a]\n[sites.s]\nnodes = ['a']\n[sites.t]\nnodes = ['a']", "sites.t.nodes has a, and sites.s.nodes has it too: a node runs in one site"),
+    ("[devices.a]\n[sites.s]\nnodes = ['a', 'a']", "sites.s.nodes has a, twice"),
+    ("[devices.a]\nhost = 'x'\n[devices.b]\nhost = 'y'\n[sites.s]\nnodes = ['a', 'b']", "sites.s would run on x and y: a site is one process"),
+    ("[devices.a]\nhost = 'x'\n[sites.s]\nhost = 'z'\nnodes = ['a']", "sites.s would run on z and x: a site is one process"),
+    ("[sites.s]", "sites.s.nodes is missing"),
+    ("[sites.s]\nnodes = []", "sites.s.nodes is \\[\\]: give the names of its nodes"),
+    ("[sites.s]\nnodes = 'a'", "sites.s.nodes is 'a': give the names of its nodes"),
+    ("[sites.s]\nnodes = [1]", "sites.s.nodes is \\[1\\]: give the names of its nodes"),
+    ("[devices.a]\n[sites.s]\nhost = 1\nnodes = ['a']", "sites.s.host is 1: give a text"),
+    ("[devices.a]\n[sites.s]\nnodes = ['a']\nport = 1", "sites.s.port is not known: host, nodes are"),
+    ("[devices.a]\n[sites.a]\nnodes = ['a']", "a is there twice: give another name"),
+    ("[devices.a]\n[sites.broker]\nnodes = ['a']", "broker is a name of another folder"),
+    ("[devices.a]\n[sites.'s t']\nnodes = ['a']", "a site is 's t'"),
+    ("[sites]\ns = 1", "sites.s is 1, and no table"),
 ]
 
 
@@ -154,6 +171,198 @@ def test_each_node_may_read_what_it_subscribes_to_and_write_its_will(tmp_path):
 )
 def test_a_right_allows(right, topic, due):
     assert right.allows("read", topic) is due
+
+
+def test_a_refusal_has_the_name_of_the_file(tmp_path):
+    path = tmp_path / "town.toml"
+    path.write_text(f"{BASIS}[sites.s]\nnodes = ['x']\n")
+    with pytest.raises(BadSettings, match=f"^{path}: sites.s.nodes has x"):
+        read_tree(path)
+
+
+@pytest.mark.parametrize(
+    ("rights", "due"),
+    [
+        ([Right("read", "m/a"), Right("read", "m/a")], [Right("read", "m/a")]),
+        ([Right("read", "m/a"), Right("write", "m/a")], [Right("readwrite", "m/a")]),
+        ([Right("readwrite", "m/a"), Right("read", "m/b"), Right("write", "m/a")], [Right("readwrite", "m/a"), Right("read", "m/b")]),
+        ([Right("read", "m/+"), Right("write", "m/a")], [Right("read", "m/+"), Right("write", "m/a")]),
+    ],
+)
+def test_rights_are_united_topic_by_topic(rights, due):
+    assert united(rights) == due
+
+
+SITE = """
+[broker]
+host = "broker.example"
+[relays.street]
+pause = 2.0
+[devices.house]
+parent = "street"
+greatest = 5000
+control = true
+[devices.store]
+parent = "street"
+page = "127.0.0.1:8081"
+host = "attic"
+[devices.store.device]
+kind = "load"
+[devices.mill]
+[sites.block]
+nodes = ["street", "house", "store"]
+"""
+# What `cogmaula market init` makes of it for the site, by hand.
+SITE_SETTINGS = """\
+# Made by `cogmaula market`. The site block.
+[site]
+name = "block"
+state = "/var/lib/market/block"
+
+[basis]
+min = 0
+max = 9
+steps = 10
+
+[broker]
+host = "broker.example"
+port = 8883
+prefix = "market"
+user = "block"
+password_file = "/etc/market/block.password"
+ca = "/etc/market/ca.crt"
+
+[prices]
+together = true
+
+[nodes.street]
+sort = "relay"
+parent = "auctioneer"
+child = 1
+pause = 2.0
+
+[nodes.street.children.house]
+child = 1
+sort = "device"
+greatest = 5000
+pause = 1.0
+
+[nodes.street.children.store]
+child = 2
+sort = "device"
+pause = 1.0
+
+[nodes.house]
+sort = "device"
+parent = "street"
+child = 1
+
+[nodes.store]
+sort = "device"
+parent = "street"
+child = 2
+
+[nodes.store.page]
+listen = "127.0.0.1:8081"
+whole = true
+user = "store.page"
+password_file = "/etc/market/store.page.password"
+
+[nodes.store.device]
+kind = "load"
+"""
+SITE_SCRIPT = """\
+#!/bin/sh
+# Made by `cogmaula market`. Puts the files of the site block on this machine, and starts it. To be run as root; it may run again.
+set -e
+cd "$(dirname "$0")"
+install -d -m 755 /etc/market
+install -m 644 ca.crt block.toml /etc/market
+install -m 600 block.password store.page.password /etc/market
+install -m 644 market-site-block.service /etc/systemd/system
+systemctl daemon-reload
+systemctl enable market-site-block
+systemctl restart market-site-block
+"""
+# Four files of each device, five of a parent, and 128 of the site itself; a process of each node, and more for a page.
+SITE_UNIT = """\
+ExecStart=/opt/cogmaula site /etc/market/block.toml --password-folder %d
+LoadCredential=block.password:/etc/market/block.password
+LoadCredential=store.page.password:/etc/market/store.page.password
+StateDirectory=market/block
+MemoryMax=515M
+TasksMax=51
+LimitNOFILE=141
+TimeoutStopSec=15
+WatchdogSec=60
+""".splitlines()
+SITE_CONTAINER = """
+  block:
+    <<: *node
+    entrypoint: [cogmaula, site]
+    command: [/etc/market/block.toml]
+    volumes: ["./block:/etc/market:ro", "block:/var/lib/market"]
+"""
+
+
+def site_tree():
+    """The tree of SITE, whose nodes call another cogmaula."""
+    return tree("[market]\ncommand = '/opt/cogmaula'\n" + SITE)
+
+
+def test_a_site_has_one_folder_login_unit_and_container(tmp_path):
+    require_programs()
+    out = tmp_path / "market"
+    lines = init_market(site_tree(), out)
+    assert lines[:5] == [
+        "broker.example: broker", "the machine of auctioneer: auctioneer", "attic: block", "the machine of mill: mill", "the machine of house.control: house.control",
+    ]
+    assert {path.name for path in out.iterdir() if path.is_dir()} == {"authority", "broker", "auctioneer", "block", "mill", "house.control"}
+    assert {path.name for path in (out / "block").iterdir()} == {
+        "ca.crt", "install.sh", "block.toml", "block.password", "store.page.password", "market-site-block.service",
+    }
+    assert (out / "block" / "block.toml").read_text() == SITE_SETTINGS
+    assert (out / "block" / "install.sh").read_text() == SITE_SCRIPT
+    unit = (out / "block" / "market-site-block.service").read_text().splitlines()
+    assert [line for line in SITE_UNIT if unit.count(line) != 1] == []
+    compose = (out / "compose.yaml").read_text()
+    assert SITE_CONTAINER in compose and compose.endswith("\nvolumes:\n  broker:\n  auctioneer:\n  mill:\n  block:\n")
+    assert "street" not in compose.replace("block", "")
+    logins = [line.partition(":")[0] for line in (out / "broker" / "passwords").read_text().splitlines()]
+    assert sorted(logins) == ["auctioneer", "block", "house.control", "mill", "store.page"]
+    assert read_tree(out / "tree.toml") == site_tree()
+    assert site_settings_of(tomllib.loads(SITE_SETTINGS)).name == "block"
+
+
+def test_a_device_more_comes_into_a_site(tmp_path, capsys):
+    require_programs()
+    out = tmp_path / "market"
+    init_market(site_tree(), out)
+    before = {path: path.read_bytes() for path in out.rglob("*") if path.is_file()}
+    words = ["market", "add", "car", "--out", str(out), "--parent", "street", "--least", "-10", "--control", "--site", "block"]
+    assert main(words) == 0
+    assert capsys.readouterr().out.splitlines()[:3] == ["broker.example: broker", "attic: block", "the machine of car.control: car.control"]
+    changed = {str(path.relative_to(out)) for path, text in before.items() if path.read_bytes() != text}
+    units = {"block/block.toml", "block/market-site-block.service"}
+    assert changed == {"tree.toml", "compose.yaml", "broker/passwords", "broker/mosquitto.acl", *units}
+    assert {path.name for path in out.iterdir() if path.is_dir()} - {path.parent.name for path in before} == {"car.control"}
+    told = (out / "block" / "block.toml").read_text()
+    assert '[nodes.car]\nsort = "device"\nparent = "street"\nchild = 3\n' in told
+    assert '[nodes.street.children.car]\nchild = 3\nsort = "device"\nleast = -10\npause = 1.0\n' in told
+    assert read_tree(out / "tree.toml").sites == (SitePlan("block", ("street", "house", "store", "car")),)
+    assert main([*words[:2], "bus", *words[3:-1], "east"]) == 2
+    assert "no site is called east: give block" in capsys.readouterr().err
+    assert main([*words[:2], "bus", *words[3:], "--host", "garage"]) == 2
+    assert "sites.block would run on attic and garage" in capsys.readouterr().err
+    with pytest.raises(BadSettings, match="no site is called east: the market has none"):
+        tree("[relays.a]").with_device(Member("device", "b", "a"), "east")
+
+
+def test_a_wrong_setting_of_a_node_of_a_site_is_named(tmp_path):
+    told = tree("[devices.a]\nfallback = 'x'\n[sites.s]\nnodes = ['a']")
+    with pytest.raises(BadSettings, match="s: nodes.a: node.fallback is 'x': give a whole number"):
+        init_market(told, tmp_path / "market")
+    assert not (tmp_path / "market").exists()
 
 
 def require_programs():

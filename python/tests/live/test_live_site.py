@@ -12,6 +12,8 @@ import pytest
 from brokers import SECONDS, Mosquitto, Onlooker, require_broker, wait_until
 from markets import BASIS, PLACES, STEPS, Market, falls_at
 
+from cogmaula.cli import main
+from cogmaula.deploy.toml_text import toml_text
 from cogmaula.live import BadSettings
 from cogmaula.live.service import PolledService
 from cogmaula.live.site import Site
@@ -202,3 +204,15 @@ def test_each_node_has_a_folder_and_what_its_table_says(tmp_path):
     one, other = found.nodes
     assert (one.name, one.sort, one.fallback, one.device.kind, one.state) == ("house", "device", 5, "load", str(tmp_path / "north" / "house"))
     assert (other.prices.together, [child.least for child in other.children], other.broker.port) == (False, [0], 1883)
+
+
+def test_passwords_may_be_in_another_folder(tmp_path, capsys):
+    """That of the broker is looked for there, under the name of the settings: a file of that name is missing only there."""
+    (tmp_path / "north.password").write_text("word\n")
+    tables = tables_of(tmp_path, 1, "/usr/bin/true", "house")
+    tables["broker"] |= {"user": "north", "password_file": str(tmp_path / "north.password")}
+    path = tmp_path / "north.toml"
+    path.write_text(toml_text(tables))
+    assert main(["site", str(path), "--password-folder", str(tmp_path / "given")]) == 2
+    assert f"broker.password_file is {tmp_path}/given/north.password, which cannot be read" in capsys.readouterr().err
+    site_settings_of(tables).require_files()

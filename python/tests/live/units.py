@@ -17,7 +17,11 @@ class Unit:
         handed = [credential.partition(":") for credential in self.all("LoadCredential")]
         self.credentials = {f"/run/credentials/{unit}/{name}" for name, _, _ in handed}
         # Files that the unit hands over by an option, which goes before the settings.
-        self.options = {path for name, _, path in handed if f"%d/{name}" in self.all("ExecStart")[0]}
+        command = self.all("ExecStart")[0]
+        self.options = {path for name, _, path in handed if f"%d/{name}" in command}
+        if "--password-folder %d" in command:
+            # Under the name that each has in the settings.
+            self.options |= {path for name, _, path in handed if path.endswith(f"/{name}")}
         assert self.all("DynamicUser") == ["yes"] and self.all("ProtectSystem") == ["strict"]
 
     def all(self, name):
