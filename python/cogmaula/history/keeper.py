@@ -10,7 +10,7 @@ import logging
 import threading
 from typing import Any
 
-from ..live.broker import Message
+from ..live.broker_link import Message
 from ..live.connection import (
     FIRST_PAUSE,
     LONGEST_PAUSE,

@@ -7,7 +7,7 @@ from collections.abc import Callable
 from dataclasses import dataclass, field
 from typing import Any
 
-from ..live.broker import Message
+from ..live.broker_link import Message
 from ..live.children import SESSION, TIME
 from ..live.errors import BadFrame, BadMessage
 from ..live.frames import BIDS, PRICES, Bid, Gone, Price, frame_of

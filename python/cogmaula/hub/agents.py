@@ -4,7 +4,7 @@ from __future__ import annotations
 
 import asyncio
 
-from ..live.broker import Message
+from ..live.broker_link import Message
 from ..live.errors import BadMessage, BadSettings, LiveError, NodeRefused
 from ..live.frames import RESUMES, AuctioneerResume, frame_of
 from ..live.node import Node

@@ -4,7 +4,7 @@ from __future__ import annotations
 
 import math
 
-from .broker import Link, Publication
+from .broker_link import Link, Publication
 from .frames import Bid
 from .keeping import Keeping
 from .sessions import now_text

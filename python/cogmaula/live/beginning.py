@@ -7,7 +7,7 @@ from collections.abc import Mapping
 from dataclasses import dataclass, replace
 
 from ..logs import NodeLog
-from .broker import Message
+from .broker_link import Message
 from .children import BIDS_OF_SUM, FORM, RELAYS, SESSION, TIME
 from .errors import BadFrame, BadMessage, NodeRefused, OtherTerms
 from .frames import BIDS, FIRST_FORM, RESUMES, AuctioneerResume, Bid, DeviceResume, Gone, RelayResume, Resume, ResumeGone, frame_of

@@ -6,7 +6,7 @@ import threading
 from collections.abc import Callable, Iterable
 
 from ..logs import NodeLog
-from .broker import Message
+from .broker_link import Message
 from .sessions import now_text
 
 # The most topics that are kept, and the most bytes of their messages together.

@@ -9,7 +9,7 @@ from enum import Enum, auto
 from functools import cached_property
 
 from ..logs import NodeLog
-from .broker import Message
+from .broker_link import Message
 from .errors import BadFrame
 from .frames import BIDS, Bid, Gone, frame_of
 from .messages import VERSION

@@ -6,7 +6,7 @@ from collections.abc import Callable, Mapping
 from dataclasses import dataclass
 from typing import TypeVar
 
-from .broker import Message
+from .broker_link import Message
 from .children import SESSION, TIME
 from .errors import BadFrame, BadMessage
 from .frames import BIDS, PRICES, Bid, Gone, Kinds, Old, Price, frame_of

@@ -5,7 +5,7 @@ from __future__ import annotations
 from dataclasses import replace
 from typing import Any
 
-from .broker import Link, Publication
+from .broker_link import Link, Publication
 from .children import FORM, SESSION, TIME
 from .messages import VERSION
 from .store import Store, Stored

@@ -7,7 +7,7 @@ import time
 from collections.abc import Callable, Iterable
 
 from ..logs import NodeLog
-from .broker import Link, Message
+from .broker_link import Link, Message
 from .children import Children, Heard
 from .errors import BadMessage, BadSettings
 from .frames import AuctioneerResume, Bound, Expire, Gone, Old, RelayResume, TooMuch

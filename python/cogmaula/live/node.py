@@ -15,7 +15,8 @@ from typing import Literal
 
 from ..logs import NodeLog
 from .beginning import Beginning, resume_of
-from .broker import Arrived, Broker, Confirmed, Event, Link, Message, Publication, Settled
+from .broker import Broker
+from .broker_link import Arrived, Confirmed, Event, Link, Message, Publication, Settled
 from .children import SESSION, TIME
 from .control import Control, StandardControl
 from .counting import NodeFacts

@@ -10,7 +10,7 @@ import math
 from collections.abc import Callable, Collection
 
 from ..logs import NodeLog
-from .broker import Link, Message, Publication
+from .broker_link import Link, Message, Publication
 from .children import SESSION, TIME
 from .errors import BadFrame
 from .frames import PRICES, Old, Price, frame_of

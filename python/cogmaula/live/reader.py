@@ -8,7 +8,8 @@ from typing import Any
 
 from ..logs import NodeLog
 from .board import Board
-from .broker import FLOOD, Message
+from .broker import FLOOD
+from .broker_link import Message
 from .connection import (
     FIRST_PAUSE,
     LONGEST_PAUSE,

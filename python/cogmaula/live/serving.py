@@ -17,7 +17,7 @@ from ..logs import NodeLog
 from .asking import Asking
 from .beating import Beating
 from .bids import BidLog
-from .broker import Link, Publication
+from .broker_link import Link, Publication
 from .children import BIDS_OF_SUM, NODE, RELAYS, SORT, VALID, Children
 from .control import Control
 from .controlling import Controlling

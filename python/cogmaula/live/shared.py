@@ -14,7 +14,8 @@ from collections.abc import Callable, Iterable, Sequence
 from typing import Any
 
 from ..logs import NodeLog
-from .broker import Broker, Event, Message, Publication, message_of
+from .broker import Broker
+from .broker_link import Event, Message, Publication, message_of
 from .connection import (
     FIRST_PAUSE,
     LONGEST_PAUSE,

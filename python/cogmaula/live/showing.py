@@ -8,7 +8,7 @@ from dataclasses import replace
 from ..errors import MarketError
 from ..logs import NodeLog
 from .board import Board
-from .broker import Message
+from .broker_link import Message
 from .counting import NodeFacts
 from .page import Page
 from .page_settings import PageSettings

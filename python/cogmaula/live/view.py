@@ -10,7 +10,7 @@ from dataclasses import asdict, dataclass, replace
 from typing import Any, Literal
 
 from ..cluster import Basis
-from .broker import Message
+from .broker_link import Message
 from .frames import Bid, Gone, Price, Sort
 from .heard import Heard, NotTaken, Place, time_or_none
 from .messages import SetpointMessage, StateMessage

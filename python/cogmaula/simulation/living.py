@@ -20,7 +20,7 @@ from ..errors import NoProgram
 from ..hub.exchange import Exchange
 from ..hub.hub_page import Showing
 from ..hub.node_thread import Running
-from ..live.broker import Message
+from ..live.broker_link import Message
 from ..live.counting import NodeFacts
 from ..live.errors import LiveError
 from ..live.frames import MOST, AnyOffer, Leave, Sort, Stated

@@ -9,7 +9,7 @@ import pytest
 from logged import QUIET
 
 from cogmaula.hub import Exchange
-from cogmaula.live.broker import Arrived, Message, Publication, Settled
+from cogmaula.live.broker_link import Arrived, Message, Publication, Settled
 
 
 class Reader:

@@ -8,7 +8,7 @@ from logged import log_to
 
 from cogmaula.cluster import Basis
 from cogmaula.live import messages
-from cogmaula.live.broker import Arrived, Confirmed, Message, Settled
+from cogmaula.live.broker_link import Arrived, Confirmed, Message, Settled
 from cogmaula.live.frames import AuctioneerResume, Bid, DeviceResume, Gone, Price, RelayResume, ResumeGone
 from cogmaula.live.messages import BasisMessage, StateMessage
 from cogmaula.live.service import Came, Ended

@@ -14,7 +14,7 @@ from markets import BASIS, PLACES, STEPS, Control
 from pretended import PretendedLink, turn
 
 from cogmaula.live import compressing
-from cogmaula.live.broker import Arrived, Message
+from cogmaula.live.broker_link import Arrived, Message
 from cogmaula.live.frames import READS, WRITES, frame_of
 from cogmaula.live.node import Node
 from cogmaula.live.recording import numbered_files

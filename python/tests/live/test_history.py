@@ -21,7 +21,7 @@ from told import Told, village
 from cogmaula.cli import main
 from cogmaula.history import Row, open_database, rows_of
 from cogmaula.history.days import span_of
-from cogmaula.live.broker import Message
+from cogmaula.live.broker_link import Message
 from cogmaula.live.errors import BadMessage, BadSettings
 from cogmaula.live.frames import BIDS, Bid, frame_of
 from cogmaula.live.messages import LapseMessage, SilentMessage

@@ -13,7 +13,8 @@ import pytest
 from brokers import SECONDS, Certificates, Mosquitto, Onlooker, free_port, passwords, require_broker, wait_until
 from logged import QUIET, log_to
 
-from cogmaula.live.broker import Broker, Confirmed, Message, Publication, Settled
+from cogmaula.live.broker import Broker
+from cogmaula.live.broker_link import Confirmed, Message, Publication, Settled
 from cogmaula.live.connection import Waiting, words_of, words_of_end
 from cogmaula.live.settings import BrokerSettings
 

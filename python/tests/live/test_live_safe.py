@@ -29,7 +29,7 @@ from pretended import (
 
 from cogmaula.live import BadSettings, NodeRefused, bids
 from cogmaula.live.board import Board
-from cogmaula.live.broker import Message
+from cogmaula.live.broker_link import Message
 from cogmaula.live.children import Heard
 from cogmaula.live.frames import Leave, NotCaughtUp, NotChanged, Offer, Send, Setpoint
 from cogmaula.live.messages import LOST

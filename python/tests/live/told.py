@@ -5,7 +5,7 @@ from __future__ import annotations
 from pretended import MOMENT, SESSION
 
 from cogmaula.cluster import Basis
-from cogmaula.live.broker import Message
+from cogmaula.live.broker_link import Message
 from cogmaula.live.frames import Bid, Gone, Price, Setpoint
 from cogmaula.live.messages import BasisMessage, StateMessage, setpoint_bytes
 from cogmaula.live.price_table import PriceTable
