@@ -1,4 +1,4 @@
-"""Workers that keep to a processor each, if the system lets them.
+"""Runs and workers that keep to a processor each, if the system lets them.
 
 The threads of a run take turns under one lock. To wake a thread on another processor costs more than the move that it makes. So a run
 on one processor takes about half the processor time, and several runs side by side use all processors.
@@ -6,9 +6,14 @@ on one processor takes about half the processor time, and several runs side by s
 
 from __future__ import annotations
 
+import itertools
 import os
-from collections.abc import Iterable
+from collections.abc import Iterable, Iterator
+from contextlib import contextmanager
 from typing import Protocol
+
+# Whose turn it is. It begins anywhere, so that processes beside each other take several.
+_turns = itertools.count(os.getpid())
 
 
 class Numbers(Protocol):
@@ -48,3 +53,21 @@ def keep_to_one(queue: Numbers) -> None:
             os.sched_setaffinity(0, {number})
         except OSError:
             pass
+
+
+@contextmanager
+def on_one() -> Iterator[None]:
+    """Lets this thread, and what it starts here, use one processor alone, each time the next. A system that refuses changes nothing."""
+    numbers = usable()
+    if len(numbers) < 2:
+        yield
+        return
+    try:
+        os.sched_setaffinity(0, {numbers[next(_turns) % len(numbers)]})
+    except OSError:
+        yield
+        return
+    try:
+        yield
+    finally:
+        os.sched_setaffinity(0, numbers)

@@ -11,11 +11,13 @@ import os
 import re
 import shutil
 import subprocess
+from contextlib import nullcontext
 from dataclasses import dataclass, field
 from functools import cache
 from pathlib import Path
 from typing import NoReturn
 
+from . import processors
 from .errors import Invalid, MarketError, NoProgram, OutOfMemory, Place, ProgramFault, Refused, TooLong, What
 
 VARIABLE, LIVE_VARIABLE = "COGMAULA_MARKET", "COGMAULA_LIVE"
@@ -25,6 +27,8 @@ REFUSED = re.compile(rb"refused (\d+) (document|basis|node|phase|event|line)((?:
 TOO_LONG = re.compile(rb"too long, more than (\d+) bytes\n")
 INVALID = re.compile(rb"invalid line (\d+)\n")
 FAULT_FRAME = 8
+# The commands whose threads take turns under one lock, and so take least time on one processor.
+TAKING_TURNS = ("run", "trace", "bill", "ask", "check")
 
 
 @dataclass(frozen=True)
@@ -76,25 +80,33 @@ class Program:
 
         Raises Refused, TooLong, Invalid, OutOfMemory or ProgramFault, each by its status, and NoProgram if the file changed.
         """
-        self._require_same()
-        try:
-            done = subprocess.run([self.path, command], input=data, capture_output=True, timeout=timeout, check=False)
-        except subprocess.TimeoutExpired:
-            raise ProgramFault(f"{command} did not end within {timeout} seconds") from None
-        except OSError as error:
-            raise ProgramFault(f"{self.path} cannot be started: {error.strerror}") from None
-        if done.returncode != 0:
-            _raise_for(command, done.returncode, done.stdout, done.stderr)
-        return done.stdout
+        with self._started(command, with_faults=True) as running:
+            try:
+                text, said = running.communicate(data, timeout)
+            except subprocess.TimeoutExpired:
+                running.kill()
+                raise ProgramFault(f"{command} did not end within {timeout} seconds") from None
+            except BaseException:
+                running.kill()
+                raise
+        if running.returncode != 0:
+            _raise_for(command, running.returncode, text, said)
+        return text
 
     def open(self, command: str) -> subprocess.Popen[bytes]:
         """Starts the program for a command that answers as its input comes, such as serve, with pipes to both.
 
         Raises NoProgram if the file changed, and ProgramFault if it cannot be started.
         """
+        return self._started(command)
+
+    def _started(self, command: str, *, with_faults: bool = False) -> subprocess.Popen[bytes]:
+        """The program, started for a command, with pipes to its input and output, and if they are wanted also to its standard error."""
         self._require_same()
+        faults = subprocess.PIPE if with_faults else None
         try:
-            return subprocess.Popen([self.path, command], stdin=subprocess.PIPE, stdout=subprocess.PIPE)
+            with processors.on_one() if command in TAKING_TURNS else nullcontext():
+                return subprocess.Popen([self.path, command], stdin=subprocess.PIPE, stdout=subprocess.PIPE, stderr=faults)
         except OSError as error:
             raise ProgramFault(f"{self.path} cannot be started: {error.strerror}") from None
 

@@ -37,6 +37,17 @@ def pretending(tmp_path, status, text=b"", said=""):
     )
 
 
+def test_a_question_keeps_to_one_processor(tmp_path):
+    """Its threads take turns. What asks keeps its own processors, and questions one after another take all of them."""
+    own = os.sched_getaffinity(0)
+    program = Program.find(script(tmp_path / "program", "#!/bin/sh\ngrep Cpus_allowed_list /proc/self/status\n"))
+    told = [program.answer(command, b"").split()[1] for command in ("run", "bill", "trace", "ask", "check") for _ in own]
+    assert {int(one) for one in told} == own
+    assert os.sched_getaffinity(0) == own
+    # The threads of `free` share no lock.
+    assert len(own) == 1 or not program.answer("free", b"").split()[1].isdigit()
+
+
 # Where it is found.
 
 
