@@ -4,11 +4,12 @@ from __future__ import annotations
 
 import argparse
 import contextlib
+import gc
 import importlib
 import os
 import pkgutil
 import sys
-from collections.abc import Sequence
+from collections.abc import Iterator, Sequence
 from datetime import datetime
 from typing import Protocol, cast
 
@@ -24,6 +25,8 @@ from .version import __version__
 FAILED, MISUSED, REFUSED, INTERRUPTED = 1, 2, 5, 130
 # The code of a refusal for too many phases, events or changes.
 TOO_MANY = 20
+# The commands that make many values of a file and end, and after how many new values Python looks for cycles in them.
+MAKING_MANY, MANY_VALUES = ("chain", "continue", "from-csv", "report", "run"), 200_000
 
 
 class Command(Protocol):
@@ -76,8 +79,8 @@ def source_of(name: str) -> str | bytes:
     return sys.stdin.buffer.read() if name == "-" else name
 
 
-def make_parser() -> argparse.ArgumentParser:
-    """The parser of all commands."""
+def make_parser(only: str | None = None) -> argparse.ArgumentParser:
+    """The parser of all commands, or of one alone, since to load all of them takes longer than to do what one does."""
     parser = argparse.ArgumentParser(
         prog="cogmaula",
         description="From measured data to a decision, around the proved electronic market.",
@@ -86,6 +89,8 @@ def make_parser() -> argparse.ArgumentParser:
     parser.add_argument("--version", action="version", version=f"cogmaula {__version__}")
     below = parser.add_subparsers(dest="command", metavar="COMMAND", required=True)
     for name, module in command_names().items():
+        if only not in (None, name):
+            continue
         command = command_of(module)
         one = below.add_parser(
             name, help=command.HELP, description=f"{command.HELP[0].upper()}{command.HELP[1:]}. {command.MORE}"
@@ -105,11 +110,14 @@ def program_of(arguments: argparse.Namespace) -> Program:
 
 def main(words: Sequence[str] | None = None) -> int:
     """Runs the command of these words, by default those of the command line, and gives the exit status."""
-    parser = make_parser()
+    words = sys.argv[1:] if words is None else list(words)
+    is_known = bool(words) and words[0] in command_names() and "_ARGCOMPLETE" not in os.environ
+    parser = make_parser(words[0] if is_known else None)
     complete(parser)
     arguments = parser.parse_args(words)
     try:
-        return int(arguments.main(arguments))
+        with rarely_collecting() if arguments.command in MAKING_MANY else contextlib.nullcontext():
+            return int(arguments.main(arguments))
     except KeyboardInterrupt:
         print("cogmaula: interrupted", file=sys.stderr)
         return INTERRUPTED
@@ -126,6 +134,19 @@ def main(words: Sequence[str] | None = None) -> int:
     except (MarketError, OSError) as error:
         print(f"cogmaula: {error}", file=sys.stderr)
         return FAILED
+
+
+@contextlib.contextmanager
+def rarely_collecting() -> Iterator[None]:
+    """Lets Python seldom look for cycles of values: a script has a value for each event, and none of them is in a cycle."""
+    before = gc.get_threshold()
+    gc.freeze()
+    gc.set_threshold(MANY_VALUES, *before[1:])
+    try:
+        yield
+    finally:
+        gc.set_threshold(*before)
+        gc.unfreeze()
 
 
 def complete(parser: argparse.ArgumentParser) -> None:

@@ -2,6 +2,7 @@
 
 from __future__ import annotations
 
+import gc
 import io
 import json
 import os
@@ -30,6 +31,20 @@ def test_help_of_each_command(name, capsys):
     text = " ".join(capsys.readouterr().out.split())
     assert text.startswith(f"usage: cogmaula {name}")
     assert command_of(command_names()[name]).HELP[1:] in text
+
+
+def test_a_command_loads_no_other():
+    """To load the modules of a live market takes longer than a run."""
+    told = "import sys; from cogmaula.cli import main; main(['run', sys.argv[1]]); print([word for word in sys.modules if '.live' in word or '.hub' in word])"
+    done = subprocess.run([sys.executable, "-c", told, VILLAGE], cwd=TOP / "python", capture_output=True, text=True, check=True)
+    assert done.stdout == (EXAMPLES / "village.txt").read_text() + "[]\n"
+
+
+def test_a_command_leaves_the_collection_as_it_was(capsys):
+    before = gc.get_threshold(), gc.get_freeze_count()
+    assert main(["run", VILLAGE]) == 0
+    assert main(["run", "/nowhere"]) == 1
+    assert (gc.get_threshold(), gc.get_freeze_count()) == before
 
 
 def test_the_commands_are_listed(capsys):

@@ -11,8 +11,6 @@ from zoneinfo import ZoneInfo
 
 from .. import cli
 from ..data.supply import read_supply
-from ..history import open_database
-from ..live.errors import BadSettings
 from ..money import rate_of
 from ..report import Currency, history_page, report
 
@@ -97,6 +95,10 @@ def main(arguments: argparse.Namespace) -> int:
 
 def _report_history(arguments: argparse.Namespace, currency: Currency | None) -> int:
     """Writes the page of a day of a history."""
+    # These load what a live market needs.
+    from ..history import open_database
+    from ..live.errors import BadSettings
+
     if given := [name for name in OF_FILE if getattr(arguments, name) is not None]:
         arguments.fail(f"--{given[0]} goes with a cluster FILE")
     url = arguments.history if "://" in arguments.history else f"sqlite:///{arguments.history}"

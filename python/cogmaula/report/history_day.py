@@ -5,11 +5,14 @@ from __future__ import annotations
 from dataclasses import dataclass
 from datetime import UTC, datetime, timedelta
 from fractions import Fraction
+from typing import TYPE_CHECKING
 
 from ..errors import NoPackage
-from ..history.course import Course, Price, course_of
-from ..history.database import Database
 from ..money import Currency
+
+if TYPE_CHECKING:
+    from ..history.course import Course, Price
+    from ..history.database import Database
 
 # Watts times milliseconds of a kilowatt-hour.
 KILOWATT_HOUR = 3_600_000_000
@@ -60,6 +63,9 @@ def _midnight_after(begin: datetime) -> datetime:
 
 def day_of(database: Database, day: datetime, title: str | None = None, currency: Currency | None = None) -> Day:
     """What a history tells of a day. Raises DatabaseLost."""
+    # A history is of a live market, whose modules the page of a file does without.
+    from ..history.course import course_of
+
     begin, end = day_span(day)
     course = course_of(database, round(begin.timestamp() * 1000), round(end.timestamp() * 1000))
     return Day(title or f"The market on {begin:%Y-%m-%d}", begin, end, course, currency or Currency())
