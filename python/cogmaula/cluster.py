@@ -6,6 +6,7 @@ import json
 import os
 from collections.abc import Iterable
 from dataclasses import dataclass, replace
+from functools import cached_property
 from pathlib import Path
 from typing import Any
 
@@ -131,9 +132,9 @@ class Cluster:
                 return node
         raise KeyError(name)
 
-    @property
+    @cached_property
     def minutes(self) -> int:
-        """The minutes of all ticks."""
+        """The minutes of all ticks. They are kept, since a page asks for them for each battery and each span."""
         return sum(phase.minutes for phase in self.phases if isinstance(phase, Tick))
 
     def groups(self) -> dict[str, str | None]:

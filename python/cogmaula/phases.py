@@ -5,7 +5,7 @@ from __future__ import annotations
 import json
 from collections.abc import Iterable
 from dataclasses import dataclass
-from functools import cached_property
+from functools import cache, cached_property
 from typing import Any
 
 from .members import Demand, Points, look
@@ -57,6 +57,20 @@ class State:
 Event = Join | Leave | State
 
 
+@cache
+def _as_json(name: str) -> str:
+    """A name of a device as JSON. A script says each a thousand times."""
+    return json.dumps(name)
+
+
+def _event_line(event: Event) -> str:
+    """The event as JSON."""
+    if type(event) is State and type(event.value) is int and type(event.device) is str and event.demand is None and event.points is None:
+        # Nearly all events of a long script are of this form.
+        return f'{{"state": {_as_json(event.device)}, "value": {event.value}}}'
+    return json.dumps(event.members())
+
+
 @dataclass(frozen=True)
 class Events:
     """A phase of events, in their order. It takes no time."""
@@ -73,7 +87,7 @@ class Events:
     @cached_property
     def line(self) -> str:
         """The phase as JSON in a line. It is kept, since a script in parts is measured, run and billed."""
-        return json.dumps(self.members())
+        return f'{{"events": [{", ".join(map(_event_line, self.events))}]}}'
 
 
 @dataclass(frozen=True)

@@ -39,7 +39,7 @@ def _json(text: str | bytes) -> Any:
     """The JSON value of a text."""
     try:
         words = text.decode() if isinstance(text, bytes) else text
-        return json.loads(words, parse_int=_whole)
+        return json.loads(words, parse_int=_whole if "-0" in words else None)
     except UnicodeDecodeError as error:
         raise Unreadable("", f"the bytes are not UTF-8 at byte {error.start}") from None
     except RecursionError:

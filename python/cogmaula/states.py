@@ -14,7 +14,7 @@ from .cluster import Cluster
 from .limits import MOST_TEMPERATURE
 from .members import Demand, Points
 from .nodes import Battery, Cogeneration, Freezer, HeatPump, Manual, Node
-from .phases import Events, Join, Leave, Phase, State
+from .phases import Events, Join, Phase, State
 from .texts import PhaseEnd
 
 
@@ -70,13 +70,12 @@ def _after_events(now: Snapshot, phase: Events) -> Snapshot:
     """All devices after these events, which the program took."""
     states, members = dict(now.states), set(now.members)
     for event in phase.events:
-        match event:
-            case Join():
-                members.add(event.device)
-            case Leave():
-                members.discard(event.device)
-            case State(device, value):
-                states[device] = Bid(event.demand, event.points) if value is None else value
+        if isinstance(event, State):
+            states[event.device] = Bid(event.demand, event.points) if event.value is None else event.value
+        elif isinstance(event, Join):
+            members.add(event.device)
+        else:
+            members.discard(event.device)
     return Snapshot(states, frozenset(members))
 
 

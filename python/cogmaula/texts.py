@@ -172,22 +172,24 @@ def misread(words: list[str]) -> ProgramFault:
 def report_of(text: bytes) -> Report:
     """The report that a text of `run` or `free` is. Raises ProgramFault if it has another form."""
     # A line at a time: the words of a year's report at once would take ten times its memory.
-    return _report(line.decode("ascii").split(" ") for line in text.splitlines())
+    return _report(line.split(" ") for line in text.decode("ascii").splitlines())
 
 
 def _report(lines: Iterable[list[str]]) -> Report:
     """The report at the head of these lines. An iterator is left at the line behind it."""
     ends: list[PhaseEnd] = []
     groups: list[GroupEnd] = []
+    powers, bids = dict[str, int](), dict[str, int]()
     for words in lines:
+        # Nearly all lines are of this form.
+        if ends and len(words) == 6 and words[0] == "member" and words[2] == "power" and words[4] == "bid":
+            name = sys.intern(words[1])
+            powers[name], bids[name] = int(words[3]), int(words[5])
+            continue
         match words:
             case ["phase", phase, "price", price, "step", step, "total", total, "members", _]:
-                groups = []
-                ends.append(PhaseEnd(int(phase), int(price), int(step), int(total), {}, {}, ()))
-            case ["member", name, "power", power, "bid", bid] if ends:
-                name = sys.intern(name)
-                ends[-1].powers[name] = int(power)
-                ends[-1].bids[name] = int(bid)
+                groups, powers, bids = [], {}, {}
+                ends.append(PhaseEnd(int(phase), int(price), int(step), int(total), powers, bids, ()))
             case ["limited", name, "price", price, "step", step, "total", total] if ends:
                 groups.append(GroupEnd(sys.intern(name), int(price), int(step), int(total)))
                 object.__setattr__(ends[-1], "groups", tuple(groups))

@@ -16,6 +16,7 @@ from cogmaula import (
     Cluster,
     Events,
     Join,
+    Leave,
     Limited,
     Load,
     Manual,
@@ -164,6 +165,21 @@ def test_lists_and_tuples_are_the_same():
     assert Manual("a", demand=[1, 0]) == Manual("a", demand=(1, 0))
     assert State("a", points=[[0, 1]]) == State("a", points=((0, 1),))
     assert Events([Join("a")]) == Events((Join("a"),))
+
+
+@pytest.mark.parametrize(
+    "event", [State("a", 5), State("a", -7), State('a"\u00e9\\', 0), State("a", points=[[0, 1]]), State("a", demand=[1, 0]), Join("b"), Leave("b")]
+)
+def test_an_event_is_written_as_json_is(event):
+    """The short way for a new number writes what the library for JSON writes."""
+    assert Events([event, event]).line == json.dumps({"events": [event.members(), event.members()]})
+
+
+@pytest.mark.parametrize("value", ["true", "1.5", "-0", '"5"', "10000000000000000000000"])
+def test_a_state_that_is_no_small_number_is_written_as_it_was(value):
+    text = f'{{"version": 2, "basis": {{"min": 0, "max": 9, "steps": 10}}, "nodes": [], "phases": [{{"events": [{{"state": "a", "value": {value}}}]}}]}}'
+    written = Cluster.from_json(text).to_json()
+    assert f'"value": {"-0.0" if value == "-0" else value}}}' in written
 
 
 def test_prices_by_hand():

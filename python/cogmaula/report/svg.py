@@ -47,7 +47,7 @@ def inline(text: str, name: str) -> str:
     text = text[text.index("<svg ") :]
     text = re.sub(r"<metadata>.*?</metadata>\s*", "", text, flags=re.S)
     # A page shows a hundredth of a point at most, and long numbers are half of its bytes.
-    text = re.sub(r'(?<= d=")[^"]*', lambda match: re.sub(r"(\.\d\d)\d+", r"\1", match[0]), text)
+    text = re.sub(r'(?<= d=")[^"]*', lambda match: re.sub(r"(?<=\.\d\d)\d+", "", match[0]), text)
     # Ink, paper and the first colour are those of the page, which may be dark.
     text = re.sub(r"#000000\b", "currentColor", text).replace("#ffffff", "var(--paper)").replace(COLOURS[0].lower(), "var(--blue)")
     text = re.sub(r' xmlns(:\w+)?="[^"]*"', "", text)
