@@ -7,7 +7,7 @@ import json
 from .files import STATE
 from .history_files import FILE, histories_of
 from .node_files import login_folders
-from .tree import SQLITE, Tree
+from .tree import CLIENT, SQLITE, Tree
 
 FIRST = """\
 # Made by `cogmaula market`. The market in containers of one machine. Each has what /etc/market has on a machine of its own, read-only.
@@ -32,7 +32,7 @@ services:
     build: {context: ., target: broker}
     volumes: ["./broker:/etc/market:ro", "broker:/var/lib/mosquitto"]
 """
-CLIENT = """
+CLIENTS = """
   client:
     <<: *contained
     restart: "no"
@@ -42,20 +42,20 @@ CLIENT = """
     volumes: ["./broker/ca.crt:/etc/market/ca.crt:ro"@clients@]
 """
 NODE = """
-  @name@:
+  @service@:
     <<: *node
     command: [@sort@, --config, /etc/market/@name@.toml]
     volumes: ["./@name@:/etc/market:ro", "@name@:/var/lib/market"]
 """
 SITE = """
-  @name@:
+  @service@:
     <<: *node
     entrypoint: [cogmaula, site]
     command: [/etc/market/@name@.toml]
     volumes: ["./@name@:/etc/market:ro", "@name@:/var/lib/market"]
 """
 HISTORY = """
-  @name@:
+  @service@:
     <<: *node
     entrypoint: [cogmaula, history]
     command: [--config, /etc/market/@name@.toml, --to, @url@]
@@ -63,20 +63,37 @@ HISTORY = """
 """
 
 
+def _names_of(tree: Tree) -> list[str]:
+    """The names of what has a service beside the broker."""
+    sites, histories = (site.name for site in tree.sites), (history.name for history in histories_of(tree))
+    return [*(member.name for member in tree.alone), *sites, *histories]
+
+
+def services_of(tree: Tree) -> dict[str, str]:
+    """The service of each node, site and history: its name, with node- before it if the broker, the client or another service has that.
+    A node of a site has no service of its own."""
+    taken, found = {tree.broker.host, CLIENT}, {}
+    for name in _names_of(tree):
+        own = name
+        while own in taken:
+            own = f"node-{own}"
+        taken.add(own)
+        found[name] = own
+    return found
+
+
 def compose_text(tree: Tree) -> str:
     """The file of compose. The broker's service has the name by which nodes know it, which is what podman-compose takes too."""
     text = FIRST.replace("@host@", json.dumps(tree.broker.host))
-    alone = [member for member in tree.members if tree.site_of(member.name) is None]
-    for member in alone:
-        text += NODE.replace("@name@", member.name).replace("@sort@", member.sort)
+    services, histories = services_of(tree), histories_of(tree)
+    for member in tree.alone:
+        text += NODE.replace("@service@", services[member.name]).replace("@name@", member.name).replace("@sort@", member.sort)
     for site in tree.sites:
-        text += SITE.replace("@name@", site.name)
-    histories = histories_of(tree)
+        text += SITE.replace("@service@", services[site.name]).replace("@name@", site.name)
     for history in histories:
         url = f"sqlite:///{STATE}/{FILE}" if history.database == SQLITE else str(history.database)
-        text += HISTORY.replace("@name@", history.name).replace("@url@", json.dumps(url))
+        text += HISTORY.replace("@service@", services[history.name]).replace("@name@", history.name).replace("@url@", json.dumps(url))
     clients = "".join(f', "./{folder}:/etc/clients/{folder}:ro"' for folder in login_folders(tree))
-    text += CLIENT.replace("@clients@", clients)
-    sites = [site.name for site in tree.sites]
-    volumes = ["broker", *(member.name for member in alone), *sites, *(history.name for history in histories)]
+    text += CLIENTS.replace("@clients@", clients)
+    volumes = ["broker", *_names_of(tree)]
     return text + "\nvolumes:\n" + "".join(f"  {name}:\n" for name in volumes)

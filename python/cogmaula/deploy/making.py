@@ -57,8 +57,7 @@ def _folders(tree: Tree) -> dict[str, str]:
 def _make(tree: Tree, out: Path) -> None:
     """Makes what is lacking, and all that follows from the tree anew."""
     places = Places(out, tree.market.here)
-    alone = _alone(tree)
-    texts = {member.name: node_files.settings_text(tree, member, places) for member in alone}
+    texts = {member.name: node_files.settings_text(tree, member, places) for member in tree.alone}
     texts |= {site.name: site_files.settings_text(tree, site, places) for site in tree.sites}
     out.mkdir(mode=0o700, parents=True, exist_ok=True)
     authority, broker = out / AUTHORITY, out / "broker"
@@ -77,7 +76,7 @@ def _make(tree: Tree, out: Path) -> None:
         write_file(out / name / f"{name}.toml", text, OPEN)
         if tree.market.here:
             Path(places.state(name)).mkdir(mode=0o700, parents=True, exist_ok=True)
-    for member in alone:
+    for member in tree.alone:
         own, unit = out / member.name, node_files.unit_of(member)
         write_file(own / f"{unit}.service", node_files.unit_text(tree, member), OPEN)
         write_file(own / "install.sh", installing.unit_text(member.sort, member.name, unit, folders[member.name]), RUN)
@@ -103,11 +102,6 @@ def _make(tree: Tree, out: Path) -> None:
     write_file(out / TREE, "# Made by `cogmaula market`. The market, with the number of each node.\n" + toml_text(tree.to_tables()), OPEN)
 
 
-def _alone(tree: Tree) -> list[Member]:
-    """The nodes that run by themselves, in no site."""
-    return [member for member in tree.members if tree.site_of(member.name) is None]
-
-
 def _make_broker(tree: Tree, places: Places) -> None:
     folder = places.out / "broker"
     write_file(folder / "mosquitto.acl", broker_files.rights_text(tree), SECRET)
@@ -121,7 +115,7 @@ def _make_broker(tree: Tree, places: Places) -> None:
 def _lines(tree: Tree, out: Path, changed: list[str]) -> list[str]:
     """What to do with the folders that changed."""
     if tree.market.here:
-        nodes = [f"cogmaula node {member.sort} --config {out / member.name / member.name}.toml" for member in _alone(tree) if member.name in changed]
+        nodes = [f"cogmaula node {member.sort} --config {out / member.name / member.name}.toml" for member in tree.alone if member.name in changed]
         sites = [f"cogmaula site {out / site.name / site.name}.toml" for site in tree.sites if site.name in changed]
         places = Places(out, True)
         histories = [history_files.history_command(tree, one, places) for one in history_files.histories_of(tree) if one.name in changed]

@@ -36,6 +36,8 @@ MOST_RELAYS = 6
 TAKEN = ("broker", "authority", "state")
 # The database of a history that is a file of SQLite on its machine.
 SQLITE = "sqlite"
+# The service of the broker's clients, beside the market in containers.
+CLIENT = "client"
 # What a node's own login is followed by in the name of a further one.
 CONTROL, PAGE = ".control", ".page"
 _OWN = ("parent", "child", "least", "greatest", "host", "control", "page", "device")
@@ -60,6 +62,8 @@ class BrokerPlan:
 
     def __post_init__(self) -> None:
         """Raises BadSettings."""
+        if self.host == CLIENT:
+            raise BadSettings(f"broker.host is {CLIENT}, which is the service of clients in compose.yaml: give the broker another name")
         if not 1 <= self.port <= 65_535:
             raise BadSettings(f"broker.port is {self.port}: give 1 to 65535")
         for name in ("max_connections", "max_queued_bytes", "memory_limit"):
@@ -179,6 +183,11 @@ class Tree:
     def children(self, name: str) -> list[Member]:
         """The nodes directly below one, by their numbers."""
         return sorted((member for member in self.members if member.parent == name), key=lambda member: member.child or 0)
+
+    @property
+    def alone(self) -> list[Member]:
+        """The nodes that run by themselves, in no site."""
+        return [member for member in self.members if self.site_of(member.name) is None]
 
     def site_of(self, name: str) -> SitePlan | None:
         """The site that a node runs in, None if it runs by itself."""

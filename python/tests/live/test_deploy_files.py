@@ -2,6 +2,7 @@
 
 from __future__ import annotations
 
+import re
 import subprocess
 import tomllib
 
@@ -12,6 +13,7 @@ from made import TREE, tree_here
 from cogmaula.cli import main
 from cogmaula.deploy import BadSettings, Member, add_device, init_market, keys, read_tree
 from cogmaula.deploy.broker_files import limits_of
+from cogmaula.deploy.containers import compose_text
 from cogmaula.deploy.files import Places
 from cogmaula.deploy.node_files import tables_of
 from cogmaula.deploy.site_plan import SitePlan
@@ -53,6 +55,7 @@ NO_MARKETS = [
     ("[devices.a]\nname = 'b'", "a has name, which no file of a tree has"),
     ("[devices]\na = 1", "devices.a is 1, and no table"),
     ("[street]", "street is not known there"),
+    ("[broker]\nhost = 'client'", "broker.host is client, which is the service of clients"),
     ("[broker]\nport = 0", "broker.port is 0"),
     ("[broker]\nmemory_limit = 0", "broker.memory_limit is 0"),
     ("[market]\nprefix = 1", "market.prefix is 1"),
@@ -425,3 +428,23 @@ def test_a_device_more_leaves_what_is_there(tmp_path, capsys):
     assert main(["market", "add", "car", "--out", str(out), "--parent", "street"]) == 2
     with pytest.raises(BadSettings, match="no node is called nobody"):
         add_device(out, Member("device", "bus", "nobody"))
+
+
+def services_in(text):
+    """The key of each service of a file of compose, and the settings that its command names, None if it names none."""
+    below = text.partition("\nservices:\n")[2].partition("\nvolumes:\n")[0]
+    keys = re.findall(r'^  "?([^\s#:"]+)"?:$((?:\n(?:    .*)?)*)', below, re.M)
+    return [(key, told[1] if (told := re.search(r"--config, /etc/market/(\S+)\.toml", lines)) else None) for key, lines in keys]
+
+
+@pytest.mark.parametrize("host", ["street", "node-street", "broker.example"])
+def test_no_two_services_of_containers_have_one_name(host):
+    """A node may have the name of the broker's host, or that of the service of clients: its own service is then called otherwise."""
+    made = tree(
+        f"[broker]\nhost = '{host}'\n[relays.street]\n[devices.client]\n[devices.node-street]\n[logins.kept]\nrole = 'reader'\ndatabase = 'sqlite'"
+    )
+    found = services_in(compose_text(made))
+    keys = [key for key, _ in found]
+    assert len(set(keys)) == len(keys) and keys[0] == host and keys[-1] == "client", "nodes reach the broker by its host's name"
+    assert [settings for _, settings in found[1:-1]] == ["auctioneer", "street", "client", "node-street", "kept"]
+    assert keys[2] == {"street": "node-street", "node-street": "street", "broker.example": "street"}[host]
