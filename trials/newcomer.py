@@ -1,10 +1,6 @@
 """Walks a newcomer's way: does exactly the commands of "Try three machines on one" in docs/OPERATE.md, and tells how long each step takes.
 
-<<<<<<<< HEAD:trials/walk.py
-    python3 -m trials.walk [--installed]
-========
     python3 -m trials.newcomer [--installed]
->>>>>>>> 54b3e78e (trials: the newcomer's walk is one of them):trials/newcomer.py
 
 It runs in one bash, in a new folder with TREE.toml. The package is that of this checkout, or with --installed the command `cogmaula` of the
 machine. A person is given two seconds from one step to the next. Each line is a step and what was seen. The status is 1 if something
