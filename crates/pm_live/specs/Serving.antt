@@ -4,6 +4,7 @@ use Rattle.std.specs.Prelude.{ℕ, ◌<◌, List, length, take, codes, Option, N
 use Rattle.std.specs.Io.KnownBytes.{Appends}
 use Rattle.pm_wire.specs.Taking.{AnswersFrom}
 use Rattle.pm_wire.specs.Services.{EndsSo}
+use Rattle.pm_wire.specs.Due.{EndsAsDue}
 use Rattle.pm_wire.specs.declared.stream.Served.{Served}
 use Rattle.pm_frames.specs.RelayFrames.{relay_framing}
 use Rattle.pm_frames.specs.RootFrames.{root_framing}
@@ -13,7 +14,6 @@ use Rattle.pm_services.specs.RelayAnswers.{AnswersRelay}
 use Rattle.pm_services.specs.RootAnswers.{AnswersRoot}
 use Rattle.pm_services.specs.DeviceAnswers.{AnswersDevice}
 use Rattle.pm_processes.specs.Processes.{stream_start, relay_start, new_relay_service, new_device_service}
-use Rattle.pm_live.specs.Due.{EndsAsDue}
 use Rattle.pm_live.specs.declared.named.LiveNode.{LiveNode}
 use Rattle.pm_live.specs.declared.named.LiveNode.TheVariants.{Relay, Auctioneer, Device}
 

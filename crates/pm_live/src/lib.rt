@@ -4,7 +4,7 @@
 //! agent of a device; it serves the source's frames as the service of pm_services does, and tells how that ended. What carries the
 //! bytes between the nodes is left to the system.
 //!
-//! The definitions stand in `specs/`: `LiveNodes` (which node the arguments name), `Serving` and `Due` (what a node reads and writes, by how it
+//! The definitions stand in `specs/`: `LiveNodes` (which node the arguments name), `Serving` (what a node reads and writes, by how it
 //! ends), `Asks` (what a peer may ask at each read and write), `Processes` (that it is a process of which the law of a market speaks).
 #![tactic(auto)]
 

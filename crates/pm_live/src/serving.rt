@@ -3,9 +3,9 @@
 ghost use Rattle.std.specs.Prelude.{◌≡◌, ◌≤◌, ℕ, List, Some};
 ghost use Rattle.pm_io.specs.Causes.{Rose};
 ghost use Rattle.pm_wire.specs.Services.{EndsSo};
+ghost use Rattle.pm_wire.specs.Due.{EndsAsDue};
 ghost use Rattle.pm_wire.specs.Moments.{AsksWhatIsDue};
 ghost use Rattle.pm_wire.specs.Taking.{AnswersFrom};
-ghost use Rattle.pm_live.specs.Due.{EndsAsDue};
 
 use pm_io::Peer;
 use pm_wire::{Served, Service, StreamFrame, serve_peer};

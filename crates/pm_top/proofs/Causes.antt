@@ -2,7 +2,7 @@
 use Rattle.std.proofs.Common.{◌≡◌, ◌≢◌, ◌∙◌, sym, ap, refl, inl, inr, ℕ, ◌<◌, List, length, Option, Some, None, arith}
 use Rattle.std.proofs.lemmas.List.{length-append}
 use Rattle.std.specs.Io.KnownBytes.{Consumes}
-use Rattle.pm_wire.specs.Streams.{stream_limit}
+use Rattle.pm_wire.specs.Services.{stream_limit}
 use Rattle.pm_answer.specs.declared.arguments.Command.{Command}
 use Rattle.pm_answer.specs.declared.arguments.Command.TheVariants.{File, Serve}
 use Rattle.pm_answer.specs.declared.status.Status.{Status}

@@ -1,20 +1,18 @@
 -- What is given for an input is due, with the status for it.
 use Rattle.std.proofs.Common.{◌≡◌, ◌≢◌, ◌∙◌, ℕ, ◌-◌, ◌<◌, ◌≤◌, List, ◌++◌, length, Option, Some, None, IfSome}
-use Rattle.std.proofs.Common.{sym, ap, subst, refl, inl, inr, arith, append-nil}
+use Rattle.std.proofs.Common.{sym, ap, subst, inl, inr, arith, append-nil}
 use Rattle.std.proofs.lemmas.List.{length-take}
 use Rattle.std.specs.Io.KnownBytes.{Appends, Consumes, IsAtEnd}
 use Rattle.pm_io.specs.Taken.{TookMore}
 use Rattle.pm_answer.specs.Inputs.{input_limit, HasStatus}
-use Rattle.pm_wire.specs.Streams.{replies, replies_and_fault}
-use Rattle.pm_wire.proofs.Known.{replies_and_fault_are}
 use Rattle.pm_answer.specs.Answers.{IsAnswer, IsSummary}
-use Rattle.pm_top.specs.Top.{IsDue, summary, served, served_fault, served_long, IsServiceEnd, WrotePrefix}
-use Rattle.pm_top.specs.Endings.{EndsUnlessUnwritten, EndsUnlessCutShort, EndsUnlessFailed, EndsUnlessNoMemory, WroteItsText, WrotePartOfDue}
+use Rattle.pm_top.specs.Top.{IsDue, summary, WrotePrefix}
+use Rattle.pm_top.specs.Endings.{EndsUnlessUnwritten, EndsUnlessCutShort, EndsUnlessFailed, EndsUnlessNoMemory, WrotePartOfDue}
 use Rattle.pm_answer.specs.declared.arguments.Command.{Command}
-use Rattle.pm_answer.specs.declared.arguments.Command.TheVariants.{Demo, Serve}
+use Rattle.pm_answer.specs.declared.arguments.Command.TheVariants.{Demo}
 use Rattle.pm_answer.specs.declared.arguments.FileCommand.{FileCommand}
 use Rattle.pm_answer.specs.declared.status.Status.{Status}
-use Rattle.pm_answer.specs.declared.status.Status.TheVariants.{Done, Invalid, Usage, TooLong, Refused, ReadFault, WriteFault, NoMemory}
+use Rattle.pm_answer.specs.declared.status.Status.TheVariants.{Done, TooLong, ReadFault, WriteFault, NoMemory}
 use Rattle.pm_answer.proofs.Meanings.{one_status, long_status}
 
 -- a demo's summary is due with the status Done, which is the one that is left
@@ -43,28 +41,6 @@ pub prefix_is_due : (command : Option Command) (old new before after : Option (L
     IsDue command old new due text →
     given ≡ text → WrotePrefix before after given → WrotePartOfDue command old new before after
 prefix_is_due command old new before after due text given is same wrote = (due, (text, is, subst (WrotePrefix before after) same wrote))
-
--- what a service appended is due, unless it failed
-pub service_is_due : (command : Option Command) (old new held holds : Option (List ℕ)) (status : Status) → command ≡ Some Serve →
-    IsServiceEnd status old new held holds → WroteItsText command old new held holds status
-service_is_due command old new held holds Done asks end no_read no_write no_failure =
-    let is : end.reply ≡ replies end.frames = end.answers in
-    (replies end.frames, served end.frames end.input asks end.consumes end.at_end end.are_frames, subst (Appends held holds) is end.appends)
-service_is_due command old new held holds Invalid asks end no_read no_write no_failure = absurd end
-service_is_due command old new held holds Usage asks end no_read no_write no_failure = absurd end
-service_is_due command old new held holds ReadFault asks end no_read no_write no_failure = absurd (no_read refl)
-service_is_due command old new held holds TooLong asks end no_read no_write no_failure =
-    let answered = end.answered in
-    let is : answered.reply ≡ replies answered.frames = answered.answers in (
-      replies answered.frames,
-      served_long answered.frames end.input asks answered.consumes answered.has end.long,
-      subst (Appends held holds) is answered.appends,
-    )
-service_is_due command old new held holds Refused asks end no_read no_write no_failure =
-    let is = replies_and_fault_are end.frames end.due end.answers in
-    (replies_and_fault end.frames, served_fault end.frames end.input asks end.consumes end.fault, subst (Appends held holds) is end.appends)
-service_is_due command old new held holds WriteFault asks end no_read no_write no_failure = absurd (no_write refl)
-service_is_due command old new held holds NoMemory asks end no_read no_write no_failure = absurd (no_failure refl)
 
 -- ---- the status for an input
 

@@ -1,4 +1,6 @@
 mod Exact
 mod Due
+mod Serving
+mod Ends
 mod Headline
 mod Causes

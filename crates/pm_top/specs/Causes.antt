@@ -1,8 +1,9 @@
 -- What a text that is due says of its cause, by its status, for the statuses that no text of the market has.
-use Rattle.std.specs.Prelude.{◌≡◌, ℕ, ◌<◌, ◌⊎◌, List, length, Option, Some}
+use Rattle.std.specs.Prelude.{◌≡◌, ℕ, ◌<◌, ◌⊎◌, List, length, Option, Some, None}
 use Rattle.std.specs.Io.KnownBytes.{Consumes, IsAtEnd}
-use Rattle.pm_wire.specs.Streams.{stream_limit, HasFault, replies, replies_and_fault}
-use Rattle.pm_wire.specs.Frames.{AreFrames}
+use Rattle.pm_wire.specs.Services.{stream_limit, HasFault}
+use Rattle.pm_wire.specs.Answers.{replies, replies_and_fault}
+use Rattle.pm_wire.specs.Frames.{bid_framing, AreFrames}
 use Rattle.pm_wire.specs.declared.frame.Frame.{Frame}
 use Rattle.pm_answer.specs.declared.arguments.Command.{Command}
 use Rattle.pm_answer.specs.declared.arguments.Command.TheVariants.{File, Serve}
@@ -20,7 +21,8 @@ pub record WasTooLong (command : Option Command) (input : List ℕ) (text : List
 pub record WasRefused (command : Option Command) (old new : Option (List ℕ)) (text : List ℕ) : Type 0 where
   pub file_or_stream : ((asked : FileCommand) × ((command ≡ Some (File asked)) × RefusesInput asked old new text))
       ⊎ ((command ≡ Some Serve)
-      × ((frames : List Frame) × ((input : List ℕ) × (Consumes old new input × HasFault new input frames × (text ≡ replies_and_fault frames)))))
+      × ((frames : List Frame) × ((input : List ℕ) × (Consumes old new input × HasFault bid_framing None new input frames
+      × (text ≡ replies_and_fault frames)))))
 
 -- a stream was served to its end: it is these frames, and the text answers them
 pub record WasServed (old new : Option (List ℕ)) (text : List ℕ) : Type 0 where

@@ -3,7 +3,7 @@ use Rattle.std.specs.Prelude.{◌≡◌, ◌≢◌, ◌⊎◌, ℕ, List, Option
 use Rattle.std.specs.Io.KnownBytes.{Appends}
 use Rattle.pm_answer.specs.declared.arguments.Command.{Command}
 use Rattle.pm_answer.specs.declared.status.Status.{Status}
-use Rattle.pm_answer.specs.declared.status.Status.TheVariants.{Done, ReadFault, Refused, WriteFault, NoMemory}
+use Rattle.pm_answer.specs.declared.status.Status.TheVariants.{ReadFault, WriteFault, NoMemory}
 use Rattle.pm_top.specs.Top.{IsDue, WrotePrefix}
 
 -- it ended as is due, unless the sink failed
@@ -21,10 +21,6 @@ EndsUnlessFailed due status = (status ≡ due) ⊎ (status ≡ ReadFault) ⊎ (s
 -- with no fault of the source or the sink, it ended as is due, unless an allocation failed
 abbrev pub EndsUnlessNoMemory : Status → Status → Type 0
 EndsUnlessNoMemory due status = (status ≡ NoMemory) ⊎ (status ≡ due)
-
--- with no fault of the source or the sink, a stream was served or refused, unless an allocation failed
-abbrev pub ServesOrRefuses : Status → Type 0
-ServesOrRefuses status = (status ≡ Done) ⊎ (status ≡ Refused) ⊎ (status ≡ NoMemory)
 
 -- unless something failed, a text that is due with the status was written, whole; `old` and `new` are what the source had left
 -- before and after, `held` and `holds` what the sink held

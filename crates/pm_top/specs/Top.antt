@@ -2,15 +2,17 @@
 use Rattle.std.specs.Prelude.{◌≡◌, ℕ, ◌<◌, ◌≤◌, List, codes, length, take, Option, Some, None}
 use Rattle.std.specs.Io.KnownBytes.{Appends, Consumes, IsAtEnd}
 use Rattle.pm_io.specs.Taken.{TookMore}
-use Rattle.pm_wire.specs.Streams as streams
-use Rattle.pm_wire.specs.Frames.{AreFrames}
+use Rattle.pm_wire.specs.Services.{stream_limit, HasFault}
+use Rattle.pm_wire.specs.Answers.{replies, replies_and_fault}
+use Rattle.pm_wire.specs.Framing.{HasFrames}
+use Rattle.pm_wire.specs.Frames.{bid_framing, AreFrames}
 use Rattle.pm_wire.specs.declared.frame.Frame.{Frame}
 use Rattle.pm_answer.specs.declared.arguments.Command.{Command}
 use Rattle.pm_answer.specs.declared.arguments.Command.TheVariants.{File, Demo, Serve}
 use Rattle.pm_answer.specs.declared.arguments.FileCommand.{FileCommand}
 use Rattle.pm_answer.specs.declared.arguments.FileCommand.TheVariants.{Run, Trace, Check, Bill, Ask, Free}
 use Rattle.pm_answer.specs.declared.status.Status.{Status}
-use Rattle.pm_answer.specs.declared.status.Status.TheVariants.{Done, Invalid, Usage, ReadFault, TooLong, Refused, WriteFault, NoMemory}
+use Rattle.pm_answer.specs.declared.status.Status.TheVariants.{Done, Usage, TooLong, Refused}
 use Rattle.pm_answer.specs.Inputs.{input_limit}
 use Rattle.pm_answer.specs.Answers.{IsAnswer, IsSummary}
 
@@ -53,22 +55,11 @@ pub data IsDue (command : Option Command) (old new : Option (List ℕ)) : Status
   summary : (size number : ℕ) (text : List ℕ) → command ≡ Some (Demo size number) → IsSummary size number text → IsDue command old new Done text
   -- of a service: the answers to all frames of the input; to those before a bad one, and its fault; to those of too many bytes
   served : (frames : List Frame) (input : List ℕ) → command ≡ Some Serve → Consumes old new input → IsAtEnd new → AreFrames input frames →
-      IsDue command old new Done (streams.replies frames)
-  served_fault : (frames : List Frame) (input : List ℕ) → command ≡ Some Serve → Consumes old new input → streams.HasFault new input frames →
-      IsDue command old new Refused (streams.replies_and_fault frames)
-  served_long : (frames : List Frame) (input : List ℕ) → command ≡ Some Serve → Consumes old new input → streams.HasFrames input frames →
-      streams.stream_limit < length input → IsDue command old new TooLong (streams.replies frames)
-
--- what a service took and appended, by the status that it ends with
-abbrev pub IsServiceEnd : Status → Option (List ℕ) → Option (List ℕ) → Option (List ℕ) → Option (List ℕ) → Type 0
-IsServiceEnd Done old new held holds = streams.IsDone old new held holds
-IsServiceEnd Invalid old new held holds = ⊥
-IsServiceEnd Usage old new held holds = ⊥
-IsServiceEnd ReadFault old new held holds = streams.FailsReading old new held holds
-IsServiceEnd TooLong old new held holds = streams.IsLongStream old new held holds
-IsServiceEnd Refused old new held holds = streams.IsRefused old new held holds
-IsServiceEnd WriteFault old new held holds = streams.IsCutShort old new held holds
-IsServiceEnd NoMemory old new held holds = streams.IsBegun old new held holds
+      IsDue command old new Done (replies frames)
+  served_fault : (frames : List Frame) (input : List ℕ) → command ≡ Some Serve → Consumes old new input →
+      HasFault bid_framing None new input frames → IsDue command old new Refused (replies_and_fault frames)
+  served_long : (frames : List Frame) (input : List ℕ) → command ≡ Some Serve → Consumes old new input →
+      HasFrames bid_framing None input frames → stream_limit < length input → IsDue command old new TooLong (replies frames)
 
 -- a prefix of the text was written, and not all of it
 abbrev pub WrotePrefix : Option (List ℕ) → Option (List ℕ) → List ℕ → Type 0

@@ -1,26 +1,19 @@
 //! The one call of the program: it reads the input, does the command and writes the answer.
 
-ghost use Rattle.std.specs.Prelude.{◌≡◌, ◌⊎◌, ◌<◌, ◌≤◌, ℕ, List, length, map, string_bytes, None, Some, IfSome, ◌≢◌, ◌++◌};
-ghost use Rattle.std.specs.Prelude.{[], true};
+ghost use Rattle.std.specs.Prelude.{◌≡◌, ◌<◌, ◌≤◌, ℕ, List, length, map, string_bytes, Some, IfSome, ◌≢◌, true};
 ghost use Rattle.std.specs.Io.KnownBytes.{Appends};
 ghost use Rattle.pm_io.specs.Causes.{Rose};
 ghost use Rattle.pm_io.specs.Taken.{taken_bytes};
-ghost use Rattle.pm_plan.specs.declared.refusal.Refusal.{Refusal};
-ghost use Rattle.pm_report.specs.Refusal.{refusal_line};
 ghost use Rattle.pm_answer.specs.declared.arguments.FileCommand.{FileCommand};
 ghost use Rattle.pm_answer.specs.Arguments.{command};
-ghost use Rattle.pm_plan.specs.Plans.{PlanData};
 ghost use Rattle.pm_gen.specs.Demo.{is_size};
-ghost use Rattle.pm_check.specs.Traces.{IsBadLine};
-ghost use Rattle.pm_answer.specs.Inputs.{input_limit, HasPlan, IsRefusalOf, HasStatus, report_of};
-ghost use Rattle.pm_answer.specs.Answers.{IsSummary, invalid_line};
+ghost use Rattle.pm_answer.specs.Inputs.{input_limit, HasStatus};
+ghost use Rattle.pm_answer.specs.Answers.{IsSummary};
 ghost use Rattle.pm_headline.specs.Promises.{TellsTheMarket, RefutesFile};
-ghost use Rattle.pm_top.specs.Top.{too_long_line, WrotePrefix, IsServiceEnd};
-ghost use Rattle.pm_top.specs.Endings.{EndsUnlessUnwritten, EndsUnlessCutShort, EndsUnlessFailed, EndsUnlessNoMemory, ServesOrRefuses};
-ghost use Rattle.pm_top.specs.Endings.{WroteItsText, WrotePartOfDue};
-ghost use Rattle.pm_wire.specs.declared.frame.Frame.{Frame};
-ghost use Rattle.pm_wire.specs.Frames.{AreFrames, HasBadFrame, EndsWithin};
-ghost use Rattle.pm_wire.specs.Streams.{stream_limit};
+ghost use Rattle.pm_top.specs.Top.{too_long_line, WrotePrefix};
+ghost use Rattle.pm_top.specs.Endings.{EndsUnlessUnwritten, EndsUnlessCutShort, EndsUnlessFailed, WroteItsText, WrotePartOfDue};
+ghost use Rattle.pm_top.specs.Serving.{service_status, ServesBids};
+ghost use Rattle.pm_top.specs.Ends.{FailsCleanly, EndsByCause, EndsWithoutFault};
 
 use pm_answer::{Command, FileCommand, Status, answer_of, command_of, demo_of};
 use pm_io::{ReadAllFault, Sink, Source, read_all, write_all};
@@ -140,36 +133,11 @@ fn file<R: Threads + Wait + Sync, S: Source, K: Sink, G: Gate>(
     }
 }
 
-/// Serves the auctioneer over the source and the sink.
-fn service<S: Source, K: Sink>(alloc: Global, source: &mut S, sink: &mut K) -> Status
-    ensures end { IsServiceEnd result (S.left source.old) (S.left source.new) (K.held sink.old)
-        (K.held sink.new) }
-    ensures read_fault { result ≡ Status.ReadFault →
-        Rose (S.faults source.old) (S.faults source.new) }
-    ensures write_fault { result ≡ Status.WriteFault →
-        Rose (K.faults sink.old) (K.faults sink.new) }
-    ensures bad_frame { (all : List ℕ) (offset : ℕ) → S.left source.old ≡ Some all
-        → HasBadFrame (taken_bytes (S.left source.old) (S.left source.new)) offset
-        → EndsUnlessCutShort Status.Refused result }
-    ensures took_more { (all : List ℕ) → S.left source.old ≡ Some all
-        → stream_limit < length (taken_bytes (S.left source.old) (S.left source.new))
-        → ((offset : ℕ) → ¬ HasBadFrame (taken_bytes (S.left source.old) (S.left source.new))
-        offset)
-        → EndsUnlessCutShort Status.TooLong result }
-    ensures frames { (all : List ℕ) (frames : List Frame) → S.left source.old ≡ Some all →
-        length all ≤ stream_limit
-        → AreFrames all frames → EndsUnlessFailed Status.Done result }
-    ensures refusal { (all : List ℕ) (offset : ℕ) → S.left source.old ≡ Some all →
-        length all ≤ stream_limit
-        → HasBadFrame all offset ⊎ EndsWithin all offset → EndsUnlessFailed Status.Refused result }
-    ensures complete { (all : List ℕ) → S.left source.old ≡ Some all → length all ≤ stream_limit
-        → ¬ Rose (S.faults source.old) (S.faults source.new) →
-        ¬ Rose (K.faults sink.old) (K.faults sink.new)
-        → ServesOrRefuses result }
-    ensures source_count { S.faults source.old ≤ S.faults source.new }
-    ensures sink_count { K.faults sink.old ≤ K.faults sink.new }
+/// The status of a service that ended so.
+fn service_status(served: Served) -> Status
+    ensures { result ≡ service_status served }
 {
-    match serve(alloc, source, sink) {
+    match served {
         Served::Done => Status::Done,
         Served::Refused => Status::Refused,
         Served::TooLong => Status::TooLong,
@@ -177,6 +145,17 @@ fn service<S: Source, K: Sink>(alloc: Global, source: &mut S, sink: &mut K) -> S
         Served::WriteFault => Status::WriteFault,
         Served::NoMemory => Status::NoMemory,
     }
+}
+
+/// Serves the auctioneer over the source and the sink.
+fn service<S: Source, K: Sink>(alloc: Global, source: &mut S, sink: &mut K) -> Status
+    ensures serves { ServesBids (S.left source.old) (S.left source.new) (K.held sink.old)
+        (K.held sink.new) (Rose (S.faults source.old) (S.faults source.new))
+        (Rose (K.faults sink.old) (K.faults sink.new)) result }
+    ensures source_count { S.faults source.old ≤ S.faults source.new }
+    ensures sink_count { K.faults sink.old ≤ K.faults sink.new }
+{
+    service_status(serve(alloc, source, sink))
 }
 
 /// Does what the arguments ask, and tells how it ended.
@@ -223,18 +202,9 @@ pub fn market<R: Threads + Wait + Sync, S: Source, K: Sink, G: Gate>(
     ensures write_fault { result ≡ Status.WriteFault →
         Rose (K.faults sink.old) (K.faults sink.new) }
 
-    // But for a service, which writes while it reads, a fault of the source and an allocation failure leave the sink as it
-    // was, and a fault of the sink leaves a part of the text due.
-    ensures unread { command (map string_bytes arguments.now) ≢ Some Command.Serve →
-        result ≡ Status.ReadFault
-        → sink.new ≡ sink.old }
-    ensures cut_short { command (map string_bytes arguments.now) ≢ Some Command.Serve →
-        result ≡ Status.WriteFault
-        → WrotePartOfDue (command (map string_bytes arguments.now)) (S.left source.old)
-        (S.left source.new) (K.held sink.old) (K.held sink.new) }
-    ensures no_memory { command (map string_bytes arguments.now) ≢ Some Command.Serve →
-        result ≡ Status.NoMemory
-        → sink.new ≡ sink.old }
+    // What a failure leaves in the sink: all as it was, or a part of the text due; but for a service, which writes while it reads.
+    ensures fails { FailsCleanly K.held (command (map string_bytes arguments.now))
+        (S.left source.old) (S.left source.new) sink.old sink.new result }
 
     // Nothing is read but for a file or a service.
     ensures reads_nothing { ((asked : FileCommand) →
@@ -243,70 +213,19 @@ pub fn market<R: Threads + Wait + Sync, S: Source, K: Sink, G: Gate>(
 
     // Where the cause of Usage, TooLong, Refused or Invalid stands, and the source tells what it has, this is the answer, or a
     // fault or an allocation failure.
-    ensures only_usage { command (map string_bytes arguments.now) ≡ None
-        → EndsUnlessUnwritten Status.Usage result }
-    ensures took_more { (asked : FileCommand) → command (map string_bytes arguments.now)
-        ≡ Some (Command.File asked)
-        → input_limit asked < length (taken_bytes (S.left source.old) (S.left source.new))
-        → EndsUnlessCutShort Status.TooLong result }
-    ensures answer { (asked : FileCommand) → command (map string_bytes arguments.now)
-        ≡ Some (Command.File asked)
-        → IfSome (S.left source.old) (λ input. (status : Status) → HasStatus asked input status →
-        EndsUnlessFailed status result) }
-    ensures exact_refused { (asked : FileCommand) (input before : List ℕ) (r : Refusal)
-        → command (map string_bytes arguments.now) ≡ Some (Command.File asked)
-        → length input ≤ input_limit asked → IsRefusalOf asked input r
-        → S.left source.old ≡ Some input → S.left source.new ≡ Some []
-        → K.held sink.old ≡ Some before → K.held sink.new ≡ Some (before ++ refusal_line r)
-        → result ≡ Status.Refused }
-    ensures exact_invalid { (plan : PlanData) (input trace before : List ℕ) (line : ℕ)
-        → command (map string_bytes arguments.now) ≡ Some (Command.File FileCommand.Check)
-        → length input ≤ input_limit FileCommand.Check → HasPlan FileCommand.Check input plan trace
-        → IsBadLine plan (report_of plan) trace line
-        → S.left source.old ≡ Some input → S.left source.new ≡ Some []
-        → K.held sink.old ≡ Some before → K.held sink.new ≡ Some (before ++ invalid_line line)
-        → result ≡ Status.Invalid }
+    ensures by_cause { EndsByCause (command (map string_bytes arguments.now))
+        (S.left source.old) (S.left source.new) (K.held sink.old) (K.held sink.new) result }
 
     // With no fault of either the answer is what the arguments and the input say, or an allocation failed.
-    ensures complete_usage { command (map string_bytes arguments.now) ≡ None
-        → ¬ Rose (K.faults sink.old) (K.faults sink.new) → result ≡ Status.Usage }
-    ensures complete { (asked : FileCommand) → command (map string_bytes arguments.now)
-        ≡ Some (Command.File asked)
-        → IfSome (S.left source.old) (λ input. (status : Status) → HasStatus asked input status
-        → ¬ Rose (S.faults source.old) (S.faults source.new)
-        → ¬ Rose (K.faults sink.old) (K.faults sink.new)
-        → EndsUnlessNoMemory status result) }
-    ensures complete_demo { (size number : ℕ)
-        → command (map string_bytes arguments.now) ≡ Some (Command.Demo size number)
-        → ¬ Rose (K.faults sink.old) (K.faults sink.new)
-        → EndsUnlessNoMemory Status.Done result }
+    ensures complete { EndsWithoutFault (command (map string_bytes arguments.now))
+        (S.left source.old) (Rose (S.faults source.old) (S.faults source.new))
+        (Rose (K.faults sink.old) (K.faults sink.new)) result }
 
     // A service ends as its status says; which status that is follows from what the source has, but for a failure.
     ensures served { command (map string_bytes arguments.now) ≡ Some Command.Serve
-        → IsServiceEnd result (S.left source.old) (S.left source.new) (K.held sink.old)
-        (K.held sink.new) }
-    ensures serve_bad_frame { command (map string_bytes arguments.now) ≡ Some Command.Serve
-        → (all : List ℕ) (offset : ℕ) → S.left source.old ≡ Some all
-        → HasBadFrame (taken_bytes (S.left source.old) (S.left source.new)) offset
-        → EndsUnlessCutShort Status.Refused result }
-    ensures serve_took_more { command (map string_bytes arguments.now) ≡ Some Command.Serve
-        → (all : List ℕ) → S.left source.old ≡ Some all
-        → stream_limit < length (taken_bytes (S.left source.old) (S.left source.new))
-        → ((offset : ℕ) → ¬ HasBadFrame (taken_bytes (S.left source.old) (S.left source.new))
-        offset)
-        → EndsUnlessCutShort Status.TooLong result }
-    ensures serve_frames { command (map string_bytes arguments.now) ≡ Some Command.Serve
-        → (all : List ℕ) (frames : List Frame) → S.left source.old ≡ Some all →
-        length all ≤ stream_limit
-        → AreFrames all frames → EndsUnlessFailed Status.Done result }
-    ensures serve_refusal { command (map string_bytes arguments.now) ≡ Some Command.Serve
-        → (all : List ℕ) (offset : ℕ) → S.left source.old ≡ Some all → length all ≤ stream_limit
-        → HasBadFrame all offset ⊎ EndsWithin all offset → EndsUnlessFailed Status.Refused result }
-    ensures serve_complete { command (map string_bytes arguments.now) ≡ Some Command.Serve
-        → (all : List ℕ) → S.left source.old ≡ Some all → length all ≤ stream_limit
-        → ¬ Rose (S.faults source.old) (S.faults source.new) →
-        ¬ Rose (K.faults sink.old) (K.faults sink.new)
-        → ServesOrRefuses result }
+        → ServesBids (S.left source.old) (S.left source.new) (K.held sink.old)
+        (K.held sink.new) (Rose (S.faults source.old) (S.faults source.new))
+        (Rose (K.faults sink.old) (K.faults sink.new)) result }
     ensures source_count { S.faults source.old ≤ S.faults source.new }
     ensures sink_count { K.faults sink.old ≤ K.faults sink.new }
 {

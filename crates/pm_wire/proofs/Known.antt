@@ -13,7 +13,7 @@ use Rattle.pm_wire.specs.Answers.{OpenMarket, open_market, market_after, market_
 use Rattle.pm_wire.specs.Answers.{place_known, AnswersFrame, IsAtStart}
 use Rattle.pm_wire.specs.Taking.{Runs, AnswersFrom, CanTake, count_limit}
 use Rattle.pm_wire.specs.Services.{HaveOneAnswer, AnswersAndFault, fault_bytes}
-use Rattle.pm_wire.specs.Streams.{AreReplies, replies, replies_and_fault}
+use Rattle.pm_wire.specs.Answers.{AreReplies, replies, replies_and_fault}
 
 -- ---- lists of frames
 

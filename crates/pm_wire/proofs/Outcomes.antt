@@ -11,6 +11,7 @@ use Rattle.pm_wire.specs.declared.stream.Served.TheVariants.{Done, Refused, TooL
 use Rattle.pm_wire.specs.Framing.{Framing, IsFraming, stream_bytes, place_behind, BeginsWith, AreFrames, HasBadFrame, EndsWithin, Stops}
 use Rattle.pm_wire.specs.Services.{stream_limit, fault_bytes, HasFault, IsDone, IsRefused, IsLongStream, FailsReading, TellsFault}
 use Rattle.pm_wire.specs.Services.{EndsSo}
+use Rattle.pm_wire.specs.Due.{EndsAsDue}
 use Rattle.pm_wire.proofs.OneReading.{same_reading, has_not_bad, frames_not_bad, frames_not_within, bad_stays, begins_more}
 use Rattle.pm_wire.proofs.Places.{bad_more}
 
@@ -271,3 +272,18 @@ module _ {P F : Type 0} (framing : Framing P F) (sound : IsFraming framing) (sta
         answers = d.answers.answers;
         appends = subst R (sym is) (subst Q d.answers.spelled d.appends);
       }
+
+  -- how a service ends is as due, where its source tells all that it has
+  pub as_due : (all : List ℕ) (old new held holds : Option (List ℕ)) (r k : Type 0) (result : Served) → old ≡ Some all →
+      EndsSo framing start Answer old new held holds r k result → EndsAsDue framing start Answer all old new held holds r k result
+  as_due all old new held holds r k result is ends =
+      let out = said framing start Answer all old new held holds r k result is ends in
+      let Q : Option (List ℕ) → Type 0 = λ o. EndsAsDue framing start Answer all o new held holds r k result in
+      subst Q (sym is) (record {
+        bad_frame = λ offset bad. bad_frame all new held holds r k result offset out bad;
+        took_more = λ long none. took_more all new held holds r k result out long none;
+        frames = λ list short are. frames all new held holds r k result list out short are;
+        refusal = λ offset short bad. refusal all new held holds r k result offset out short bad;
+        complete = λ short calm quiet. complete all new held holds r k result out short calm quiet;
+        fault = λ offset refused bad. fault_told all new held holds offset (out.refused refused) bad;
+      })

@@ -2,8 +2,11 @@
 use Rattle.std.proofs.Common.{ℕ, List, Option}
 use Rattle.pm_wire.specs.Framing.{Framing}
 use Rattle.pm_wire.specs.Services.{AnswersAndFault, IsReplyDue, answered, refused, IsDone, IsRefused, IsAnswered, FailsReading, IsLongStream}
-use Rattle.pm_wire.specs.Services.{IsCutShort, IsBegun, TellsFault}
+use Rattle.pm_wire.specs.Services.{IsCutShort, IsBegun, TellsFault, EndsSo}
+use Rattle.pm_wire.specs.Due.{EndsAsDue}
 use Rattle.pm_wire.specs.Moments.{IsRestDue}
+use Rattle.pm_wire.specs.declared.stream.Served.{Served}
+use Rattle.pm_wire.specs.declared.stream.Served.TheVariants.{Done, Refused, TooLong, ReadFault, WriteFault, NoMemory}
 
 module _ {P F : Type 0} (framing : Framing P F) (start : P) (Answer Other : List F → List ℕ → Type 0)
     (by : (frames : List F) (reply : List ℕ) → Answer frames reply → Other frames reply) where
@@ -99,6 +102,30 @@ module _ {P F : Type 0} (framing : Framing P F) (start : P) (Answer Other : List
     before = d.before;
     answers = by d.frames d.reply d.answers;
     appends = d.appends;
+  }
+
+  -- of how it ended
+  pub ends_by : (old new held holds : Option (List ℕ)) (rose_source rose_sink : Type 0) (served : Served) →
+      EndsSo framing start Answer old new held holds rose_source rose_sink served →
+      EndsSo framing start Other old new held holds rose_source rose_sink served
+  ends_by old new held holds rose_source rose_sink Done d = done_by old new held holds d
+  ends_by old new held holds rose_source rose_sink Refused d = refused_by old new held holds d
+  ends_by old new held holds rose_source rose_sink TooLong d = long_by old new held holds d
+  ends_by old new held holds rose_source rose_sink ReadFault d = (d.0, reading_by old new held holds d.1)
+  ends_by old new held holds rose_source rose_sink WriteFault d = (d.0, cut_by old new held holds d.1)
+  ends_by old new held holds rose_source rose_sink NoMemory d = begun_by old new held holds d
+
+  -- of an end that is as due
+  pub as_due_by : (all : List ℕ) (old new held holds : Option (List ℕ)) (rose_source rose_sink : Type 0) (served : Served) →
+      EndsAsDue framing start Answer all old new held holds rose_source rose_sink served →
+      EndsAsDue framing start Other all old new held holds rose_source rose_sink served
+  as_due_by all old new held holds rose_source rose_sink served d = record {
+    bad_frame = d.bad_frame;
+    took_more = d.took_more;
+    frames = d.frames;
+    refusal = d.refusal;
+    complete = d.complete;
+    fault = λ offset refused bad. told_by all held holds offset (d.fault offset refused bad);
   }
 
   -- of what is due at a write

@@ -1,6 +1,6 @@
 -- What the auctioneer answers to a list of frames.
 use Rattle.std.specs.Prelude.{◌≡◌, ℕ, ◌+◌, ◌-◌, ◌||◌, ℤ, Bool, false, not, nat_le, if◌then◌else◌, List, []}
-use Rattle.std.specs.Prelude.{◌∷◌, ◌++◌, Option, Some, None}
+use Rattle.std.specs.Prelude.{◌∷◌, ◌++◌, length, Option, Some, None}
 use Rattle.std.specs.Int.{w16, w32, to_be_bytes}
 use Rattle.std.specs.List.{flat_map}
 use Rattle.pm_base.specs.Limits.{most_nodes}
@@ -9,6 +9,7 @@ use Rattle.pm_bid.specs.declared.head.BidHead.{BidHead}
 use Rattle.pm_cache.specs.Cache.{Cache, empty_cache, kept_number, aggregate_of}
 use Rattle.pm_cache.specs.Learning.{after_learning}
 use Rattle.pm_wire.specs.Kinds.{bare_price_kind, not_changed_kind, old_kind}
+use Rattle.pm_wire.specs.Frames.{stream_bytes}
 use Rattle.pm_wire.specs.Services.{fault_bytes}
 use Rattle.pm_wire.specs.declared.answer.Reply.{Reply}
 use Rattle.pm_wire.specs.declared.answer.Reply.TheVariants.{Price, NotChanged, Old, Fault}
@@ -110,6 +111,18 @@ answers_behind market (frame ∷ frames) = answers_to market frame ++ answers_be
 -- the answers to a list of frames
 abbrev pub answers : List Frame → List Reply
 answers frames = answers_behind None frames
+
+-- the bytes of the answers to frames
+abbrev pub replies : List Frame → List ℕ
+replies frames = reply_bytes (answers frames)
+
+-- the same, and the fault of the frame that comes next
+abbrev pub replies_and_fault : List Frame → List ℕ
+replies_and_fault frames = replies frames ++ answer_bytes (Fault (length (stream_bytes frames)))
+
+-- the bytes are those of the answers
+abbrev pub AreReplies : List Frame → List ℕ → Type 0
+AreReplies frames reply = reply ≡ replies frames
 
 -- the place in the stream at which what is known leaves it
 abbrev pub place_known : Option OpenMarket → Option ℕ

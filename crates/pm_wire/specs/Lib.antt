@@ -9,7 +9,7 @@ pub mod Services
 pub mod Answers
 pub mod MarketFields
 pub mod ServerFields
-pub mod Streams
+pub mod Due
 pub mod Memory
 pub mod Calls
 pub mod Newest

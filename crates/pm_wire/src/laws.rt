@@ -4,15 +4,15 @@
 ghost use Rattle.std.specs.Prelude.{◌≡◌, ℕ, ◌<◌, ◌≤◌, ℤ, List, ◌∷◌, ◌++◌, length, Option, Some, None};
 ghost use Rattle.pm_base.specs.Limits.{most_nodes};
 ghost use Rattle.pm_basis.specs.Prices.{BasisValue};
-ghost use Rattle.pm_wire.specs.Answers.{OpenMarket, market_behind};
+ghost use Rattle.pm_wire.specs.Answers.{OpenMarket, market_behind, AreReplies};
 ghost use Rattle.pm_wire.specs.Newest.{HasGreatestNumber, HasNone, DemandCounts, NothingCounts};
 ghost use Rattle.pm_wire.specs.declared.frame.Frame.TheVariants.{Hello};
 ghost use Rattle.pm_wire.specs.declared.frame.Frame.{Frame};
 ghost use Rattle.pm_wire.specs.Framing as framing;
 ghost use Rattle.pm_wire.specs.Calls.{Call, waits, refuses, MakesCall, MakeCalls, bytes_fed, frames_given};
 ghost use Rattle.pm_wire.specs.Decoding.{Decoding, nothing_fed_at};
-ghost use Rattle.pm_wire.specs.Streams.{IsDone, IsRefused, IsAnswered, FailsReading, IsLongStream, IsCutShort, IsBegun};
-ghost use Rattle.pm_wire.specs.Streams.{stream_limit, EndsWhole, HoldsFirstAnswers, HoldsLess};
+ghost use Rattle.pm_wire.specs.Services.{IsDone, IsRefused, IsAnswered, FailsReading, IsLongStream, IsCutShort, IsBegun};
+ghost use Rattle.pm_wire.specs.Services.{stream_limit, EndsWhole, HoldsFirstAnswers, HoldsLess};
 ghost use Rattle.pm_wire.specs.Frames.{bid_framing, BeginsWith, AreFrames, Stops, place_behind, HasBadFrame, EndsWithin};
 
 use crate::framing::StreamFrame;
@@ -68,23 +68,25 @@ pub fn frames_given_are_those_fed<F: StreamFrame>()
 /// An input past the limit is answered to its end only up to a bad frame.
 pub fn replies_are_of_the_bytes()
     ensures done { (all held : List ℕ) (new other holds kept : Option (List ℕ))
-        → IsDone (Some all) new (Some held) holds → IsDone (Some all) other (Some held) kept →
-        holds ≡ kept }
+        → IsDone bid_framing None AreReplies (Some all) new (Some held) holds
+        → IsDone bid_framing None AreReplies (Some all) other (Some held) kept → holds ≡ kept }
     ensures refused { (all held : List ℕ) (new other holds kept : Option (List ℕ))
-        → IsRefused (Some all) new (Some held) holds → IsRefused (Some all) other (Some held) kept →
-        holds ≡ kept }
+        → IsRefused bid_framing None AreReplies (Some all) new (Some held) holds
+        → IsRefused bid_framing None AreReplies (Some all) other (Some held) kept → holds ≡ kept }
     ensures not_both { (all held : List ℕ) (new other holds kept : Option (List ℕ))
-        → IsDone (Some all) new (Some held) holds → ¬ IsRefused (Some all) other (Some held) kept }
+        → IsDone bid_framing None AreReplies (Some all) new (Some held) holds
+        → ¬ IsRefused bid_framing None AreReplies (Some all) other (Some held) kept }
     ensures answered { (all held input taken : List ℕ) (new holds kept : Option (List ℕ))
-        → IsAnswered (Some all) new (Some held) holds input →
-        IsAnswered (Some all) new (Some held) kept taken
+        → IsAnswered bid_framing None AreReplies (Some all) new (Some held) holds input
+        → IsAnswered bid_framing None AreReplies (Some all) new (Some held) kept taken
         → holds ≡ kept }
     ensures within_or_past { (all held : List ℕ) (new holds kept : Option (List ℕ))
-        → FailsReading (Some all) new (Some held) holds →
-        ¬ IsLongStream (Some all) new (Some held) kept }
+        → FailsReading bid_framing None AreReplies (Some all) new (Some held) holds
+        → ¬ IsLongStream bid_framing None AreReplies (Some all) new (Some held) kept }
     ensures past_the_limit { (all held : List ℕ) (new holds : Option (List ℕ)) →
         stream_limit < length all
-        → EndsWhole (Some all) new (Some held) holds → (offset : ℕ) × HasBadFrame all offset }
+        → EndsWhole bid_framing None AreReplies (Some all) new (Some held) holds
+        → (offset : ℕ) × HasBadFrame all offset }
 {}
 
 /// A law: a service that ends early holds a beginning of what a service holds that answers the same input to the end, or to
@@ -92,18 +94,20 @@ pub fn replies_are_of_the_bytes()
 /// the sink fails, at least one byte is missing.
 pub fn early_ends_hold_a_beginning()
     ensures read_fault { (all held : List ℕ) (new other holds kept : Option (List ℕ))
-        → FailsReading (Some all) new (Some held) holds →
-        EndsWhole (Some all) other (Some held) kept
-        → HoldsFirstAnswers all held holds kept }
+        → FailsReading bid_framing None AreReplies (Some all) new (Some held) holds
+        → EndsWhole bid_framing None AreReplies (Some all) other (Some held) kept
+        → HoldsFirstAnswers bid_framing None AreReplies all held holds kept }
     ensures too_long { (all held : List ℕ) (new other holds kept : Option (List ℕ))
-        → IsLongStream (Some all) new (Some held) holds →
-        EndsWhole (Some all) other (Some held) kept
-        → HoldsFirstAnswers all held holds kept }
+        → IsLongStream bid_framing None AreReplies (Some all) new (Some held) holds
+        → EndsWhole bid_framing None AreReplies (Some all) other (Some held) kept
+        → HoldsFirstAnswers bid_framing None AreReplies all held holds kept }
     ensures no_memory { (all held : List ℕ) (new other holds kept : Option (List ℕ))
-        → IsBegun (Some all) new (Some held) holds → EndsWhole (Some all) other (Some held) kept
-        → HoldsFirstAnswers all held holds kept }
+        → IsBegun bid_framing None AreReplies (Some all) new (Some held) holds
+        → EndsWhole bid_framing None AreReplies (Some all) other (Some held) kept
+        → HoldsFirstAnswers bid_framing None AreReplies all held holds kept }
     ensures write_fault { (all held : List ℕ) (new other holds kept : Option (List ℕ))
-        → IsCutShort (Some all) new (Some held) holds → EndsWhole (Some all) other (Some held) kept
+        → IsCutShort bid_framing None AreReplies (Some all) new (Some held) holds
+        → EndsWhole bid_framing None AreReplies (Some all) other (Some held) kept
         → HoldsLess held holds kept }
 {}
 

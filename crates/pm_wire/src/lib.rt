@@ -13,9 +13,9 @@
 //!
 //! The definitions stand in `specs/`. Of any frames: `Framing` (which frame may stand where, and which is bad), `Spelling`
 //! (what the bytes of one frame are), `Decoding` (what a decoder keeps, and what its calls do), `Calls` (any list of them),
-//! `Taking` (what a service makes of frames), `Services` (what it reads and writes, by how it ends), `Memory` (how many bytes it
-//! holds at a time). Of bids: `Frames` (the frames as bytes), `Answers` (what is answered to a list of frames), `Newest` (which
-//! bid of a child counts), `Streams` (what the auctioneer reads and writes, by how it ends).
+//! `Taking` (what a service makes of frames), `Services` (what it reads and writes, by how it ends), `Due` (how it ends, by what its
+//! source had), `Moments` (the same at each read and write), `Memory` (how many bytes it holds at a time). Of bids: `Frames` (the
+//! frames as bytes), `Answers` (what the auctioneer answers to a list of frames), `Newest` (which bid of a child counts).
 #![tactic(auto)]
 
 mod answer;

@@ -4,13 +4,11 @@ ghost use Rattle.std.specs.Prelude.{◌≡◌, ◌⊎◌, Some, ◌<◌, ◌≤�
 ghost use Rattle.std.specs.Io.KnownBytes.{Appends};
 ghost use Rattle.pm_io.specs.Causes.{Rose};
 ghost use Rattle.pm_io.specs.Peers.{MayWriteAll};
-ghost use Rattle.pm_io.specs.Taken.{taken_bytes};
 ghost use Rattle.pm_wire.specs.Decoding.{nothing_fed_at};
-ghost use Rattle.pm_wire.specs.Framing.{AreFrames, HasBadFrame, EndsWithin};
 ghost use Rattle.pm_wire.specs.Memory.{piece_limit};
 ghost use Rattle.pm_wire.specs.Taking.{AnswersFrom};
-ghost use Rattle.pm_wire.specs.Services.{stream_limit, fault_bytes, IsDone, IsRefused, IsLongStream, IsCutShort, IsBegun, FailsReading, EndsSo};
-ghost use Rattle.pm_wire.specs.Services.{TellsFault};
+ghost use Rattle.pm_wire.specs.Services.{fault_bytes, EndsSo};
+ghost use Rattle.pm_wire.specs.Due.{EndsAsDue};
 ghost use Rattle.pm_wire.specs.Moments.{AsksWhatIsDue};
 
 use crate::answer::Reply;
@@ -161,67 +159,22 @@ pub fn serve_peer<F: StreamFrame, V: Service<F>, W: Peer>(
     // written now, is what is due for them: a peer that asks no more may come, and watch.
     requires asks { AsksWhatIsDue W.left W.held W.becomes W.may_read W.may_write F.framing place
         (AnswersFrom V.answers service.old) wire.old }
-    ensures done { result ≡ Served.Done
-        → IsDone F.framing place (AnswersFrom V.answers service.old)
-        (W.left wire.old) (W.left wire.new) (W.held wire.old) (W.held wire.new) }
-    ensures refused { result ≡ Served.Refused
-        → IsRefused F.framing place (AnswersFrom V.answers service.old)
-        (W.left wire.old) (W.left wire.new) (W.held wire.old) (W.held wire.new) }
-    ensures too_long { result ≡ Served.TooLong
-        → IsLongStream F.framing place (AnswersFrom V.answers service.old)
-        (W.left wire.old) (W.left wire.new) (W.held wire.old) (W.held wire.new) }
-    ensures read_fault { result ≡ Served.ReadFault →
-        Rose (W.read_faults wire.old) (W.read_faults wire.new)
-        × FailsReading F.framing place (AnswersFrom V.answers service.old)
-        (W.left wire.old) (W.left wire.new) (W.held wire.old) (W.held wire.new) }
-    ensures write_fault { result ≡ Served.WriteFault →
-        Rose (W.write_faults wire.old) (W.write_faults wire.new)
-        × IsCutShort F.framing place (AnswersFrom V.answers service.old)
-        (W.left wire.old) (W.left wire.new) (W.held wire.old) (W.held wire.new) }
-    ensures no_memory { result ≡ Served.NoMemory
-        → IsBegun F.framing place (AnswersFrom V.answers service.old)
-        (W.left wire.old) (W.left wire.new) (W.held wire.old) (W.held wire.new) }
 
-    // Where the source tells what it has, the bytes taken say how it ends, but for a failed write or allocation: Refused
-    // where a bad frame stands in them, and TooLong where they are too many and none does.
-    ensures bad_frame { (all : List ℕ) (offset : ℕ) → W.left wire.old ≡ Some all
-        → HasBadFrame F.framing place
-        (taken_bytes (W.left wire.old) (W.left wire.new)) offset
-        → (result ≡ Served.Refused) ⊎ (result ≡ Served.WriteFault) ⊎ (result ≡ Served.NoMemory) }
-    ensures took_more { (all : List ℕ) → W.left wire.old ≡ Some all
-        → stream_limit < length (taken_bytes (W.left wire.old) (W.left wire.new))
-        → ((offset : ℕ) → ¬ HasBadFrame F.framing place
-        (taken_bytes (W.left wire.old) (W.left wire.new))
-        offset)
-        → (result ≡ Served.TooLong) ⊎ (result ≡ Served.WriteFault) ⊎ (result ≡ Served.NoMemory) }
+    // What was read and written, by how it ends. The two faults come only where a count rose.
+    ensures ends { EndsSo F.framing place (AnswersFrom V.answers service.old)
+        (W.left wire.old) (W.left wire.new) (W.held wire.old) (W.held wire.new)
+        (Rose (W.read_faults wire.old) (W.read_faults wire.new))
+        (Rose (W.write_faults wire.old) (W.write_faults wire.new)) result }
 
-    // An input within the limit is Done where it is a list of frames, and Refused where it has a bad frame or ends within
-    // one, but for a failure.
-    ensures frames { (all : List ℕ) (frames : List F) → W.left wire.old ≡ Some all →
-        length all ≤ stream_limit
-        → AreFrames F.framing place all frames → (result ≡ Served.Done)
-        ⊎ (result ≡ Served.ReadFault) ⊎ (result ≡ Served.WriteFault) ⊎ (result ≡ Served.NoMemory) }
-    ensures refusal { (all : List ℕ) (offset : ℕ) → W.left wire.old ≡ Some all →
-        length all ≤ stream_limit
-        → HasBadFrame F.framing place all offset ⊎ EndsWithin F.framing place all offset
-        → (result ≡ Served.Refused) ⊎ (result ≡ Served.ReadFault)
-        ⊎ (result ≡ Served.WriteFault) ⊎ (result ≡ Served.NoMemory) }
-
-    // An input within the limit, and no fault of either, end in one of these.
-    ensures complete { (all : List ℕ) → W.left wire.old ≡ Some all → length all ≤ stream_limit
-        → ¬ Rose (W.read_faults wire.old) (W.read_faults wire.new) →
-        ¬ Rose (W.write_faults wire.old) (W.write_faults wire.new)
-        → (result ≡ Served.Done) ⊎ (result ≡ Served.Refused) ⊎ (result ≡ Served.NoMemory) }
+    // Where the source tells what it has, that says how it ends, but for a failure.
+    ensures due { (all : List ℕ) → W.left wire.old ≡ Some all →
+        EndsAsDue F.framing place (AnswersFrom V.answers service.old) all
+        (W.left wire.old) (W.left wire.new) (W.held wire.old) (W.held wire.new)
+        (Rose (W.read_faults wire.old) (W.read_faults wire.new))
+        (Rose (W.write_faults wire.old) (W.write_faults wire.new)) result }
     ensures becomes { W.becomes wire.old wire.new }
     ensures source_count { W.read_faults wire.old ≤ W.read_faults wire.new }
     ensures sink_count { W.write_faults wire.old ≤ W.write_faults wire.new }
-
-    // The fault that is told on Refused has the offset of the bad frame, or of the one within which the input ends.
-    ensures fault { (all : List ℕ) (offset : ℕ) → W.left wire.old ≡ Some all →
-        result ≡ Served.Refused
-        → HasBadFrame F.framing place all offset ⊎ EndsWithin F.framing place all offset
-        → TellsFault F.framing place (AnswersFrom V.answers service.old) all (W.held wire.old)
-        (W.held wire.new) offset }
 {
     F::is_framing();
     let mut decoder = FrameDecoder::at(alloc, place);

@@ -1,7 +1,7 @@
 -- What a peer asks that watches the service of a stream of bids, by all its bytes, those that it has still to give, and those that it got.
 use Rattle.std.specs.Prelude.{◌≡◌, ℕ, List, [], Some, None}
 use Rattle.pm_wire.specs.Frames.{bid_framing}
-use Rattle.pm_wire.specs.Streams.{AreReplies}
+use Rattle.pm_wire.specs.Answers.{AreReplies}
 use Rattle.pm_wire.specs.Moments.{HasAnswered, IsRestDue}
 
 -- before it gives more: it got the answers to all whole frames of the bytes that it gave

@@ -1,7 +1,7 @@
 -- Of `early_ends_hold_a_beginning`: what it ensures.
 use Rattle.std.proofs.Common.{None}
 use Rattle.pm_wire.specs.Frames.{bid_framing}
-use Rattle.pm_wire.specs.Streams.{AreReplies}
+use Rattle.pm_wire.specs.Answers.{AreReplies}
 use Rattle.pm_wire.proofs.OneFrame.{bid_framing_sound}
 use Rattle.pm_wire.proofs.Known.{replies_one}
 use Rattle.pm_wire.proofs.EarlyEnds as early

@@ -1,7 +1,7 @@
 -- Of `replies_are_of_the_bytes`: what it ensures.
 use Rattle.std.proofs.Common.{None}
 use Rattle.pm_wire.specs.Frames.{bid_framing}
-use Rattle.pm_wire.specs.Streams.{AreReplies}
+use Rattle.pm_wire.specs.Answers.{AreReplies}
 use Rattle.pm_wire.proofs.OneFrame.{bid_framing_sound}
 use Rattle.pm_wire.proofs.Known.{replies_one}
 use Rattle.pm_wire.proofs.EarlyEnds as early

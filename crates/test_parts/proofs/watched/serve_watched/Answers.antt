@@ -1,7 +1,7 @@
 -- Of `serve_watched`: the peer asks no more than what is due.
 use Rattle.std.proofs.Common.{List, ℕ, [], Some, None, subst, sym, ◌∙◌}
 use Rattle.pm_wire.specs.Frames.{bid_framing}
-use Rattle.pm_wire.specs.Streams.{AreReplies}
+use Rattle.pm_wire.specs.Answers.{AreReplies}
 use Rattle.pm_wire.specs.Moments.{HasAnswered, IsRestDue}
 use Rattle.test_parts.proofs.watched.serve_watched.Goals as goal
 
