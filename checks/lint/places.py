@@ -284,7 +284,7 @@ CLASS = re.compile(r"^class (\w+)\(.*\n(?:(?!class ).*\n)*?    KIND = (\d+)$", r
 
 def wrong_frames() -> Iterator[tuple[str, list[str]]]:
     """The first bytes of frames that a page or the package has otherwise than the code."""
-    text = text_of("crates/pm_frames/src/kinds.rt") + text_of("crates/pm_wire/src/bids.rt")
+    text = text_of("crates/pm_frames/src/kinds.rt") + text_of("crates/pm_wire/src/bid_frames.rt")
     known = {name.title().replace("_", ""): int(number) for name, number in KIND.findall(text)}
     tables = {page: {name: int(number) for name, number in ROW.findall(text_of(page))} for page in (RELAY, "docs/SERVE.md")}
     # Those that only answers have: the two pages have the same.

@@ -1,8 +1,8 @@
 -- What a reader says of the bytes at a place of the stream.
 use Rattle.std.specs.Prelude.{◌≡◌, ℕ, ◌≤◌, List, ◌++◌, length, drop}
 use Rattle.pm_wire.specs.Framing.{Framing, MayStand, IsUnfinished, BeginsBadly}
-use Rattle.pm_wire.specs.declared.reading.Reading.{Reading}
-use Rattle.pm_wire.specs.declared.reading.Reading.TheVariants.{Whole, Unfinished, Bad}
+use Rattle.pm_wire.specs.declared.front_frame.Reading.{Reading}
+use Rattle.pm_wire.specs.declared.front_frame.Reading.TheVariants.{Whole, Unfinished, Bad}
 
 -- a frame stands in the first bytes
 pub record IsWhole {P F : Type 0} (framing : Framing P F) (place : P) (bytes : List ℕ) (frame : F) (size : ℕ) : Type 0 where

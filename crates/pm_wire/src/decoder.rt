@@ -8,8 +8,8 @@ ghost use Rattle.pm_wire.specs.Decoding.{nothing_fed_at, nothing_fed, with_piece
 
 use crate::fault::DecodeFault;
 use crate::frame::Frame;
-use crate::framing::StreamFrame;
-use crate::reading::{Reading, read_frame};
+use crate::front_frame::{Reading, read_frame};
+use crate::stream_frame::StreamFrame;
 use std::alloc::{AllocError, Global};
 use std::marker::Model;
 

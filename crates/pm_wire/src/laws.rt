@@ -15,7 +15,7 @@ ghost use Rattle.pm_wire.specs.Services.{IsDone, IsRefused, IsAnswered, FailsRea
 ghost use Rattle.pm_wire.specs.Services.{stream_limit, EndsWhole, HoldsFirstAnswers, HoldsLess};
 ghost use Rattle.pm_wire.specs.Frames.{bid_framing, BeginsWith, AreFrames, Stops, place_behind, HasBadFrame, EndsWithin};
 
-use crate::framing::StreamFrame;
+use crate::stream_frame::StreamFrame;
 
 /// A law: some bytes have one list of frames, and one offset at which a bad frame stands or they end within one, and no two
 /// of these. A bad frame stays where it is, whatever follows.

@@ -20,33 +20,33 @@
 
 mod answer;
 mod auctioneer;
-mod bids;
+mod bid_frames;
 mod decoder;
 mod fault;
-mod fields;
 mod frame;
-mod frames;
-mod framing;
+mod front_frame;
 pub mod kinds;
 mod laws;
 mod market;
-mod reading;
+mod number_fields;
+mod pieces;
 mod server;
 mod service;
 mod stream;
+mod stream_frame;
 
 pub use answer::Reply;
 pub use auctioneer::{serve, serve_market};
 pub use decoder::{Decoder, FrameDecoder};
 pub use fault::DecodeFault;
-pub use fields::{read_demands, read_i32, read_u16, read_u32};
 pub use frame::Frame;
-pub use framing::StreamFrame;
 pub use laws::{
     early_ends_hold_a_beginning, frames_given_are_those_fed, replies_are_of_the_bytes,
     streams_have_one_reading, the_greatest_number_counts,
 };
 pub use market::write_prices;
+pub use number_fields::{read_demands, read_i32, read_u16, read_u32};
 pub use server::Server;
 pub use service::Service;
 pub use stream::{STREAM_LIMIT, Served, serve_peer};
+pub use stream_frame::StreamFrame;

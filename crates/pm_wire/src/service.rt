@@ -3,7 +3,7 @@
 ghost use Rattle.std.specs.Prelude.{◌≡◌, ◌+◌, ◌≤◌, ℕ, List, length, OnOk, OnErr};
 ghost use Rattle.pm_wire.specs.Taking.{CanTake, TakesFrame};
 
-use crate::framing::StreamFrame;
+use crate::stream_frame::StreamFrame;
 use std::alloc::AllocError;
 
 /// A service that takes the frames of a stream one after the other, and appends the bytes of its answers to each.

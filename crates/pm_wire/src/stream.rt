@@ -14,9 +14,9 @@ ghost use Rattle.pm_wire.specs.Moments.{AsksWhatIsDue};
 use crate::answer::Reply;
 use crate::decoder::FrameDecoder;
 use crate::fault::DecodeFault;
-use crate::frames::take_piece;
-use crate::framing::StreamFrame;
+use crate::pieces::take_piece;
 use crate::service::Service;
+use crate::stream_frame::StreamFrame;
 use pm_io::{Peer, WriteFault, tell_all};
 use std::alloc::Global;
 

@@ -4,7 +4,7 @@ use Rattle.std.proofs.lemmas.List.{take_rest}
 use Rattle.pm_wire.specs.Framing.{Framing, BeginsBadly}
 use Rattle.pm_wire.specs.Decoding.{Decoding}
 use Rattle.pm_wire.specs.Readings.{IsReading}
-use Rattle.pm_wire.specs.declared.reading.Reading.{Reading}
+use Rattle.pm_wire.specs.declared.front_frame.Reading.{Reading}
 use Rattle.pm_wire.proofs.Places.{whole_not_bad, whole_not_unfinished, bad_not_unfinished, whole_same}
 use Rattle.pm_wire.proofs.decoder.FrameDecoder.next.Goals as goal
 

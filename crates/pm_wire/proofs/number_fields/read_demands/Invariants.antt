@@ -3,7 +3,7 @@ use Rattle.std.proofs.Common.{◌≡◌, ◌*◌, ◌+◌, ◌++◌, length, tak
 use Rattle.std.specs.Int.{w32}
 use Rattle.std.specs.List.{AllByRecursion}
 use Rattle.pm_wire.specs.Frames.{demand_bytes}
-use Rattle.pm_wire.proofs.fields.read_demands.Given as goal
+use Rattle.pm_wire.proofs.number_fields.read_demands.Given as goal
 
 abbrev pub invariant-loop-place : goal.invariant-loop-place
 invariant-loop-place l = record {

@@ -1,7 +1,7 @@
 -- Of `read_gone`: what it ensures.
 use Rattle.std.proofs.Common.{arith}
 use Rattle.pm_wire.proofs.ReadFrames.{gone_refused, not_sender}
-use Rattle.pm_wire.proofs.bids.read_gone.Goals as goal
+use Rattle.pm_wire.proofs.bid_frames.read_gone.Goals as goal
 
 pub returns-then-not-is_sender : goal.returns-then-not-is_sender
 returns-then-not-is_sender c =

@@ -9,10 +9,10 @@ ghost use Rattle.pm_wire.specs.Kinds.{hello_kind, bid_kind, gone_kind};
 ghost use Rattle.pm_wire.specs.Frames.{size_at, place_after, demand_bytes, IsSender, MayStand, bid_framing};
 ghost use Rattle.pm_wire.specs.Spelling.{IsOne};
 
-use crate::fields::{read_i32, read_u16, read_u32};
 use crate::frame::Frame;
-use crate::framing::StreamFrame;
 use crate::kinds::{BID, BID_HEAD_SIZE, CLEAR, CLEAR_SIZE, GONE, GONE_SIZE, HELLO, HELLO_SIZE};
+use crate::number_fields::{read_i32, read_u16, read_u32};
+use crate::stream_frame::StreamFrame;
 use pm_base::{DEMAND_LIMIT, MOST_NODES};
 use pm_basis::Basis;
 use pm_bid::{ArrayBid, Steps};

@@ -1,7 +1,7 @@
 -- Of `read_hello`: what it ensures.
 use Rattle.std.proofs.Common.{arith, ◌∙◌}
 use Rattle.pm_wire.proofs.ReadFrames.{hello_read, hello_refused, same_check}
-use Rattle.pm_wire.proofs.bids.read_hello.Goals as goal
+use Rattle.pm_wire.proofs.bid_frames.read_hello.Goals as goal
 
 pub returns-in-Ok : goal.returns-in-Ok
 returns-in-Ok c =

@@ -3,7 +3,7 @@
 ghost use Rattle.std.specs.Prelude.{IfOk};
 ghost use Rattle.pm_wire.specs.Readings.{IsReading};
 
-use crate::framing::StreamFrame;
+use crate::stream_frame::StreamFrame;
 use std::alloc::{AllocError, Global};
 
 /// What stands at the front of some bytes.

@@ -5,7 +5,7 @@ use Rattle.std.specs.List.{AllByRecursion}
 use Rattle.std.proofs.lemmas.List.{take_more_set, length-set}
 use Rattle.pm_wire.specs.Frames.{signed_bytes, demand_bytes}
 use Rattle.pm_wire.proofs.OneField.{demands_more, fit_more, wide}
-use Rattle.pm_wire.proofs.fields.read_demands.Goals as goal
+use Rattle.pm_wire.proofs.number_fields.read_demands.Goals as goal
 
 pub loop-place-preserved : goal.loop-place-preserved
 loop-place-preserved c =

@@ -3,7 +3,7 @@ use Rattle.std.proofs.Common.{◌≡◌, ◌∙◌, ap, ℕ, ℤ, pos, true, Lis
 use Rattle.std.proofs.lemmas.List.{length-replicate}
 use Rattle.pm_bid.specs.Bids.{zeros}
 use Rattle.pm_wire.proofs.ReadFrames.{bid_refused, not_sender}
-use Rattle.pm_wire.proofs.bids.read_bid.Goals as goal
+use Rattle.pm_wire.proofs.bid_frames.read_bid.Goals as goal
 
 same_steps : (bid made : List ℤ) (steps : ℕ) → length bid ≡ length made → made ≡ zeros steps → length bid ≡ steps
 same_steps bid made steps same is = same ∙ ap length is ∙ length-replicate steps (pos 0)

@@ -7,8 +7,8 @@ ghost use Rattle.pm_wire.specs.Taking.{Agrees, TakesWhole, TakesUpToBad, count_l
 
 use crate::decoder::FrameDecoder;
 use crate::fault::DecodeFault;
-use crate::framing::StreamFrame;
 use crate::service::Service;
+use crate::stream_frame::StreamFrame;
 
 /// Takes all frames that are whole, and appends the answers to them.
 pub(crate) fn take_frames<F: StreamFrame, V: Service<F>>(

@@ -11,8 +11,8 @@ use Rattle.pm_bid.specs.Checks.{checked_bid}
 use Rattle.pm_wire.specs.Frames.{signed_bytes, demand_bytes}
 use Rattle.pm_wire.proofs.Falling.{falls_from, last_from, last_from-more, falls_from-more, falls_within, falls_within-tells}
 use Rattle.pm_wire.proofs.OneField.{demands_more, fit_more, wide}
-use Rattle.pm_wire.proofs.bids.fill.Goals as goal
-use Rattle.pm_wire.proofs.bids.fill.Goals.{then-falls, else-falls}
+use Rattle.pm_wire.proofs.bid_frames.fill.Goals as goal
+use Rattle.pm_wire.proofs.bid_frames.fill.Goals.{then-falls, else-falls}
 
 pub loop-step-preserved : goal.loop-step-preserved
 loop-step-preserved c =

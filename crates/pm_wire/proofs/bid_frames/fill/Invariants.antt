@@ -5,7 +5,7 @@ use Rattle.std.specs.List.{AllByRecursion}
 use Rattle.pm_base.specs.Limits.{demand_limit}
 use Rattle.pm_wire.specs.Frames.{demand_bytes}
 use Rattle.pm_wire.proofs.Falling.{falls_from, last_from}
-use Rattle.pm_wire.proofs.bids.fill.Given as goal
+use Rattle.pm_wire.proofs.bid_frames.fill.Given as goal
 
 abbrev pub invariant-loop-step : goal.invariant-loop-step
 invariant-loop-step l = record {

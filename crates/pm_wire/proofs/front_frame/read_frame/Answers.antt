@@ -2,7 +2,7 @@
 use Rattle.std.proofs.Common.{◌∙◌, sym, subst, List, ℕ}
 use Rattle.pm_wire.specs.Spelling.{IsFrameAt, IsRefusedFrame}
 use Rattle.pm_wire.proofs.ReadFrames.{front_is, whole_read, refused_read, not_empty}
-use Rattle.pm_wire.proofs.reading.read_frame.Goals as goal
+use Rattle.pm_wire.proofs.front_frame.read_frame.Goals as goal
 
 pub returns-in-Some-2 : goal.returns-in-Some-2
 returns-in-Some-2 g c =

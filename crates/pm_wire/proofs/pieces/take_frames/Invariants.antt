@@ -1,7 +1,7 @@
 -- Of `take_frames`: what its loop over `frame` keeps.
 use Rattle.std.proofs.Common.{◌+◌, ◌*◌, ◌≤◌, length}
 use Rattle.pm_wire.specs.Taking.{TakesSome}
-use Rattle.pm_wire.proofs.frames.take_frames.Given as goal
+use Rattle.pm_wire.proofs.pieces.take_frames.Given as goal
 
 abbrev pub invariant-loop-frame : goal.invariant-loop-frame
 invariant-loop-frame g l = record {

@@ -2,7 +2,7 @@
 use Rattle.std.proofs.Common.{arith, length, length-append, ap}
 use Rattle.pm_wire.proofs.Taking.{takes_more, can_take, answers_paid}
 use Rattle.pm_wire.proofs.Places.{frame_length}
-use Rattle.pm_wire.proofs.frames.take_frames.Goals as goal
+use Rattle.pm_wire.proofs.pieces.take_frames.Goals as goal
 
 pub answer-requires : goal.answer-requires
 answer-requires g c =
