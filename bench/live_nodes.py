@@ -18,6 +18,7 @@ sys.path.insert(0, str(Path(__file__).resolve().parent.parent / "python"))
 
 from cogmaula import logs  # noqa: E402
 from cogmaula.live import LiveError, make_node, settings_of  # noqa: E402
+from cogmaula.live.letting import Letting  # noqa: E402
 
 LAST_SECONDS = 20
 
@@ -28,21 +29,20 @@ class Nodes:
     def __init__(self, tables):
         self.heard, self.ended = 0, {}
         self._nodes = {table["node"]["name"]: make_node(settings_of(table["sort"], table)) for table in tables}
-        for node in self._nodes.values():
-            self._count(node.serving)
+        self._count()
         self._threads = [threading.Thread(target=self._run, args=pair, daemon=True) for pair in self._nodes.items()]
         for thread in self._threads:
             thread.start()
 
-    def _count(self, serving):
-        """Counts the bids that a service is fed."""
-        take = serving.letting.take_bid
+    def _count(self):
+        """Counts the bids that services of the process are fed."""
+        take = Letting.take_bid
 
-        def counted(child, message, now):
+        def counted(letting, child, message, now):
             self.heard += 1
-            take(child, message, now)
+            take(letting, child, message, now)
 
-        serving.letting.take_bid = counted
+        Letting.take_bid = counted
 
     def _run(self, name, node):
         try:

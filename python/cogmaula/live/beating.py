@@ -6,7 +6,7 @@ import math
 
 from .broker_link import Link, Publication
 from .frames import Bid
-from .keeping import Keeping
+from .publisher import Publisher
 from .sessions import now_text
 from .settings import Settings
 from .silence import Heartbeat, Silence
@@ -16,10 +16,10 @@ from .times import Times
 class Beating:
     """The heartbeats of one node. All calls are of the node's one thread; times are seconds of a clock that only rises."""
 
-    def __init__(self, settings: Settings, keeping: Keeping, link: Link) -> None:
+    def __init__(self, settings: Settings, publisher: Publisher, link: Link) -> None:
         """Takes what the node has."""
         self._settings = settings
-        self._keeping = keeping
+        self._publisher = publisher
         self._link = link
         self.silence = Silence()
         # The heartbeat that was passed on last; the auctioneer's start, and how many heartbeats it has made since.
@@ -59,7 +59,7 @@ class Beating:
     def _pass_on(self) -> None:
         self._passed = self.silence.newest
         if self._passed is not None:
-            self._keeping.publish(self._settings.own_topic("heartbeat"), self._passed.to_bytes(), now_text())
+            self._publisher.publish(self._settings.own_topic("heartbeat"), self._passed.to_bytes(), now_text())
 
     @property
     def has_bid(self) -> bool:

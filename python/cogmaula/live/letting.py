@@ -4,19 +4,18 @@ from __future__ import annotations
 
 import json
 import time
-from collections.abc import Callable, Iterable
+from collections.abc import Iterable
 
-from ..logs import NodeLog
-from .broker_link import Link, Message
+from .broker_link import Message
 from .children import Children, Heard
 from .errors import BadMessage, BadSettings
 from .frames import AuctioneerResume, Bound, Expire, Gone, Old, RelayResume, TooMuch
 from .keeping import Keeping
 from .lapses import Lapses
 from .messages import LapseMessage, StateMessage
+from .node_parts import NodeParts
 from .pricing import Pricing
 from .sessions import now_text
-from .settings import Settings
 from .times import Times
 from .topics import require_name
 
@@ -25,43 +24,32 @@ NAMES = 4
 
 
 class Letting:
-    """The children of one node. All calls are of the node's one thread; times are seconds of a clock that only rises."""
+    """The children of one node in one session. All calls are of the node's one thread; times are seconds of a clock that only rises."""
 
-    def __init__(
-        self,
-        settings: Settings,
-        keeping: Keeping,
-        link: Link,
-        children: Children,
-        pricing: Pricing,
-        log: NodeLog,
-        feed: Callable[[bytes], None],
-        has_news: Callable[[], None],
-    ) -> None:
-        """Takes what the node has. `feed` takes frames for the service, and `has_news` notes that it has to be asked."""
+    def __init__(self, parts: NodeParts, keeping: Keeping, children: Children, pricing: Pricing, times: Times) -> None:
+        """Takes the parts of the node, and what it has of the session."""
+        settings = parts.settings
         self._settings = settings
         self._keeping = keeping
-        self._link = link
+        self._publisher = parts.publisher
+        self._link = parts.link
         self._children = children
         self._pricing = pricing
-        self._log = log
-        self._feed = feed
-        self._has_news = has_news
+        self._log = parts.log
+        self._feed = parts.feed
+        self._has_news = parts.asking.has_news
         self.lapses = Lapses()
+        self.lapses.begin(times)
         self._numbers: tuple[int, ...] = ()
         self._are_missed = False
         self._of_child = {child.child: child for child in settings.children}
         # Of each child the newest message that came before its pause was over, and when that is.
         self._waiting: dict[int, Message] = {}
-        # The names that each child gave its node.
-        self._names: dict[int, set[str]] = {}
         self._not_before: dict[int, float] = {}
+        self._names = parts.names
 
-    def begin(self, resume: RelayResume | AuctioneerResume | None, kept: Iterable[Heard], times: Times, now: float) -> None:
-        """Begins a session with its Resume, and the bids that the disk has of its children: they count as if they were heard now."""
-        self.lapses.begin(times)
-        self._waiting.clear()
-        self._not_before.clear()
+    def begin(self, resume: RelayResume | AuctioneerResume | None, kept: Iterable[Heard], now: float) -> None:
+        """Begins with the Resume, and the bids that the disk has of the children: they count as if they were heard now."""
         self._numbers = () if resume is None else resume.numbers
         self._are_missed = resume is not None
         for heard in kept:
@@ -74,14 +62,14 @@ class Letting:
     @property
     def _lapsed(self) -> dict[int, int]:
         """The number under which each child that was let go counts as gone."""
-        return {} if self._keeping.stored is None else dict(self._keeping.stored.lapsed)
+        return dict(self._keeping.stored.lapsed)
 
     def _is_device(self, child: int) -> bool:
         """Whether a child may be let go: it is no relay, and not the place in which limits are given."""
-        stored, known = self._keeping.stored, self._of_child.get(child)
-        if stored is None or child == self._settings.place_of_limits:
+        known = self._of_child.get(child)
+        if child == self._settings.place_of_limits:
             return False
-        return child not in stored.relays if known is None or known.sort is None else known.sort == "device"
+        return child not in self._keeping.stored.relays if known is None or known.sort is None else known.sort == "device"
 
     @property
     def bounds(self) -> list[bytes]:
@@ -129,11 +117,11 @@ class Letting:
         return self._settings.child_pause if known is None or known.pause is None else known.pause
 
     def _note_sender(self, heard: Heard, now: float) -> None:
-        child, stored = heard.frame.child, self._keeping.stored
+        child, relays = heard.frame.child, self._keeping.stored.relays
         known = self._of_child.get(child)
         sort = heard.sort if known is None or known.sort is None else known.sort
-        if sort == "relay" and stored is not None and child not in stored.relays:
-            self._keeping.change(relays=tuple(sorted({*stored.relays, child})))
+        if sort == "relay" and child not in relays:
+            self._keeping.change(relays=tuple(sorted({*relays, child})))
         if sort != "device" or isinstance(heard.frame, Gone):
             self.lapses.forget(child)
             return
@@ -149,10 +137,7 @@ class Letting:
 
     def _clear(self, what: str, child: int) -> None:
         """Clears a topic of a child, if something was published there."""
-        topic = self._settings.topics.at(self._settings.name, what, child)
-        kept = self._link.kept(topic)
-        if kept is not None and kept.payload:
-            self._keeping.clear(topic)
+        self._publisher.clear_told(self._settings.topics.at(self._settings.name, what, child))
 
     def too_much(self, frame: TooMuch) -> None:
         """Tells that the service did not take a bid, which is outside the child's bound."""
@@ -166,7 +151,7 @@ class Letting:
             why = "too much"
         self._log.warning(f"bid {frame.number} of child {frame.child} is {why}: it does not count, and the one before does")
         topic = self._settings.topics.at(self._settings.name, "refused", frame.child)
-        self._keeping.publish(topic, json.dumps({**told, "why": why}).encode(), now_text())
+        self._publisher.publish(topic, json.dumps({**told, "why": why}).encode(), now_text())
 
     # Letting go.
 
@@ -193,8 +178,6 @@ class Letting:
 
     def tick(self, now: float, is_connected: bool) -> None:
         """Lets go who is due."""
-        if self._keeping.stored is None:
-            return
         self.lapses.connected(is_connected, now)
         for child in [child for child in self._waiting if now >= self._not_before[child]]:
             self.take_bid(child, self._waiting.pop(child), now)
@@ -222,12 +205,12 @@ class Letting:
 
     def _tell_lapse(self, child: int, why: str) -> None:
         told = LapseMessage(self._lapsed[child], why, now_text())
-        self._keeping.publish(self._settings.topics.at(self._settings.name, "lapsed", child), told.to_bytes(), told.time)
+        self._publisher.publish(self._settings.topics.at(self._settings.name, "lapsed", child), told.to_bytes(), told.time)
 
     def _comes_back(self, child: int) -> None:
         self._log.info(f"child {child} is back")
         self._keeping.change(lapsed={lapsed_child: number for lapsed_child, number in self._lapsed.items() if lapsed_child != child})
-        self._keeping.clear(self._settings.topics.at(self._settings.name, "lapsed", child))
+        self._publisher.clear(self._settings.topics.at(self._settings.name, "lapsed", child))
 
     def old(self, frame: Old) -> None:
         """Hands an Old to a device that was let go and lives: by it the device bids anew."""

@@ -2,15 +2,12 @@
 
 from __future__ import annotations
 
-from collections.abc import Callable
-
-from ..logs import NodeLog
 from .errors import BadMessage
 from .frames import Limits, OutOfLimits, RelayResume
 from .given import GivenLimits
 from .keeping import Keeping
+from .node_parts import NodeParts
 from .sessions import now_text
-from .settings import Settings
 from .store import Given
 
 # The seconds after a bid for which the service may still say that its sum is out of limits.
@@ -18,33 +15,22 @@ SETTLES = 0.5
 
 
 class Limiting:
-    """The limits of one relay. All calls are of the node's one thread; times are seconds of a clock that only rises."""
+    """The limits of one relay in one session. All calls are of the node's one thread; times are seconds of a clock that only rises."""
 
-    def __init__(
-        self,
-        settings: Settings,
-        keeping: Keeping,
-        log: NodeLog,
-        feed: Callable[[bytes], None],
-        has_news: Callable[[], None],
-    ) -> None:
-        """Takes what the node has. `feed` takes frames for the service, and `has_news` notes that it has to be asked."""
+    def __init__(self, parts: NodeParts, keeping: Keeping, resume: RelayResume | None) -> None:
+        """Begins a session with what is stored of it and its Resume."""
+        settings = parts.settings
         self._settings = settings
         self._keeping = keeping
-        self._log = log
-        self._feed = feed
-        self._has_news = has_news
+        self._publisher = parts.publisher
+        self._log = parts.log
+        self._feed = parts.feed
+        self._has_news = parts.asking.has_news
         self.given = GivenLimits(settings.floor, settings.ceiling, settings.place_of_limits)
+        self.given.begin(keeping.stored.given, resume)
         # The newest bid whose sum was out of limits, and when a later one counts as within them.
         self._out = 0
         self._within_at: float | None = None
-
-    def begin(self, resume: RelayResume | None) -> None:
-        """Begins a session with its Resume."""
-        stored = self._keeping.stored
-        assert stored is not None
-        self.given.begin(stored.given, resume)
-        self._out, self._within_at = 0, None
         self._tell()
 
     @property
@@ -80,11 +66,9 @@ class Limiting:
 
     def tick(self, now: float) -> None:
         """Takes the settings' own limits again once the given ones end, and lets an alarm end."""
-        if self._keeping.stored is None:
-            return
         if self.given.is_over:
             self._give(self.given.over())
-            self._keeping.clear(self._settings.own_topic("limits"))
+            self._publisher.clear(self._settings.own_topic("limits"))
             self._tell()
         if self._within_at is not None and now >= self._within_at:
             self._within_at = None
@@ -112,4 +96,4 @@ class Limiting:
 
     def _tell(self) -> None:
         if self._settings.limits_from:
-            self._keeping.publish(self._settings.own_topic("limits/state"), self.given.to_bytes(), now_text())
+            self._publisher.publish(self._settings.own_topic("limits/state"), self.given.to_bytes(), now_text())

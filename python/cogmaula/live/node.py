@@ -1,6 +1,7 @@
 """A node of the live market: joins a service, which is a process of `live`, to an MQTT broker.
 
-One thread does all the work, event by event. This file has the node's connection and its session; serving.py has its service.
+One thread does all the work, event by event. This file has the node's connection and how it enters a session; serving.py has
+its service, and served_session.py what it has in a session.
 """
 
 from __future__ import annotations
@@ -17,13 +18,13 @@ from ..logs import NodeLog
 from .beginning import Beginning, resume_of
 from .broker import Broker
 from .broker_link import Arrived, Confirmed, Event, Link, Message, Publication, Settled
-from .children import SESSION, TIME
 from .control import Control, StandardControl
 from .counting import NodeFacts
-from .errors import BadFrame, BadMessage, LiveError, NodeRefused
-from .frames import CHILDREN, MOST, PRICES, Leave, Old, Price, frame_of
-from .messages import LOST, VERSION, BasisMessage, StateMessage, object_of
-from .price_table import price_for
+from .errors import LiveError, NodeRefused
+from .frames import CHILDREN, MOST, Leave
+from .messages import LOST, BasisMessage, StateMessage
+from .parent import Parent
+from .served_session import ServedSession
 from .service import Came, Ended, MakeService
 from .serving import LAST_SECONDS, Serving
 from .sessions import Session, now_text
@@ -83,9 +84,7 @@ class Node:
         self._events: queue.SimpleQueue[Event | Came | Ended | _Offered | _Stop] = queue.SimpleQueue()
         self._run_id, self._started = secrets.token_hex(8), now_text()
         self._seen: dict[str, Message] = {}
-        self.session: Session | None = None
         self._state_told: tuple[object, ...] = ()
-        self._parent_state = ""
         self._begun = ""
         # When the node looked last, and when it reads again what the broker retains.
         self._looked = time.monotonic()
@@ -101,6 +100,14 @@ class Node:
         self._starts, self._is_first = self._store.next_start(), True
         self.showing = Showing(settings, self._log, lambda: [self.facts()])
         self.serving = Serving(settings, self._store, self._link, control, self._log, self._put, make_service)
+        self._parent: Parent | None = None
+        if settings.parent is not None and settings.child is not None:
+            self._parent = Parent(settings, settings.parent, settings.child, self.serving.beating, self._log, self._log_of_changes)
+
+    @property
+    def session(self) -> Session | None:
+        """The session that the node is in, None between sessions."""
+        return None if self.serving.session is None else self.serving.session.stored.session
 
     def _broker(self, notify: Callable[[Event], None], log: NodeLog) -> Link:
         client_id = f"cogmaula.{self.settings.broker.prefix.replace('/', '.')}.{self.settings.name}"
@@ -124,8 +131,9 @@ class Node:
                 self._take(event)
                 self._look()
             why = "stopped"
-            if self.settings.leave and self.serving.has_left:
-                why = f"it has left: child {self.settings.child} of {self.settings.parent} is gone as of number {self.serving.last}"
+            session = self.serving.session
+            if self.settings.leave and session is not None and session.has_left:
+                why = f"it has left: child {self.settings.child} of {self.settings.parent} is gone as of number {session.last}"
                 self._log.info(why)
         except (LiveError, OSError) as error:
             why = str(error)
@@ -161,7 +169,7 @@ class Node:
 
     def facts(self) -> NodeFacts:
         """What the node tells of itself now. It may be called from any thread."""
-        serving, stored = self.serving, self.serving.stored
+        serving, session = self.serving, self.serving.session
         return NodeFacts(
             node=self.settings.name,
             sort=self.settings.sort,
@@ -170,7 +178,7 @@ class Node:
             counts=serving.counts,
             stores=self._store.saves,
             store_seconds=self._store.seconds,
-            lapsed=0 if stored is None else len(stored.lapsed),
+            lapsed=0 if session is None else len(session.stored.lapsed),
             heartbeat=serving.beating.silence.heard_at,
             loop_age=time.monotonic() - serving.counts.turned,
         )
@@ -252,7 +260,7 @@ class Node:
     def _state(self, state: Literal["up", "down"], why: str, lost: bool = False) -> Publication:
         settings = self.settings
         session = "" if self.session is None else self.session.id
-        floor, ceiling = self.serving.limiting.given.newest
+        floor, ceiling = self.serving.limits
         limits = (floor if floor > -MOST else None, ceiling if ceiling < MOST else None)
         life = (self.serving.alarm, self.serving.silent_since(time.monotonic()))
         more = (settings.sort, settings.parent, settings.child, *limits, *life)
@@ -267,7 +275,7 @@ class Node:
     def _tell_state(self) -> None:
         """Publishes the state if it changed."""
         serving = self.serving
-        limits, silent = serving.limiting.given.newest, serving.silent_since(time.monotonic())
+        limits, silent = serving.limits, serving.silent_since(time.monotonic())
         state = (self.session, self._starts, serving.why_down, limits, serving.alarm, silent)
         if state != self._state_told:
             self._state_told = state
@@ -279,11 +287,14 @@ class Node:
         found = [message for message in self._link.taken() if not self._is_known(message)]
         self.showing.take(found)
         self._seen.update({message.topic: message for message in found})
-        if self.session is not None:
-            for message in found:
-                self._take_message(message)
-        elif self._link.is_settled and any(message.topic == self.settings.topics.basis for message in found):
-            self._begin()
+        if self.serving.session is None:
+            if self._link.is_settled and any(message.topic == self.settings.topics.basis for message in found):
+                self._begin()
+            return
+        for message in found:
+            # A new basis ends the session.
+            if self.serving.session is not None:
+                self._take_message(self.serving.session, message)
 
     def _is_known(self, message: Message) -> bool:
         """Whether the broker tells again what it had kept and told before."""
@@ -291,99 +302,36 @@ class Node:
         is_same = known is not None and (known.payload, known.properties) == (message.payload, message.properties)
         return is_same and message.retained and message.topic != self.settings.topics.basis
 
-    def _take_message(self, message: Message) -> None:
+    def _take_message(self, session: ServedSession, message: Message) -> None:
         """Takes a message of a node that is in a session."""
         settings, topics, topic = self.settings, self.settings.topics, message.topic
         if (child := topics.child_of(topic, settings.name, "bid")) is not None:
-            self.serving.letting.take_bid(child, message, time.monotonic())
+            session.letting.take_bid(child, message, time.monotonic())
         elif (child := topics.child_of(topic, settings.name, "drop")) is not None:
             if message.payload and not message.retained:
-                self.serving.letting.drop(child)
+                session.letting.drop(child)
         elif (child := topics.child_of(topic, settings.name, "price")) is not None:
-            self.serving.pricing.keep_price(child, message)
+            session.pricing.keep_price(child, message)
         elif settings.sort != "device" and topic == topics.prices(settings.name):
-            self.serving.pricing.keep_table(message)
-        elif settings.parent is not None and topic == topics.prices(settings.parent):
-            self._take_table(message)
+            session.pricing.keep_table(message)
         elif topic == topics.basis:
-            self._take_basis()
-        elif settings.parent is not None and topic == settings.own_topic("price"):
-            self._take_price(message)
+            self._take_basis(session)
+        elif self._parent is not None and self._parent.take(session, message):
+            pass
         elif topic == settings.own_topic("offer"):
-            self._take_offer(message)
+            self._take_offer(session, message)
         elif settings.limits_from and topic == settings.own_topic("limits"):
-            self.serving.limiting.take(message.payload)
-        elif settings.parent is not None and topic == topics.of(settings.parent, "state"):
-            self._take_parent_state(message)
-        elif settings.parent is not None and topic == topics.of(settings.parent, "heartbeat"):
-            self._take_heartbeat(message)
-        elif settings.parent is not None and topic in (settings.own_topic("lapsed"), settings.own_topic("refused")):
-            self._take_word(message, topic == settings.own_topic("lapsed"))
+            session.limiting.take(message.payload)
         elif settings.sort != "device" and topic.endswith("/state") and topic != settings.own_topic("state"):
-            self.serving.letting.take_state(message, time.monotonic())
+            session.letting.take_state(message, time.monotonic())
         elif topic in [settings.own_topic(kind) for kind in ("state", "resume")] or topic == self._bid_topic:
-            self._require_alone()
+            self._require_alone(session)
 
     @property
     def _bid_topic(self) -> str:
         return "" if self.settings.parent is None else self.settings.own_topic("bid")
 
-    def _take_price(self, message: Message) -> None:
-        assert self.session is not None
-        if not message.payload or message.properties.get(SESSION) != self.session.id:
-            return
-        try:
-            price = frame_of(message.payload, PRICES, self.settings.basis.steps)
-            assert isinstance(price, Price | Old)
-            if price.child != self.settings.child:
-                raise BadFrame(f"it names child {price.child}")
-        except BadFrame as error:
-            self._log.warning(f"{message.topic} is not taken: {error}")
-            return
-        if isinstance(price, Old):
-            self.serving.hear_old(price)
-        else:
-            self.serving.hear_price(price, message.properties.get(TIME, ""))
-
-    def _take_table(self, message: Message) -> None:
-        """Takes the own Price of the parent's table."""
-        if not self._is_of_session(message):
-            return
-        assert self.settings.child is not None
-        try:
-            price = price_for(message.payload, self.settings.child)
-        except BadFrame as error:
-            self._log.warning(f"{message.topic} is not taken: {error}")
-            return
-        if price is not None:
-            self.serving.hear_price(price, message.properties.get(TIME, ""))
-
-    def _is_of_session(self, message: Message) -> bool:
-        return self.session is not None and bool(message.payload) and message.properties.get(SESSION) == self.session.id
-
-    def _take_heartbeat(self, message: Message) -> None:
-        if self._is_of_session(message):
-            try:
-                self.serving.beating.hear(message.payload, time.monotonic(), message.retained)
-            except BadMessage as error:
-                self._log.warning(f"{message.topic} is not taken: {error}")
-
-    def _take_word(self, message: Message, is_lapse: bool) -> None:
-        """Takes what the parent says of this child: it has let it go, or its bid is too much."""
-        if not self._is_of_session(message):
-            return
-        try:
-            told = object_of(message.payload, "the word of the parent")
-        except BadMessage as error:
-            self._log.warning(f"{message.topic} is not taken: {error}")
-            return
-        number, why = told.get("number"), str(told.get("why", ""))[:200]
-        if is_lapse and type(number) is int:
-            self.serving.hear_lapse(number, why, time.monotonic())
-        elif not is_lapse:
-            self._log.warning(f"{self.settings.parent} does not take bid {number}: it is {why}. The one before counts")
-
-    def _take_offer(self, message: Message) -> None:
+    def _take_offer(self, session: ServedSession, message: Message) -> None:
         """Takes an offer of the topic. One that was known before, and that the broker kept, does not say that the control lives."""
         if not message.payload or self.settings.leave:
             return
@@ -391,23 +339,8 @@ class Node:
         if not message.retained or message.expiry is not None or digest != offers.digest:
             offers.digest = digest
             offers.take(message.payload, time.monotonic(), message.expiry)
-        elif self.serving.resume is None and not offers.has_offered:
+        elif session.resume is None and not offers.has_offered:
             offers.take_kept(message.payload, time.monotonic())
-
-    def _take_parent_state(self, message: Message) -> None:
-        try:
-            told = StateMessage.of(message.payload) if message.payload else None
-        except BadMessage as error:
-            self._log.warning(f"{message.topic} is not taken: {error}")
-            return
-        if told is not None and told.version != VERSION:
-            self._log_of_changes.error(f"{self.settings.parent} is of version {told.version}, and this node of {VERSION}: install this version there")
-        if told is not None and told.state != (self._parent_state or "up"):
-            if told.state == "up":
-                self._log.info(f"{self.settings.parent} is up again")
-            else:
-                self._log.warning(f"{self.settings.parent} is down: {told.why}")
-        self._parent_state = "" if told is None else told.state
 
     # Sessions.
 
@@ -417,11 +350,12 @@ class Node:
 
     def _settle(self) -> None:
         """Begins, or goes on after a connection was lost."""
-        if self.session is None:
+        session = self.serving.session
+        if session is None:
             self._begin()
             return
-        self._require_alone()
-        self._take_basis()
+        self._require_alone(session)
+        self._take_basis(session)
         self._link.publish_all()
 
     def _count_start(self) -> None:
@@ -431,9 +365,8 @@ class Node:
             self._starts = self._store.next_start(known.starts)
         self._is_first = False
 
-    def _require_alone(self) -> None:
-        if self.session is not None:
-            self._beginning.require_alone(self.session, self._run_id, self._starts, self.serving.last)
+    def _require_alone(self, session: ServedSession) -> None:
+        self._beginning.require_alone(session.stored.session, self._run_id, self._starts, session.last)
 
     def _begin(self) -> None:
         """Enters a session, if the broker and the disk tell one."""
@@ -452,12 +385,11 @@ class Node:
         if self.settings.sort == "auctioneer" or stored.frame:
             self._store.save(stored)
         is_later, self._begun = self._session_before() not in ("", stored.session.id), stored.session.id
-        self.session = stored.session
-        self._tell_basis()
+        self._tell_basis(stored.session)
         told = beginning.basis()
         times = self.settings.times if self.settings.sort == "auctioneer" or told is None else told.times
         known = beginning.bids_of_sum(stored.session, stored.frame)
-        self.serving.begin(stored, resume, times, time.monotonic(), self._starts, known)
+        session = self.serving.begin(stored, resume, times, time.monotonic(), self._starts, known)
         if self.settings.leave:
             self.serving.offers.want(Leave())
         elif is_later and self.settings.sort == "device":
@@ -465,42 +397,40 @@ class Node:
         # Whether the market lives, and counts this device, is known before the control is told anything.
         first = [f"/{ending}" for ending in ("heartbeat", "lapsed/" + str(self.settings.child))]
         messages = sorted(self._seen.values(), key=lambda message: not message.topic.endswith(tuple(first)))
-        self._take_all([message for message in messages if message.topic.endswith(tuple(first))])
-        self.serving.start(time.monotonic())
-        self._take_all([message for message in messages if not message.topic.endswith(tuple(first))])
+        self._take_all(session, [message for message in messages if message.topic.endswith(tuple(first))])
+        self.serving.start(session, time.monotonic())
+        self._take_all(session, [message for message in messages if not message.topic.endswith(tuple(first))])
 
     def _session_before(self) -> str:
         """The id of the session before, in this process or on disk, "" without one."""
         newest = None if self._begun else self._store.newest()
         return self._begun if newest is None else newest.session.id
 
-    def _take_all(self, messages: list[Message]) -> None:
+    def _take_all(self, session: ServedSession, messages: list[Message]) -> None:
         for message in messages:
             if message.topic != self.settings.topics.basis:
-                self._take_message(message)
+                self._take_message(session, message)
 
-    def _take_basis(self) -> None:
+    def _take_basis(self, session: ServedSession) -> None:
         """Takes the basis that the broker tells, in a session."""
-        told = self._beginning.basis()
-        assert self.session is not None
-        if told is None or told.session.order < self.session.order:
-            self._tell_basis()
-        elif told.session == self.session:
+        told, own = self._beginning.basis(), session.stored.session
+        if told is None or told.session.order < own.order:
+            self._tell_basis(own)
+        elif told.session == own:
             self._beginning.require_basis(told)
             if self.settings.sort != "auctioneer":
-                self.serving.take_times(told.times)
+                session.take_times(told.times)
         elif self.settings.sort == "auctioneer":
             raise NodeRefused(f"another auctioneer has begun session {told.session.id}: end one of the two")
         else:
-            self._log.info(f"session {self.session.id} is over: session {told.session.id} has begun")
-            self.session = None
+            self._log.info(f"session {own.id} is over: session {told.session.id} has begun")
             self.serving.end("it waits for its session")
             self._begin()
 
-    def _tell_basis(self) -> None:
-        """Publishes the basis, if this is the auctioneer."""
-        if self.settings.sort == "auctioneer" and self.session is not None:
-            told = BasisMessage(self.settings.basis, self.session, self.settings.times)
+    def _tell_basis(self, session: Session) -> None:
+        """Publishes the basis of a session, if this is the auctioneer."""
+        if self.settings.sort == "auctioneer":
+            told = BasisMessage(self.settings.basis, session, self.settings.times)
             self._link.publish(Publication(self.settings.topics.basis, told.to_bytes()))
 
 

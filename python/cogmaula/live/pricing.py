@@ -9,29 +9,27 @@ from __future__ import annotations
 import math
 from collections.abc import Callable, Collection
 
-from ..logs import NodeLog
-from .broker_link import Link, Message, Publication
+from .broker_link import Message, Publication
 from .children import SESSION, TIME
 from .errors import BadFrame
 from .frames import PRICES, Old, Price, frame_of
-from .keeping import Keeping
+from .node_parts import NodeParts
 from .price_table import PriceTable
-from .settings import Settings
-from .silence import Silence
+from .sessions import Session
 
 
 class Pricing:
-    """The prices of one node for its children. All calls are of the node's one thread; times are seconds of a clock that only rises."""
+    """The prices of one node for its children in one session. All calls are of the node's one thread; times are seconds of a clock that only rises."""
 
-    def __init__(
-        self, settings: Settings, keeping: Keeping, link: Link, silence: Silence, log: NodeLog, is_gone: Callable[[int], bool]
-    ) -> None:
-        """Takes what the node has. `is_gone` says whether a child has left: it is told no price."""
+    def __init__(self, parts: NodeParts, session: Session, is_gone: Callable[[int], bool]) -> None:
+        """Begins a session. `is_gone` says whether a child has left: it is told no price."""
+        settings = parts.settings
         self._settings = settings
-        self._keeping = keeping
-        self._link = link
-        self._silence = silence
-        self._log = log
+        self._publisher = parts.publisher
+        self._link = parts.link
+        self._silence = parts.beating.silence
+        self._log = parts.log
+        self._session = session.id
         self._is_gone = is_gone
         self._topic_of_table = settings.topics.prices(settings.name)
         # The newest table, when its clearing was, and whether it has still to be published.
@@ -43,14 +41,6 @@ class Pricing:
         self._told_at: dict[int, float] = {}
         self._waiting: dict[int, tuple[Price, str]] = {}
         self._topics: dict[int, str] = {}
-
-    def begin(self) -> None:
-        """Forgets all of an earlier session."""
-        self._table, self._time, self._is_due = None, "", False
-        self._told.clear()
-        self._told_at.clear()
-        self._waiting.clear()
-        self._topics.clear()
 
     @property
     def topics(self) -> Collection[str]:
@@ -99,14 +89,14 @@ class Pricing:
 
     def _publish(self, price: Price | Old, moment: str, now: float) -> None:
         self._told[price.child], self._told_at[price.child] = price, now
-        self._keeping.publish(self._topic_of(price.child), price.to_bytes(), moment)
+        self._publisher.publish(self._topic_of(price.child), price.to_bytes(), moment)
 
     def flush(self) -> None:
         """Publishes the table, if it changed."""
         if self._is_due and self._table is not None:
             self._is_due = False
             payload = self._table.to_bytes() if self._table.numbers else b""
-            self._keeping.publish(self._topic_of_table, payload, self._time)
+            self._publisher.publish(self._topic_of_table, payload, self._time)
 
     def tick(self, now: float) -> None:
         """Tells what has waited for a heartbeat, and the table if a child left it."""
@@ -156,8 +146,7 @@ class Pricing:
             self._drop(child)
 
     def _is_of_session(self, message: Message) -> bool:
-        stored = self._keeping.stored
-        return stored is not None and message.properties.get(SESSION) == stored.session.id
+        return message.properties.get(SESSION) == self._session
 
     def clear(self, child: int) -> None:
         """Clears the price of a child that has left, or was let go."""
@@ -165,7 +154,7 @@ class Pricing:
         self._told.pop(child, None)
         self._drop(child)
         if not self._settings.prices.together or self._link.kept(self._topic_of(child)) is not None:
-            self._keeping.clear(self._topic_of(child))
+            self._publisher.clear(self._topic_of(child))
 
     def _drop(self, child: int) -> None:
         """Takes a child out of the table."""
@@ -176,7 +165,7 @@ class Pricing:
         """Clears a child's own topic, if it holds something: the table has the price from now on."""
         if child in self._told:
             del self._told[child]
-            self._keeping.clear(self._topic_of(child))
+            self._publisher.clear(self._topic_of(child))
 
     def _topic_of(self, child: int) -> str:
         topic = self._topics.get(child)

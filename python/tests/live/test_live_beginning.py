@@ -278,7 +278,7 @@ def test_a_relay_may_change_its_limits_in_a_later_session(joined, tmp_path):
     one.link.comes(BASIS_TOPIC, basis_payload(LATER))
     one.link.settles()
     one.turned()
-    assert (one.node.session, one.node.serving.last) == (LATER, 0)
+    assert (one.node.session, one.node.serving.session.last) == (LATER, 0)
 
 
 def test_a_resume_that_the_service_refuses_ends_the_node(joined, tmp_path):

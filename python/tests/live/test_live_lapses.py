@@ -120,9 +120,9 @@ def with_children(joined, **more):
 
 def passes(one, seconds):
     """Lets so many seconds pass for what the node knows of its children."""
-    for child in one.node.serving.letting.lapses._children.values():
+    for child in one.node.serving.session.letting.lapses._children.values():
         child.heard -= seconds
-    down = one.node.serving.letting.lapses._down
+    down = one.node.serving.session.letting.lapses._down
     for name in down:
         down[name] -= seconds
     one.turned()
@@ -176,7 +176,7 @@ def test_the_state_of_a_node_elsewhere_does_not_count(joined):
     one = with_children(joined)
     one.link.comes("market/house/state", state_payload("a" * 16, "2026-01-31T06:30:00.000Z", "down", parent="lane", child=1))
     one.turned()
-    assert one.node.serving.letting.lapses._down == {}
+    assert one.node.serving.session.letting.lapses._down == {}
 
 
 @pytest.mark.parametrize(
@@ -245,7 +245,7 @@ def test_a_lapse_is_given_again_after_a_restart_that_forgot_it(joined, tmp_path)
 def test_a_restarted_parent_lets_a_device_go_that_it_misses_and_waits_for_a_relay(joined, tmp_path):
     saved(tmp_path, "relay", "street", relay_resume(3, 0, 0, numbers((1, 4), (2, 7))), relays=(2,))
     one = joined("relay").begun()
-    missed = one.node.serving.letting.lapses._missed
+    missed = one.node.serving.session.letting.lapses._missed
     assert set(missed) == {1}
     missed[1] -= 151
     one.turned()

@@ -164,7 +164,7 @@ def test_limits_that_cannot_be_kept_raise_an_alarm_until_a_later_bid_keeps_them(
     one.writes(relay_resume(2, 0, 0, numbers((1, 4), (256, 2)), TERMS, (0, 3)), Bid(3, 2, (9, 8)), OutOfLimits(2))
     assert len([line for line in one.said if line.startswith("ALARM")]) == 1
     one.writes(relay_resume(3, 0, 0, numbers((1, 6), (256, 2)), TERMS, (0, 3)), Bid(3, 3, (3, 2)))
-    one.node.serving.limiting._within_at = 0.0
+    one.node.serving.session.limiting._within_at = 0.0
     one.turned()
     assert json.loads(one.link.of("market/street/state")[-1])["alarm"] == ""
     assert [record.levelname for record in caplog.records if record.message == "the limits are kept again"] == ["INFO"]

@@ -101,10 +101,10 @@ def test_a_relays_resume_waits_until_the_broker_has_the_prices_before_it(joined,
 def test_a_devices_resume_waits_until_the_broker_has_the_setpoint_before_it(joined):
     one = joined("device").begun()
     one.writes(device_resume(1, 0, (500, -300)), bid(2, 1, 500, -300), Setpoint(1, 7, 1, -300), device_resume(1, 7, (500, -300)))
-    assert one.node.serving.stored.frame == device_resume(1, 0, (500, -300)).to_bytes()
+    assert one.node.serving.session.stored.frame == device_resume(1, 0, (500, -300)).to_bytes()
     one.link.confirm()
     one.turned()
-    assert one.node.serving.stored.frame == device_resume(1, 7, (500, -300)).to_bytes()
+    assert one.node.serving.session.stored.frame == device_resume(1, 7, (500, -300)).to_bytes()
 
 
 def test_prices_that_come_meanwhile_are_passed_over_for_the_newest(joined):
@@ -437,7 +437,7 @@ def test_a_relay_passes_the_time_of_the_clearing_on(joined, prices):
     for index in range(10, 90):
         one.link.comes("market/auctioneer/price/3", price(3, 1, index, 1).to_bytes(), [("time", "t"), ("session", SESSION.id)])
         one.turned()
-    assert len(one.node.serving._times) == 64
+    assert len(one.node.serving.session.prices.times) == 64
 
 
 # A device and its control.

@@ -202,7 +202,7 @@ def test_an_old_comes_by_the_childs_own_topic_in_both_forms(joined):
     one.writes(price(1, 1, 7, 1))
     one.link.comes("market/street/bid/1", bid(1, 2, 5, -3).to_bytes(), [*MARKED, ("sort", "device"), ("node", "house"), ("valid", "150")])
     one.turned()
-    one.node.serving.letting.drop(1)
+    one.node.serving.session.letting.drop(1)
     one.turned()
     assert one.link.newest[TABLE].payload == b"", "a child that was let go has no price"
     one.writes(Old(1, 3))

@@ -86,7 +86,7 @@ def test_the_bids_of_a_sum_are_on_disk_before_its_resume_and_are_fed_after_a_res
     ends(one)
     again = joined("relay").begun()
     assert again.service.read[:3] == [RELAY_RESUME.to_bytes(), FIRST.to_bytes(), bid(2, 2, 16, 0).to_bytes()]
-    assert again.node.serving.letting.lapses._children.keys() == {1, 2}, "a child that stays away is let go after grace"
+    assert again.node.serving.session.letting.lapses._children.keys() == {1, 2}, "a child that stays away is let go after grace"
 
 
 def test_a_bid_of_after_the_question_is_not_in_its_sum(joined):
@@ -178,7 +178,7 @@ def test_the_newest_bid_of_a_child_waits_until_its_pause_is_over(joined):
         one.turned()
     fed = [frame for frame in one.service.read if frame != Send().to_bytes()]
     assert fed == [bid(1, 2, 2, 0).to_bytes(), *[bid(2, number, number, 0).to_bytes() for number in (2, 4, 6)]]
-    one.node.serving.letting._not_before[1] -= 61
+    one.node.serving.session.letting._not_before[1] -= 61
     one.turned()
     assert bid(1, 6, 6, 0).to_bytes() in one.service.read
     assert bid(1, 4, 4, 0).to_bytes() not in one.service.read
@@ -188,7 +188,7 @@ def test_a_child_is_what_the_file_of_its_parent_says(joined):
     one = joined("relay", children=(ChildSettings(1, sort="device"),)).begun()
     one.link.comes("market/street/bid/1", FIRST.to_bytes(), (*MARKED, ("sort", "relay"), ("node", "house")))
     one.turned()
-    assert one.node.serving.letting._is_device(1)
+    assert one.node.serving.session.letting._is_device(1)
     assert one.node._store.newest() is None or one.node._store.newest().relays == ()
 
 
@@ -217,10 +217,10 @@ def test_after_a_pause_all_is_read_again_and_it_is_no_news(joined):
     one.link.has_lost = False
     node._read_again(now + 9.1)
     assert one.link.readings == 2
-    heard, count = node.serving.letting.lapses._children[1].heard, len(one.service.read)
-    node.serving.letting.lapses._children[1].heard -= 60
+    heard, count = node.serving.session.letting.lapses._children[1].heard, len(one.service.read)
+    node.serving.session.letting.lapses._children[1].heard -= 60
     retained_bids(one)
-    assert node.serving.letting.lapses._children[1].heard == heard - 60, "the child may be dead"
+    assert node.serving.session.letting.lapses._children[1].heard == heard - 60, "the child may be dead"
     assert len(one.service.read) == count
 
 

@@ -1,0 +1,354 @@
+"""What a node has in one session: made complete as the session begins, and let go of as it ends.
+
+Here is what the node hears for its service, and what the service writes, frame by frame. A Resume is stored, on disk and then at the
+broker, before a frame behind it is published. A relay's or a device's Resume is not stored before the broker has confirmed the prices or
+the setpoint before it. So a crash between the two gives them again. What is recorded is recorded first: a frame before it is fed or
+handled, and all on disk before a Resume is stored.
+"""
+
+from __future__ import annotations
+
+import time
+from collections import deque
+from collections.abc import Collection, Iterable
+from dataclasses import replace
+
+from .broker_link import Publication
+from .children import BIDS_OF_SUM, NODE, RELAYS, SORT, VALID, Children
+from .errors import OtherTerms
+from .frames import (
+    AuctioneerResume,
+    Bid,
+    DeviceResume,
+    Dropped,
+    Fault,
+    Frame,
+    Gone,
+    Hello,
+    NotCaughtUp,
+    NotChanged,
+    Old,
+    OtherBasis,
+    OutOfLimits,
+    OutOfNumbers,
+    Price,
+    RelayResume,
+    Resume,
+    ResumeGone,
+    Setpoint,
+    TooMuch,
+    WindowFull,
+    size_of,
+)
+from .keeping import Keeping
+from .letting import Letting
+from .limiting import Limiting
+from .node_parts import NodeParts
+from .price_feed import PriceFeed
+from .pricing import Pricing
+from .sessions import now_text
+from .store import Stored
+from .times import Times
+
+# The seconds between two lines about children that are awaited.
+BETWEEN_LINES = 60.0
+
+
+class ServedSession:
+    """One session of one node. All calls are of the node's one thread; times are seconds of a clock that only rises."""
+
+    def __init__(self, parts: NodeParts, stored: Stored, resume: Resume | None, times: Times, now: float, known: str = "") -> None:
+        """Takes the parts of the node, what is stored of the session, its Resume, and the times of the market.
+
+        known: of the bids in the Resume, what the broker's copy of it tells
+
+        Raises OSError.
+        """
+        settings = parts.settings
+        self._parts = parts
+        self._settings = settings
+        self._log = parts.log
+        self.resume = resume
+        self.keeping = Keeping(parts.store, stored)
+        kept = [] if settings.sort == "device" else parts.bids.begin(stored.session)
+        self.children = Children(settings.name, settings.topics, settings.basis.steps, parts.log)
+        self.children.begin(stored.session.id, kept, known)
+        self.pricing = Pricing(parts, stored.session, self.children.is_gone)
+        self.letting = Letting(parts, self.keeping, self.children, self.pricing, times)
+        self.letting.begin(resume if isinstance(resume, RelayResume | AuctioneerResume) else None, kept, now)
+        self.limiting = Limiting(parts, self.keeping, resume if isinstance(resume, RelayResume) else None)
+        self.prices = PriceFeed()
+        # An Old that says that the device was let go, and whether the service has still to be fed it.
+        self._old: Old | None = None
+        self._is_old_due = False
+        # The children that are awaited, and from when on a line may say so.
+        self._lacking: list[int] = []
+        self._lines_from = 0.0
+        # The number of the Bid or Gone that was published last, and how many prices were of another basis.
+        self._bid = self.other_basis = 0
+        # The frames of the service that were not handled yet.
+        self.pending: deque[Frame] = deque()
+        if stored.frame:
+            self._publish_resume()
+
+    @property
+    def stored(self) -> Stored:
+        """What is stored of the session."""
+        return self.keeping.stored
+
+    def take_times(self, times: Times) -> None:
+        """Goes by other times of the market from now on."""
+        self._parts.beating.silence.times = times
+        self.letting.lapses.take_times(times)
+
+    @property
+    def last(self) -> int:
+        """The last number of the newest Resume, 0 without one."""
+        return 0 if self.resume is None else self.resume.last
+
+    @property
+    def alarm(self) -> str:
+        """What is wrong with a relay's limits or the basis of its prices, and whom a parent waits for; "" if nothing is."""
+        basis = f"{self.other_basis} prices were of another basis" if self.other_basis else ""
+        return "; ".join(words for words in (self._words_of_lacking, self.limiting.alarm, basis) if words)
+
+    @property
+    def _words_of_lacking(self) -> str:
+        children = ", ".join(map(str, self._lacking))
+        return f"waits for the bids of children {children}, which were in the newest sum" if children else ""
+
+    @property
+    def has_left(self) -> bool:
+        """Whether a device has no offer, and the broker has its Resume and its Gone."""
+        topics = [self._settings.own_topic(kind) for kind in ("bid", "resume")]
+        is_told = self._bid == self.last and not self._parts.link.is_unconfirmed(topics)
+        return self._parts.is_up() and self._parts.offers.is_out and is_told
+
+    # What the node hears, for its service.
+
+    def hear_old(self, old: Old) -> None:
+        """Takes an Old of the parent: it has let this device go."""
+        if self._settings.sort != "device" or old.kept <= self.last:
+            return
+        self._parts.beating.silence.let_go(old.kept, f"{self._settings.parent} has let it go")
+        self._old, self._is_old_due = old, True
+        self._feed_old()
+
+    def hear_lapse(self, number: int, why: str, now: float) -> None:
+        """Takes that the parent has let this device go, as of this number: its bid is told again, so that an Old comes."""
+        if number > self.last:
+            self._parts.beating.silence.let_go(number, f"{self._settings.parent} has let it go, {why}")
+            self._parts.beating.renew(now)
+
+    def hear_price(self, price: Price, moment: str) -> None:
+        """Takes a Price of the parent, unless a newer one came. `moment` is when its clearing was, "" if that was not told."""
+        self.prices.hear(price, moment)
+        self._feed_price(time.monotonic())
+
+    def feed_heard(self, now: float) -> None:
+        """Feeds what was heard and is due."""
+        self._feed_old()
+        self._feed_price(now)
+
+    def _feed_old(self) -> None:
+        if self._is_old_due and self._old is not None and self._parts.is_up() and not self.pending:
+            self._is_old_due = False
+            if self._old.kept > self.last:
+                self._parts.feed(self._old.to_bytes())
+
+    def _feed_price(self, now: float) -> None:
+        """Feeds the newest Price once the broker has all that answers the one before. Prices between the two are passed over."""
+        if self._parts.is_up() and not self.pending:
+            price = self.prices.due(now, self._parts.beating.silence.times.heartbeat)
+            if price is not None:
+                self._parts.feed(price.to_bytes())
+
+    # The service's start and end, and what it is asked.
+
+    def starts(self, now: float) -> None:
+        """Feeds a service that has started from the newest Resume the newest of all that was heard."""
+        parts = self._parts
+        parts.asking.forget()
+        for data in (*self.letting.bounds, *self.limiting.frames):
+            parts.feed(data)
+        for data in (*(bid.to_bytes() for bid in self.children.newest), *self.letting.expiries):
+            parts.asking.has_news()
+            parts.feed(data)
+        self._is_old_due = self._old is not None
+        self.prices.starts()
+        self.feed_heard(now)
+        parts.offers.forget()
+
+    def tick(self, now: float) -> None:
+        """Tells below that the market lives, and lets go of children that do not."""
+        parts = self._parts
+        parts.beating.tick(now, parts.is_up())
+        if self._settings.sort == "device":
+            parts.controlling.tick(now, parts.beating.has_bid, self.stored.setpoint)
+            return
+        self.letting.tick(now, parts.link.is_settled)
+        self.pricing.tick(now)
+        if self._settings.sort == "relay":
+            self.limiting.tick(now)
+
+    def keep_offer(self, now: float) -> None:
+        """Stores what changed of the device's offer without a new number: its reference, and until when it holds."""
+        offers = self._parts.offers
+        if offers.references != self.stored.references:
+            self._parts.controlling.keep_references(self.keeping, self.last)
+        if offers.has_later_end(self.stored.until, now):
+            self.keeping.change(**self._offer(now))
+
+    def _offer(self, now: float) -> dict[str, str]:
+        """What is stored of the newest offer."""
+        return {"offer": self._parts.offers.digest, "until": self._parts.offers.ends_at(now)}
+
+    # The frames of the service.
+
+    def take(self, frames: Iterable[Frame]) -> None:
+        """Takes what the service wrote."""
+        self.pending.extend(frames)
+        self.work()
+
+    def work(self) -> None:
+        """Handles the service's frames in their order, up to a Resume that has to wait for the broker."""
+        while self.pending:
+            frame = self.pending[0]
+            if isinstance(frame, RelayResume | DeviceResume | ResumeGone):
+                self.pricing.flush()
+                if self._parts.link.is_unconfirmed(self._told_below()):
+                    return
+            self.pending.popleft()
+            self._parts.recording.wrote(frame.to_bytes())
+            self._handle(frame)
+        self.pricing.flush()
+
+    def _told_below(self) -> Collection[str]:
+        """The topics that the broker has to confirm before a Resume behind them is stored."""
+        is_relay = self._settings.sort == "relay"
+        return self.pricing.topics if is_relay else [self._settings.own_topic("setpoint")]
+
+    def _handle(self, frame: Frame) -> None:
+        self._parts.counts.wrote(frame, self._count_lacking if isinstance(frame, NotCaughtUp) else 0)
+        match frame:
+            case RelayResume() | AuctioneerResume() | DeviceResume() | ResumeGone():
+                self._keep(frame)
+            case Bid() | Gone():
+                self._parts.publisher.publish(self._settings.own_topic("bid"), frame.to_bytes(), now_text(), self._sender)
+                self._bid = frame.number
+                self._parts.asking.answered()
+                self.limiting.bids(frame.number, time.monotonic())
+                if isinstance(frame, Gone):
+                    self._parts.link.publish(Publication(self._settings.own_topic("setpoint"), b""))
+            case Price():
+                self.pricing.pass_on(frame, self._time_of(frame.index), time.monotonic())
+            case Setpoint():
+                moment, has_bid = self._time_of(frame.index), self._parts.beating.has_bid
+                self._parts.controlling.setpoint(self.keeping, frame, moment, time.monotonic(), has_bid)
+            case Old():
+                self.letting.old(frame)
+            case TooMuch():
+                self.letting.too_much(frame)
+            case OutOfLimits():
+                self.limiting.out_of_limits(frame)
+            case Dropped():
+                self.prices.not_taken(frame.number, frame.index)
+            case OtherBasis():
+                self.prices.not_taken(frame.number, frame.index)
+                self.other_basis += 1
+                self._log.warning(f"the price of clearing {frame.index} is of another basis, and is not taken: give {self._settings.parent} this basis")
+            case NotChanged():
+                self._parts.asking.answered()
+                self._lacking = []
+            case WindowFull():
+                self._parts.asking.answered(again=True)
+                self._lacking = []
+                self._parts.offers.refused(time.monotonic())
+            case NotCaughtUp():
+                self._parts.asking.answered(again=True)
+                self._say_lacking()
+            case OutOfNumbers():
+                self._parts.asking.answered()
+                self._parts.offers.ended()
+                self._log.error("no number is left: begin a new session at the auctioneer")
+            case Fault():
+                self._log.error(f"the service refused the frame at byte {frame.offset}")
+                if frame.offset == size_of(Hello, 0) and self.stored.frame:
+                    raise OtherTerms(
+                        f"the service refuses the Resume of session {self.stored.session.id}: give this node the limits and the program "
+                        "live that it was made with, or begin a new session at the auctioneer by --new-session"
+                    )
+
+    @property
+    def _count_lacking(self) -> int:
+        """How many children were in the newest sum and are not heard."""
+        return len(self.children.lacking(self.resume.numbers)) if isinstance(self.resume, RelayResume | AuctioneerResume) else 0
+
+    @property
+    def _sender(self) -> tuple[tuple[str, str], ...]:
+        """What a bid says of the node that sent it."""
+        settings = self._settings
+        who = ((SORT, settings.sort), (NODE, settings.name))
+        return who if settings.sort == "relay" else (*who, (VALID, f"{self._parts.beating.silence.times.grace:g}"))
+
+    def _keep(self, resume: Resume) -> None:
+        """Stores a Resume, before any frame behind it is handled. Raises OSError, and then the node has to end.
+
+        The bids of the children that are in it are safe on disk before. One of a device with another price alone is noted, and stored
+        with the next change: a device may come back with an older price.
+        """
+        before, self.resume = self.resume, resume
+        noted: dict[str, object] = {"basis": self._settings.basis, "frame": resume.to_bytes(), "time": now_text()}
+        if isinstance(before, DeviceResume) and isinstance(resume, DeviceResume) and is_of_another_price(before, resume):
+            self.keeping.note(**noted)
+            self._parts.offers.resumed(resume)
+            return
+        if isinstance(resume, DeviceResume | ResumeGone):
+            references = self._parts.offers.references_with(resume)
+            setpoint = "" if isinstance(resume, ResumeGone) else self.stored.setpoint
+            noted |= {"setpoint": setpoint, "references": references, **self._offer(time.monotonic())}
+        self._parts.recording.make_safe()
+        if isinstance(resume, RelayResume | AuctioneerResume):
+            self._parts.bids.make_safe(self.children.asked)
+        self.keeping.change(**noted)
+        self._parts.recording.stored()
+        self._lacking = []
+        self._publish_resume()
+        match resume:
+            case DeviceResume() | ResumeGone():
+                self._parts.offers.resumed(resume)
+            case AuctioneerResume():
+                self._parts.asking.answered()
+                self.letting.resumed(resume)
+            case RelayResume():
+                self.letting.resumed(resume)
+                self.limiting.resumed(resume)
+
+    def _publish_resume(self) -> None:
+        """Hands a copy of the Resume to the broker, with the children that are relays, and of the bids in it the digests."""
+        stored = self.stored
+        more = ((RELAYS, " ".join(map(str, stored.relays))),) if stored.relays else ()
+        words = self.children.words_of_asked
+        bids = ((BIDS_OF_SUM, words),) if words else ()
+        self._parts.publisher.publish(self._settings.own_topic("resume"), stored.frame, stored.time, more + bids)
+
+    def _time_of(self, index: int) -> str:
+        """When the clearing of this index was, "" if that was not told."""
+        if self._settings.sort == "auctioneer":
+            return self.stored.time
+        return self.prices.times.get(index, "")
+
+    def _say_lacking(self) -> None:
+        """Notes which children are awaited, and says so, not more often than once in a while."""
+        now = time.monotonic()
+        if not isinstance(self.resume, RelayResume | AuctioneerResume):
+            return
+        self._lacking = self.children.lacking(self.resume.numbers)
+        if now >= self._lines_from:
+            self._lines_from = now + BETWEEN_LINES
+            self._log.warning(f"{self._words_of_lacking}: are their nodes up?")
+
+
+def is_of_another_price(before: DeviceResume, now: DeviceResume) -> bool:
+    """Whether two Resumes of a device differ at most in the price that was taken."""
+    return replace(before, index=0) == replace(now, index=0)
