@@ -10,6 +10,7 @@ import threading
 from collections.abc import Callable
 from typing import Protocol
 
+from ..live.messages import ControlMessage
 from ..logs import NodeLog
 from .agent_messages import LEAVE_OFFER, update_of
 from .node_thread import Running
@@ -54,9 +55,9 @@ class Agent:
         if waiting is not None:
             notify(waiting)
 
-    def write(self, setpoint: bytes) -> None:
+    def write(self, told: ControlMessage) -> None:
         """See Control. Of several that the agent did not read, the newest counts."""
-        self.newest = update_of(setpoint)
+        self.newest = update_of(told)
         self._loop.call_soon_threadsafe(self._has_news)
 
     def forget(self) -> None:

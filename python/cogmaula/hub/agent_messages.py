@@ -13,7 +13,7 @@ from ..cluster import Basis
 from ..live.errors import BadFrame, BadMessage
 from ..live.frames import Offer, Points, require_demands
 from ..live.kinds import DeviceKind
-from ..live.messages import members_of, object_of, require_reference, stated
+from ..live.messages import ControlMessage, SetpointMessage, members_of, object_of, require_reference, stated
 
 # The longest line or message, in bytes.
 LONGEST = 32_768
@@ -160,16 +160,15 @@ def welcome(agent: str, cluster: Cluster, basis: Basis, session: str, time: str)
     return _line({"agentId": agent, "clusterId": cluster.id, "marketBasis": market, "session": session, "time": time})
 
 
-def update_of(setpoint: bytes) -> bytes:
+def update_of(told: ControlMessage) -> bytes:
     """What the control of the agent's device is told, as the agent is told it: a priceUpdate, or that the market is silent or back."""
-    told = json.loads(setpoint)
-    if "market" in told:
-        return _line({"marketUpdate": told})
-    update = {"price": told["price"]}
-    if "reference" in told:
-        update["bidNumber"] = told["reference"]
-    update |= {key: told[key] for key in ("step", "power")}
-    update |= {"offer": told["bid"], "clearing": told["clearing"], "time": told["time"], "until": told["until"]}
+    if not isinstance(told, SetpointMessage):
+        return _line({"marketUpdate": told.to_object()})
+    update: dict[str, Any] = {"price": told.price}
+    if told.reference is not None:
+        update["bidNumber"] = told.reference
+    update |= {"step": told.step, "power": told.power}
+    update |= {"offer": told.bid, "clearing": told.clearing, "time": told.time, "until": told.until}
     return _line({"priceUpdate": update})
 
 

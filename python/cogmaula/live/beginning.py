@@ -2,7 +2,6 @@
 
 from __future__ import annotations
 
-import json
 from collections.abc import Mapping
 from dataclasses import dataclass, replace
 
@@ -11,7 +10,7 @@ from .broker_link import Message
 from .children import BIDS_OF_SUM, FORM, RELAYS, SESSION, TIME
 from .errors import BadFrame, BadMessage, NodeRefused, OtherTerms
 from .frames import BIDS, FIRST_FORM, RESUMES, AuctioneerResume, Bid, DeviceResume, Gone, RelayResume, Resume, ResumeGone, frame_of
-from .messages import VERSION, BasisMessage, StateMessage, is_same_setpoint, is_setpoint, without_until
+from .messages import VERSION, BasisMessage, SetpointMessage, StateMessage
 from .sessions import Session, new_session, now_text
 from .settings import Settings
 from .store import Store, Stored
@@ -109,12 +108,10 @@ class Beginning:
 
     def _with_newest_setpoint(self, found: Stored) -> Stored:
         """The same with the broker's setpoint, if it is that of the disk after a later clearing."""
-        told = self._setpoint(found.session) if found.setpoint else ""
-        if not told or not is_same_setpoint(*(without_until(setpoint) for setpoint in (found.setpoint, told))):
+        told = self._setpoint(found.session)
+        if told is None or found.setpoint is None or not told.is_same(found.setpoint) or told.clearing <= found.setpoint.clearing:
             return found
-        indices = [json.loads(setpoint).get("clearing") for setpoint in (found.setpoint, told)]
-        is_later = all(type(index) is int for index in indices) and indices[1] > indices[0]
-        return replace(found, setpoint=without_until(told)) if is_later else found
+        return replace(found, setpoint=told)
 
     def _require_terms(self, found: Stored) -> None:
         """Raises OtherTerms if a Resume was made under other terms than the node's: its service would refuse it."""
@@ -220,7 +217,7 @@ class Beginning:
         if stored is not None and before is not None and before.last >= resume.last:
             return stored
         self.log.info(f"goes on from the broker's Resume with number {resume.last}, which is newer than the one on disk")
-        setpoint = self._setpoint(session) if isinstance(resume, DeviceResume) else ""
+        setpoint = self._setpoint(session) if isinstance(resume, DeviceResume) else None
         time = message.properties.get(TIME, now_text())
         # Who is a relay is told with the Resume. What the disk has of children that were let go, and of limits, is not older than it.
         relays = tuple(int(word) for word in message.properties.get(RELAYS, "").split() if word.isdecimal())
@@ -228,12 +225,16 @@ class Beginning:
         all_relays = tuple(sorted({*relays, *known.relays}))
         return replace(known, basis=self.settings.basis, frame=message.payload, time=time, setpoint=setpoint, relays=all_relays)
 
-    def _setpoint(self, session: Session) -> str:
-        """The setpoint of this session that the broker retains, "" without one."""
+    def _setpoint(self, session: Session) -> SetpointMessage | None:
+        """The setpoint of this session that the broker retains, as it is stored, None without one."""
         message = self.seen.get(self.settings.own_topic("setpoint"))
         if message is None or message.properties.get(SESSION) != session.id:
-            return ""
-        return message.payload.decode(errors="replace") if is_setpoint(message.payload) else ""
+            return None
+        try:
+            return replace(SetpointMessage.of(message.payload), until=None)
+        except BadMessage:
+            # It is that the market was silent, or none.
+            return None
 
     def _own_bid(self, session: Session) -> Bid | Gone | None:
         """This node's bid of this session that the broker retains, or None."""

@@ -9,6 +9,7 @@ from collections.abc import Callable
 from typing import Protocol
 
 from ..logs import NodeLog
+from .messages import ControlMessage
 
 # The longest line taken, in bytes, and the most lines that wait to be written.
 LONGEST, WAITING = 32_768, 1_000
@@ -21,8 +22,8 @@ class Control(Protocol):
     def start(self, notify: Callable[[bytes], None], log: NodeLog) -> None:
         """Calls `notify` with each offer from now on, from any thread, and tells the log what is wrong."""
 
-    def write(self, setpoint: bytes) -> None:
-        """Takes a setpoint, and does not wait."""
+    def write(self, told: ControlMessage) -> None:
+        """Takes what the control is told, such as a setpoint, and does not wait."""
 
 
 class StandardControl:
@@ -40,10 +41,10 @@ class StandardControl:
         for work in (self._read_all, self._write_all):
             threading.Thread(target=work, daemon=True).start()
 
-    def write(self, setpoint: bytes) -> None:
+    def write(self, told: ControlMessage) -> None:
         """See Control."""
         try:
-            self._lines.put_nowait(setpoint)
+            self._lines.put_nowait(told.to_bytes())
         except queue.Full:
             self._log.warning(f"a setpoint is not written: {WAITING} wait, since nobody reads standard output")
 

@@ -2,11 +2,13 @@
 
 from __future__ import annotations
 
+from dataclasses import replace
+
 from ..logs import NodeLog
 from .control import Control
 from .frames import Setpoint
 from .keeping import Keeping
-from .messages import SilentMessage, back_bytes, is_same_setpoint, session_bytes, setpoint_bytes, with_reference, with_until
+from .messages import BackMessage, ControlMessage, NewSessionMessage, SetpointMessage, SilentMessage
 from .offers import Offers
 from .publisher import Publisher
 from .sessions import Session, now_text
@@ -34,7 +36,7 @@ class Controlling:
         self._control = control
         self._log = log
         # The setpoint and the heartbeat that the control was told last.
-        self._told: tuple[str, Heartbeat | None] | None = None
+        self._told: tuple[SetpointMessage, Heartbeat | None] | None = None
         self.is_silent = False
 
     def begin(self) -> None:
@@ -50,29 +52,28 @@ class Controlling:
         moment: when the market cleared
         """
         reference = self._offers.references.get(setpoint.number)
-        told = setpoint_bytes(setpoint, self._settings.basis, moment, reference)
+        told = SetpointMessage.made_of(setpoint, self._settings.basis, moment, reference)
         self._offers.forget_before(setpoint.number)
-        is_same = is_same_setpoint(keeping.stored.setpoint, told.decode())
-        (keeping.note if is_same else keeping.change)(setpoint=told.decode(), references=self._offers.references)
+        is_same = told.is_same(keeping.stored.setpoint)
+        (keeping.note if is_same else keeping.change)(setpoint=told, references=self._offers.references)
         self._silence.counts(setpoint.number)
-        self.tick(now, has_bid, keeping.stored.setpoint)
+        self.tick(now, has_bid, told)
 
     def tell_session(self, session: Session) -> None:
         """Tells the control that a session has begun: its setpoint of before comes no more."""
-        told = session_bytes(session)
-        self._write(told)
-        self._publisher.publish(self._settings.own_topic("setpoint"), told, now_text())
+        self._tell(NewSessionMessage(session))
 
     def keep_references(self, keeping: Keeping, last: int) -> None:
         """Stores the reference of the last offer, which the control made again."""
-        references = self._offers.references
-        keeping.change(setpoint=with_reference(keeping.stored.setpoint, last, references.get(last)), references=references)
+        references, setpoint = self._offers.references, keeping.stored.setpoint
+        told = None if setpoint is None else setpoint.with_reference(last, references.get(last))
+        keeping.change(setpoint=told, references=references)
 
-    def tick(self, now: float, has_bid: bool, setpoint: str = "") -> None:
+    def tick(self, now: float, has_bid: bool, setpoint: SetpointMessage | None = None) -> None:
         """Tells what is news.
 
         has_bid:  whether the node has a bid at its parent, which it renews
-        setpoint: the stored one, "" without one
+        setpoint: the stored one, None without one
         """
         is_silent = self._silence.is_silent(now, has_bid)
         if is_silent:
@@ -83,23 +84,24 @@ class Controlling:
         if self.is_silent:
             self.is_silent, self._told = False, None
             self._log.info("the market is back")
-            self._write(back_bytes(self._silence.heard_at or now_text()))
-        if not setpoint:
+            self._write(BackMessage(self._silence.heard_at or now_text()))
+        if setpoint is None:
             return
-        due = setpoint, self._silence.newest
-        if self._told is None or self._told[1] != due[1] or not is_same_setpoint(self._told[0], due[0]):
-            self._told = due
-            told = with_until(setpoint, self._silence.until(now, has_bid))
-            self._write(told)
-            self._publisher.publish(self._settings.own_topic("setpoint"), told, now_text())
+        newest = self._silence.newest
+        if self._told is None or self._told[1] != newest or not setpoint.is_same(self._told[0]):
+            self._told = setpoint, newest
+            self._tell(replace(setpoint, until=self._silence.until(now, has_bid)))
 
     def _tell_silence(self) -> None:
         silence = self._silence
         self._log.warning(f"the market is silent: {silence.why}. The control is told its fallback, {self._settings.fallback} W")
-        told = SilentMessage(silence.since, self._settings.fallback, silence.why).to_bytes()
-        self._write(told)
-        self._publisher.publish(self._settings.own_topic("setpoint"), told, now_text())
+        self._tell(SilentMessage(silence.since, self._settings.fallback, silence.why))
 
-    def _write(self, told: bytes) -> None:
+    def _tell(self, told: ControlMessage) -> None:
+        """Tells the control, and at the topic of its setpoint."""
+        self._write(told)
+        self._publisher.publish(self._settings.own_topic("setpoint"), told.to_bytes(), now_text())
+
+    def _write(self, told: ControlMessage) -> None:
         if self._control is not None:
             self._control.write(told)

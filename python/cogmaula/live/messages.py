@@ -3,7 +3,7 @@
 from __future__ import annotations
 
 import json
-from dataclasses import dataclass, field
+from dataclasses import dataclass, field, replace
 from typing import Any, Literal
 
 from ..cluster import Basis
@@ -271,11 +271,12 @@ def require_reference(value: object, what: str) -> int:
 class SetpointMessage:
     """What a device is told to take.
 
-    power:    in watts
-    step:     the step of the clearing at the device, and `price` its price in price units
-    bid:      the number of the offer that the power is of
-    clearing: the index of the clearing, and `time` when that was (RFC 3339), "" if that was not told
-    until:    until when it holds (RFC 3339), None if that was not told
+    power:     in watts
+    step:      the step of the clearing at the device, and `price` its price in price units
+    bid:       the number of the offer that the power is of
+    clearing:  the index of the clearing, and `time` when that was (RFC 3339), "" if that was not told
+    until:     until when it holds (RFC 3339), None if that was not told, as of one that is stored
+    reference: the control's own number of the offer, None without one
     """
 
     power: int
@@ -285,6 +286,13 @@ class SetpointMessage:
     clearing: int
     time: str
     until: str | None = None
+    reference: int | None = None
+
+    @staticmethod
+    def made_of(setpoint: Setpoint, basis: Basis, time: str, reference: int | None = None) -> SetpointMessage:
+        """What is told of a Setpoint. `time` is when the market cleared, and `reference` that of the offer."""
+        price = basis.price(setpoint.step)
+        return SetpointMessage(setpoint.power, setpoint.step, price, setpoint.number, setpoint.index, time, reference=reference)
 
     @staticmethod
     def of(data: bytes) -> SetpointMessage:
@@ -293,7 +301,26 @@ class SetpointMessage:
         told = object_of(data, what)
         power, step, price, bid, clearing = (_whole(told, word, what) for word in ("power", "step", "price", "bid", "clearing"))
         until = None if told.get("until") is None else _text(told, "until", what)
-        return SetpointMessage(power, step, price, bid, clearing, _text(told, "time", what), until)
+        reference = None if told.get("reference") is None else _whole(told, "reference", what)
+        return SetpointMessage(power, step, price, bid, clearing, _text(told, "time", what), until, reference)
+
+    def to_object(self) -> dict[str, Any]:
+        """The members of the message: those that are told."""
+        told = dict(vars(self))
+        last = {name: told.pop(name) for name in ("reference", "until")}
+        return told | {name: value for name, value in last.items() if value is not None}
+
+    def to_bytes(self) -> bytes:
+        """The message."""
+        return json.dumps(self.to_object()).encode()
+
+    def is_same(self, other: SetpointMessage | None) -> bool:
+        """Whether both are of one offer at one step, with one reference: what the control takes is the same."""
+        return other is not None and replace(self, clearing=other.clearing, time=other.time, until=other.until) == other
+
+    def with_reference(self, number: int, reference: int | None) -> SetpointMessage:
+        """The same with another reference, if it answers the offer of this number."""
+        return replace(self, reference=reference) if self.bid == number else self
 
 
 @dataclass(frozen=True)
@@ -309,9 +336,13 @@ class SilentMessage:
     power: int
     why: str
 
+    def to_object(self) -> dict[str, Any]:
+        """The members of the message."""
+        return {"market": "silent", **vars(self)}
+
     def to_bytes(self) -> bytes:
         """The message."""
-        return json.dumps({"market": "silent", **vars(self)}).encode()
+        return json.dumps(self.to_object()).encode()
 
     @staticmethod
     def of(data: bytes) -> SilentMessage | None:
@@ -343,66 +374,42 @@ class LapseMessage:
         return LapseMessage(_whole(told, "number", what), _text(told, "why", what), _text(told, "time", what))
 
 
+@dataclass(frozen=True)
+class BackMessage:
+    """That the market is back, as a control is told it: since when its heartbeat is heard (RFC 3339)."""
+
+    since: str
+
+    def to_object(self) -> dict[str, Any]:
+        """The members of the message."""
+        return {"market": "live", "since": self.since}
+
+    def to_bytes(self) -> bytes:
+        """The message."""
+        return json.dumps(self.to_object()).encode()
+
+
+@dataclass(frozen=True)
+class NewSessionMessage:
+    """That a new session has begun, as a control is told it: the setpoint before holds until it says, and none of it comes again."""
+
+    session: Session
+
+    def to_object(self) -> dict[str, Any]:
+        """The members of the message."""
+        return {"market": NEW_SESSION, "session": self.session.id, "begun": self.session.begun}
+
+    def to_bytes(self) -> bytes:
+        """The message."""
+        return json.dumps(self.to_object()).encode()
+
+
+# What the control of a device is told.
+ControlMessage = SetpointMessage | SilentMessage | BackMessage | NewSessionMessage
+
+
 def control_message_of(data: bytes) -> SetpointMessage | SilentMessage | None:
     """What a control is told at the topic of its setpoint, None for a new session without a setpoint. Raises BadMessage."""
     if object_of(data, "the setpoint").get("market") == NEW_SESSION:
         return None
     return SilentMessage.of(data) or SetpointMessage.of(data)
-
-
-def session_bytes(session: Session) -> bytes:
-    """What a control is told once a new session has begun: the setpoint before holds until it says, and none of it comes again."""
-    return json.dumps({"market": NEW_SESSION, "session": session.id, "begun": session.begun}).encode()
-
-
-def back_bytes(since: str) -> bytes:
-    """What a control is told once the market is back. `since` is when its heartbeat was heard."""
-    return json.dumps({"market": "live", "since": since}).encode()
-
-
-def is_setpoint(data: bytes) -> bool:
-    """Whether a message is a setpoint."""
-    try:
-        told = object_of(data, "the setpoint")
-        return isinstance(told.get("time"), str) and "market" not in told
-    except BadMessage:
-        return False
-
-
-def setpoint_bytes(setpoint: Setpoint, basis: Basis, time: str, reference: int | None = None) -> bytes:
-    """A setpoint as it is stored: watts, the step and its price, the numbers of the offer and the clearing, when the market cleared,
-    and the offer's reference if it has one."""
-    told = {
-        "power": setpoint.power,
-        "step": setpoint.step,
-        "price": basis.price(setpoint.step),
-        "bid": setpoint.number,
-        "clearing": setpoint.index,
-        "time": time,
-    }
-    return json.dumps(told if reference is None else {**told, "reference": reference}).encode()
-
-
-def without_until(setpoint: str) -> str:
-    """A setpoint as the control reads it, as it is stored."""
-    return json.dumps({name: value for name, value in json.loads(setpoint).items() if name != "until"})
-
-
-def is_same_setpoint(setpoint: str, other: str) -> bool:
-    """Whether two setpoints are of one offer at one step, with one reference: what the control takes is the same."""
-    told = [{name: value for name, value in json.loads(one).items() if name not in ("clearing", "time")} for one in (setpoint or "{}", other)]
-    return told[0] == told[1]
-
-
-def with_until(setpoint: str, until: str) -> bytes:
-    """A stored setpoint as the control reads it: it also says until when it holds."""
-    return json.dumps({**json.loads(setpoint), "until": until}).encode()
-
-
-def with_reference(setpoint: str, number: int, reference: int | None) -> str:
-    """A setpoint with another reference, if it answers the offer of this number; else as it is."""
-    told = json.loads(setpoint) if setpoint else {}
-    if told.get("bid") != number:
-        return setpoint
-    told.pop("reference", None)
-    return json.dumps(told if reference is None else {**told, "reference": reference})

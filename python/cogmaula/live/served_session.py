@@ -305,8 +305,9 @@ class ServedSession:
             return
         if isinstance(resume, DeviceResume | ResumeGone):
             references = self._parts.offers.references_with(resume)
-            setpoint = "" if isinstance(resume, ResumeGone) else self.stored.setpoint
-            noted |= {"setpoint": setpoint, "references": references, **self._offer(time.monotonic())}
+            setpoint = None if isinstance(resume, ResumeGone) else self.stored.setpoint
+            noted |= {"setpoint": setpoint, "references": references}
+            noted |= self._offer(time.monotonic())
         self._parts.recording.make_safe()
         if isinstance(resume, RelayResume | AuctioneerResume):
             self._parts.bids.make_safe(self.children.asked)

@@ -19,6 +19,7 @@ from ..logs import NodeLog
 from .errors import LiveError
 from .frames import Sort
 from .loop import Loop
+from .messages import ControlMessage
 from .node import TICK, Node
 from .service import PolledService
 from .settings import Settings
@@ -39,7 +40,7 @@ class NoControl:
     def start(self, notify: Callable[[bytes], None], log: NodeLog) -> None:
         """See Control."""
 
-    def write(self, setpoint: bytes) -> None:
+    def write(self, told: ControlMessage) -> None:
         """See Control."""
 
 

@@ -20,7 +20,7 @@ from pathlib import Path
 from ..cluster import Basis
 from .errors import BadMessage, BadStore
 from .frames import Sort
-from .messages import VERSION
+from .messages import VERSION, SetpointMessage
 from .safely import replace_safely, with_path
 from .sessions import Session, time_of
 
@@ -54,7 +54,7 @@ class Stored:
 
     frame:    the bytes of the Resume or ResumeGone, empty if the node has given none in this session
     time:     when it was stored (RFC 3339, UTC)
-    setpoint: the newest setpoint of a device as its control was told it, in JSON, "" without one
+    setpoint: the newest setpoint of a device, without until when it holds, None without one
     references: the control's own number of each offer that a setpoint may still answer, by the offer's number
     lapsed:     of a parent, the number under which each child that was let go counts as gone
     relays:     of a parent, the children that are relays
@@ -68,7 +68,7 @@ class Stored:
     basis: Basis
     frame: bytes
     time: str
-    setpoint: str = ""
+    setpoint: SetpointMessage | None = None
     references: Mapping[int, int] = field(default_factory=dict)
     lapsed: Mapping[int, int] = field(default_factory=dict)
     relays: tuple[int, ...] = ()
@@ -140,7 +140,7 @@ class Store:
             "steps": stored.basis.steps,
             "time": stored.time,
             "length": len(stored.frame),
-            "setpoint": stored.setpoint,
+            "setpoint": "" if stored.setpoint is None else stored.setpoint.to_bytes().decode(),
             "references": dict(stored.references),
             "lapsed": dict(stored.lapsed),
             "relays": stored.relays,
@@ -165,7 +165,9 @@ class Store:
             told = json.loads(line)
             session = Session(str(told["session"]), str(told["begun"]))
             basis = Basis(int(told["min"]), int(told["max"]), int(told["steps"]))
-            length, node, sort, time, setpoint = (told[word] for word in ("length", "node", "sort", "time", "setpoint"))
+            length, node, sort, time = (told[word] for word in ("length", "node", "sort", "time"))
+            is_told = version == VERSION and bool(told["setpoint"])
+            setpoint = SetpointMessage.of(str(told["setpoint"]).encode()) if is_told else None
             # Files of earlier versions lack some.
             references, lapsed = ({int(number): int(clearing) for number, clearing in told.get(name, {}).items()} for name in ("references", "lapsed"))
             relays = tuple(int(number) for number in told.get("relays", ()))
@@ -179,4 +181,4 @@ class Store:
             raise damaged
         if (node, sort) != (self.node, self.sort):
             raise BadStore(f"{path} is of the {sort} {node}, and this is the {self.sort} {self.node}: give another folder")
-        return Stored(session, basis, frame, str(time), str(setpoint), references, lapsed, relays, given, offer, until, version)
+        return Stored(session, basis, frame, str(time), setpoint, references, lapsed, relays, given, offer, until, version)

@@ -24,7 +24,7 @@ from ..live.broker_link import Message
 from ..live.counting import NodeFacts
 from ..live.errors import LiveError
 from ..live.frames import MOST, AnyOffer, Leave, Sort, Stated
-from ..live.messages import StateMessage, members_of
+from ..live.messages import ControlMessage, SetpointMessage, SilentMessage, StateMessage, members_of
 from ..live.node import Node
 from ..live.page_settings import PageSettings
 from ..live.price_table import PriceTable
@@ -65,11 +65,10 @@ class ModelControl:
             if self._offer is not None:
                 notify(self._offer)
 
-    def write(self, setpoint: bytes) -> None:
+    def write(self, told: ControlMessage) -> None:
         """See Control."""
-        told = json.loads(setpoint)
-        self.power = told.get("power", self.power)
-        self.is_told = self.is_told or "power" in told
+        if isinstance(told, SetpointMessage | SilentMessage):
+            self.power, self.is_told = told.power, True
 
     def offer(self, offer: AnyOffer | None, now: float) -> None:
         """Offers this at a second of a clock that only rises, None to leave. The same again, or the next state too soon, is told to nobody."""

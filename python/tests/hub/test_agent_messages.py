@@ -11,7 +11,7 @@ from cogmaula.hub.agent_messages import Cluster, LeaveWord, Login, error_line, u
 from cogmaula.live import BadMessage
 from cogmaula.live.frames import Points, Stated
 from cogmaula.live.kinds import DeviceKind
-from cogmaula.live.messages import OfferMessage
+from cogmaula.live.messages import OfferMessage, SetpointMessage, SilentMessage
 
 BASIS = Basis(0, 9, 10)
 FALLING = [200, 200, 0, 0, 0, 0, 0, 0, 0, -50]
@@ -119,11 +119,11 @@ def test_what_the_hub_says():
     told = {"power": 200, "step": 4, "price": 4, "bid": 12, "clearing": 33, "time": "2026-01-31T06:30:00.000Z", "reference": 5}
     told["until"] = "2026-01-31T06:32:00.000Z"
     due = {"price": 4, "bidNumber": 5, "step": 4, "power": 200, "offer": 12, "clearing": 33, "time": told["time"], "until": told["until"]}
-    assert json.loads(update_of(json.dumps(told).encode())) == {"priceUpdate": due}
+    assert json.loads(update_of(SetpointMessage.of(json.dumps(told).encode()))) == {"priceUpdate": due}
     del told["reference"], due["bidNumber"]
-    assert json.loads(update_of(json.dumps(told).encode())) == {"priceUpdate": due}
+    assert json.loads(update_of(SetpointMessage.of(json.dumps(told).encode()))) == {"priceUpdate": due}
     silent = {"market": "silent", "since": "2026-01-31T06:30:00.000Z", "power": 0, "why": "no heartbeat"}
-    assert json.loads(update_of(json.dumps(silent).encode())) == {"marketUpdate": silent}
+    assert json.loads(update_of(SilentMessage.of(json.dumps(silent).encode()))) == {"marketUpdate": silent}
     assert json.loads(error_line("wrong\nthing")) == {"error": "wrong\nthing"}
     assert b"\n" not in error_line("wrong\nthing")
     assert json.loads(welcome("house", Cluster("street", "heat", "GBP"), Basis(-5, 5, 3), "0123456789abcdef", "now")) == {

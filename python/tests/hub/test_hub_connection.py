@@ -15,6 +15,7 @@ from cogmaula.hub.agent_connection import Connection
 from cogmaula.hub.lines import Lines
 from cogmaula.hub.login_refusals import LineTooLong
 from cogmaula.live import BadMessage
+from cogmaula.live.messages import SetpointMessage
 
 BASIS = Basis(0, 1, 2)
 OVER = object()
@@ -79,9 +80,7 @@ async def until(holds):
 
 
 def price(index):
-    told = {"power": 1, "step": 0, "price": 0, "bid": 1, "clearing": index, "time": "2026-01-31T06:30:00.000Z"}
-    told["until"] = "2026-01-31T06:32:00.000Z"
-    return json.dumps(told).encode()
+    return SetpointMessage(1, 0, 0, 1, index, "2026-01-31T06:30:00.000Z", "2026-01-31T06:32:00.000Z")
 
 
 def clearings(channel):

@@ -10,7 +10,7 @@ from cogmaula.cluster import Basis
 from cogmaula.live import messages
 from cogmaula.live.broker_link import Arrived, Confirmed, Message, Settled
 from cogmaula.live.frames import AuctioneerResume, Bid, DeviceResume, Gone, Price, RelayResume, ResumeGone
-from cogmaula.live.messages import BasisMessage, StateMessage
+from cogmaula.live.messages import BasisMessage, SetpointMessage, StateMessage
 from cogmaula.live.service import Came, Ended
 from cogmaula.live.sessions import Session
 from cogmaula.live.node import Node
@@ -129,7 +129,7 @@ class PretendedService:
 
 
 class PretendedControl:
-    """A control of which the test sees the setpoints."""
+    """A control of which the test sees what it is told, as bytes."""
 
     def __init__(self):
         self.told = []
@@ -137,8 +137,8 @@ class PretendedControl:
     def start(self, notify, log):
         self.offer = notify
 
-    def write(self, setpoint):
-        self.told.append(setpoint)
+    def write(self, told):
+        self.told.append(told.to_bytes())
 
 
 class Joined:
@@ -194,10 +194,11 @@ class Joined:
         return None if found is None else found.frame
 
 
-def saved(folder, sort, name, frame, session=SESSION, basis=BASIS, setpoint="", **more):
+def saved(folder, sort, name, frame, session=SESSION, basis=BASIS, setpoint=b"", **more):
     """Puts a Resume on a node's disk."""
     store = Store(folder / sort, name, sort)
-    store.save(Stored(session, basis, frame.to_bytes(), MOMENT, setpoint, **more))
+    kept = SetpointMessage.of(setpoint) if setpoint else None
+    store.save(Stored(session, basis, frame.to_bytes(), MOMENT, kept, **more))
     store.close()
 
 

@@ -330,7 +330,7 @@ def test_a_device_that_was_let_go_feeds_the_old_once(joined, tmp_path):
 
 
 def test_a_device_that_hears_that_it_was_let_go_renews_its_bid_and_tells_its_control(joined, tmp_path):
-    saved(tmp_path, "device", "house", device_resume(4, 2, (5, -3)), setpoint='{"power": 5, "bid": 4, "time": "t"}')
+    saved(tmp_path, "device", "house", device_resume(4, 2, (5, -3)), setpoint=b'{"power": 5, "step": 1, "price": 9, "bid": 4, "clearing": 2, "time": "t"}')
     one = joined("device", fallback=-1).begun()
     one.writes(bid(2, 4, 5, -3))
     assert len(one.link.of("market/street/bid/2")) == 1
@@ -343,7 +343,7 @@ def test_a_device_that_hears_that_it_was_let_go_renews_its_bid_and_tells_its_con
 
 
 def test_a_device_that_was_let_go_is_told_so_before_its_stored_setpoint(joined, tmp_path):
-    saved(tmp_path, "device", "house", device_resume(4, 2, (5, -3)), setpoint='{"power": 5, "bid": 4, "time": "t"}')
+    saved(tmp_path, "device", "house", device_resume(4, 2, (5, -3)), setpoint=b'{"power": 5, "step": 1, "price": 9, "bid": 4, "clearing": 2, "time": "t"}')
     lapse = b'{"number": 5, "why": "w", "time": "2026-01-31T06:30:00.000Z"}'
     one = joined("device").begun(("market/street/lapsed/2", lapse))
     assert [json.loads(message).get("market") for message in one.control.told] == ["silent"]

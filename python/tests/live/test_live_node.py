@@ -44,6 +44,7 @@ from cogmaula.live.frames import (
     Setpoint,
     WindowFull,
 )
+from cogmaula.live.messages import SetpointMessage
 from cogmaula.live.page_settings import PageSettings
 from cogmaula.live.price_table import PriceTable
 from cogmaula.live.settings import PriceSettings
@@ -489,12 +490,12 @@ def without_until(told):
     return json.dumps({name: value for name, value in json.loads(told).items() if name != "until"}).encode()
 
 
-SETPOINT = b'{"power": -300, "clearing": 7, "time": "2026-01-31T06:30:00.000Z"}'
+SETPOINT = b'{"power": -300, "step": 1, "price": 9, "bid": 2, "clearing": 7, "time": "2026-01-31T06:30:00.000Z"}'
 
 
 def test_a_device_that_comes_back_tells_the_control_its_stored_setpoint_and_not_the_brokers(joined, tmp_path):
-    saved(tmp_path, "device", "house", device_resume(2, 6, (500, -300)), setpoint=SETPOINT.decode())
-    one = joined("device").begun(("market/house/setpoint", b'{"power": 500, "clearing": 6, "time": "t"}'))
+    saved(tmp_path, "device", "house", device_resume(2, 6, (500, -300)), setpoint=SETPOINT)
+    one = joined("device").begun(("market/house/setpoint", b'{"power": 500, "step": 0, "price": 0, "bid": 2, "clearing": 9, "time": "t"}'))
     assert [without_until(message) for message in one.control.told] == [SETPOINT]
     assert set(one.link.of("market/house/setpoint")) == set(one.control.told)
     assert one.service.read == [device_resume(2, 6, (500, -300)).to_bytes()]
@@ -508,13 +509,13 @@ def test_a_setpoint_is_stored_before_it_is_told(joined, monkeypatch):
     monkeypatch.setattr(one.node._store, "save", lambda stored: (done.append(stored.setpoint), save(stored)))
     monkeypatch.setattr(one.control, "write", lambda setpoint: (done.append("told"), write(setpoint)))
     one.writes(Setpoint(1, 7, 1, -300))
-    assert done == [without_until(one.control.told[0]).decode(), "told"]
+    assert done == [SetpointMessage.of(without_until(one.control.told[0])), "told"]
     assert one.stored() == device_resume(1, 0, (500, -300)).to_bytes()
     one.link.confirm()
     one.writes(device_resume(1, 7, (500, -300)))
-    assert one.node._store.newest().setpoint == without_until(one.control.told[0]).decode()
+    assert one.node._store.newest().setpoint.to_bytes() == without_until(one.control.told[0])
     one.writes(resume_gone(2, 7), gone(2, 2))
-    assert one.node._store.newest().setpoint == ""
+    assert one.node._store.newest().setpoint is None
 
 
 @pytest.mark.parametrize(

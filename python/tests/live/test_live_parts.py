@@ -18,7 +18,7 @@ from cogmaula.live.control import StandardControl
 from cogmaula.live.errors import BadMessage
 from cogmaula.live.frames import Leave, Offer, Points, Setpoint, Stated, frames_of
 from cogmaula.live.kinds import DeviceKind
-from cogmaula.live.messages import BasisMessage, OfferMessage, SetpointMessage, StateMessage, setpoint_bytes
+from cogmaula.live.messages import BackMessage, BasisMessage, OfferMessage, SetpointMessage, StateMessage
 from cogmaula.live.offers import Offers
 from cogmaula.live.sessions import Session, new_session, time_of, time_text
 
@@ -338,13 +338,13 @@ def test_a_state_of_the_version_before_has_no_place():
 
 
 def test_a_setpoint_comes_back():
-    assert SetpointMessage.of(setpoint_bytes(Setpoint(3, 7, 1, -300), BASIS, MOMENT)) == SetpointMessage(-300, 1, 9, 3, 7, MOMENT)
+    assert SetpointMessage.of(SetpointMessage.made_of(Setpoint(3, 7, 1, -300), BASIS, MOMENT).to_bytes()) == SetpointMessage(-300, 1, 9, 3, 7, MOMENT)
     with pytest.raises(BadMessage, match="no whole number price"):
         SetpointMessage.of(b'{"power": 1, "step": 1, "price": null, "bid": 3, "clearing": 7, "time": ""}')
 
 
 def test_a_setpoint_has_its_price():
-    assert json.loads(setpoint_bytes(Setpoint(3, 7, 1, -300), BASIS, MOMENT)) == {
+    assert json.loads(SetpointMessage.made_of(Setpoint(3, 7, 1, -300), BASIS, MOMENT).to_bytes()) == {
         "power": -300,
         "step": 1,
         "price": 9,
@@ -391,12 +391,12 @@ def test_lines_come_in_and_go_out():
         time.sleep(0.02)
     os.close(ends.into)
     assert [ends.offered.get(timeout=SECONDS) for _ in range(3)] == [b'{"power": [1]}', b'{"leave": true}', b"last"]
-    ends.control.write(b"one")
-    ends.control.write(b"two")
-    found = b""
-    while len(found) < 8:
+    ends.control.write(BackMessage("one"))
+    ends.control.write(BackMessage("two"))
+    found, due = b"", b'{"market": "live", "since": "one"}\n{"market": "live", "since": "two"}\n'
+    while len(found) < len(due):
         found += os.read(ends.out_of, 100)
-    assert found == b"one\ntwo\n"
+    assert found == due
 
 
 def test_a_line_without_end_takes_no_memory():
@@ -410,14 +410,14 @@ def test_a_line_without_end_takes_no_memory():
 def test_a_reader_that_has_gone_is_told():
     ends = Ends()
     os.close(ends.out_of)
-    ends.control.write(b"one")
+    ends.control.write(BackMessage("one"))
     assert "setpoints go to the topic alone" in ends.said.get(timeout=SECONDS)
 
 
 def test_a_reader_that_does_not_read_holds_nobody_up():
     ends = Ends()
     for _ in range(3_000):
-        ends.control.write(b"x" * 1_000)
+        ends.control.write(BackMessage("x" * 1_000))
     assert "nobody reads standard output" in ends.said.get(timeout=SECONDS)
 
 

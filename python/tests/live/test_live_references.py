@@ -12,11 +12,11 @@ from pretended import BASIS, Joined, device_resume, resume_gone
 
 from cogmaula.live import BadMessage
 from cogmaula.live.frames import Leave, Offer, Setpoint
-from cogmaula.live.messages import LAST_REFERENCE, OfferMessage, with_reference
+from cogmaula.live.messages import LAST_REFERENCE, OfferMessage, SetpointMessage
 from cogmaula.live.offers import Offers
 
 HIGH, LOW = (500, -300), (100, -700)
-SETPOINT = '{"power": -300, "bid": 4, "time": "2026-01-31T06:30:00.000Z"}'
+SETPOINT = b'{"power": -300, "step": 1, "price": 9, "bid": 4, "clearing": 7, "time": "2026-01-31T06:30:00.000Z"}'
 
 
 def offer(demands, reference=None):
@@ -41,10 +41,24 @@ def test_a_leave_has_none():
 
 
 def test_a_setpoint_gets_the_reference_of_its_own_offer_alone():
-    assert json.loads(with_reference(SETPOINT, 4, 9)) == {**json.loads(SETPOINT), "reference": 9}
-    assert json.loads(with_reference(with_reference(SETPOINT, 4, 9), 4, None)) == json.loads(SETPOINT)
-    assert with_reference(SETPOINT, 5, 9) == SETPOINT
-    assert with_reference("", 5, 9) == ""
+    setpoint = SetpointMessage.of(SETPOINT)
+    assert json.loads(setpoint.with_reference(4, 9).to_bytes()) == {**json.loads(SETPOINT), "reference": 9}
+    assert setpoint.with_reference(4, 9).with_reference(4, None).to_bytes() == SETPOINT
+    assert setpoint.with_reference(5, 9).to_bytes() == SETPOINT
+
+
+@pytest.mark.parametrize(
+    ("change", "due"),
+    [
+        ({"clearing": 8}, True), ({"time": "2026-02-01T00:00:00.000Z"}, True), ({"until": "2026-02-01T00:00:00.000Z"}, True),
+        ({"power": -299}, False), ({"step": 0}, False), ({"price": 0}, False), ({"bid": 5}, False), ({"reference": 1}, False),
+    ],
+)
+def test_setpoints_are_the_same_if_a_control_takes_the_same(change, due):
+    """One of a later clearing is; one of another offer, step or reference is not."""
+    told = SetpointMessage.of(SETPOINT)
+    other = SetpointMessage.of(json.dumps({**json.loads(SETPOINT), **change}).encode())
+    assert (told.is_same(other), other.is_same(told), told.is_same(None)) == (due, due, False)
 
 
 class Made:
@@ -128,7 +142,7 @@ def test_a_device_tells_and_stores_the_reference(joined):
     assert [setpoint["reference"] for setpoint in setpoints(one)] == [17, 18]
     assert one.service.read[1:] == [Offer(HIGH).to_bytes()]
     stored = one.node._store.newest()
-    assert (stored.references, json.loads(stored.setpoint)["reference"]) == ({1: 18}, 18)
+    assert (stored.references, stored.setpoint.reference) == ({1: 18}, 18)
     # An offer that is not answered yet does not change the setpoint of the one before.
     one.control.offer(offer(LOW, 19))
     one.turned().writes(device_resume(2, 7, LOW))

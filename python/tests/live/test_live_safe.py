@@ -343,13 +343,12 @@ def test_a_device_stores_a_price_once_and_not_if_number_and_step_are_the_same(jo
     assert [json.loads(told)["clearing"] for told in one.control.told] == [7, 9, 10], "a heartbeat tells that it is of a later clearing"
     one.node.serving.end("stopped")
     assert one.node._store.newest().frame == device_resume(2, 10, (500, -300)).to_bytes()
-    told = json.loads(one.node._store.newest().setpoint)
-    assert told["clearing"] == 10
+    assert one.node._store.newest().setpoint.clearing == 10
 
 
 def test_a_device_that_comes_back_tells_the_later_of_two_equal_setpoints(joined, tmp_path):
     told = {"power": -300, "step": 1, "price": 9, "bid": 2, "clearing": 7, "time": MOMENT}
-    saved(tmp_path, "device", "house", device_resume(2, 6, (500, -300)), setpoint=json.dumps(told))
+    saved(tmp_path, "device", "house", device_resume(2, 6, (500, -300)), setpoint=json.dumps(told).encode())
     later = json.dumps({**told, "clearing": 9, "until": MOMENT}).encode()
     one = joined("device").begun(("market/house/setpoint", later))
     assert json.loads(one.control.told[0])["clearing"] == 9

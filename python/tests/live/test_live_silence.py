@@ -277,7 +277,7 @@ def test_a_price_that_comes_during_silence_is_kept_and_not_told(joined):
     one.turned()
     one.writes(Setpoint(2, 8, 0, 500), device_resume(2, 8, (500, -300)))
     assert [message.get("market") for message in told(one)] == [None, "silent"]
-    assert json.loads(one.node._store.newest().setpoint)["clearing"] == 8
+    assert one.node._store.newest().setpoint.clearing == 8
 
 
 def test_a_control_that_has_not_offered_is_told_nothing(joined):
@@ -334,7 +334,7 @@ def test_an_auctioneer_is_never_silent(joined):
 
 
 def test_a_device_that_starts_in_a_dead_market_is_told_silence_and_not_its_setpoint(joined, tmp_path):
-    saved(tmp_path, "device", "house", device_resume(2, 7, (500, -300)), setpoint='{"power": -300, "bid": 2, "time": "t"}')
+    saved(tmp_path, "device", "house", device_resume(2, 7, (500, -300)), setpoint=b'{"power": -300, "step": 1, "price": 9, "bid": 2, "clearing": 2, "time": "t"}')
     one = joined("device").begun(("market/street/heartbeat", heartbeat(1, at(-900))))
     assert [message.get("market") for message in told(one)] == ["silent"]
     assert told(one)[0]["since"] == at(-900)

@@ -11,10 +11,11 @@ from pretended import BASIS, LATER, MOMENT, SESSION
 
 from cogmaula.cluster import Basis
 from cogmaula.live.errors import BadStore
+from cogmaula.live.messages import SetpointMessage
 from cogmaula.live.store import Store, Stored
 
 FRAME = bytes.fromhex("0C 00000001 00000007 000001F4 FFFFFED4")
-STORED = Stored(SESSION, BASIS, FRAME, MOMENT, '{"power": -300}')
+STORED = Stored(SESSION, BASIS, FRAME, MOMENT, SetpointMessage(-300, 1, 9, 2, 7, MOMENT, reference=5))
 
 
 @pytest.fixture

@@ -7,7 +7,7 @@ from pretended import MOMENT, SESSION
 from cogmaula.cluster import Basis
 from cogmaula.live.broker_link import Message
 from cogmaula.live.frames import Bid, Gone, Price, Setpoint
-from cogmaula.live.messages import BasisMessage, StateMessage, setpoint_bytes
+from cogmaula.live.messages import BasisMessage, SetpointMessage, StateMessage
 from cogmaula.live.price_table import PriceTable
 from cogmaula.live.view import view_of
 
@@ -44,7 +44,7 @@ class Told:
         return self.put(f"{parent}/prices", PriceTable(index, step, self.basis, numbers).to_bytes(), **more)
 
     def setpoint(self, name, power, number, index, step, **more):
-        return self.put(f"{name}/setpoint", setpoint_bytes(Setpoint(number, index, step, power), BASIS, MOMENT), **more)
+        return self.put(f"{name}/setpoint", SetpointMessage.made_of(Setpoint(number, index, step, power), BASIS, MOMENT).to_bytes(), **more)
 
     def without(self, *below):
         for name in below:

@@ -15,6 +15,7 @@ from cogmaula import Basis, Battery, Cluster, Concentrator, Limited, Load, Solar
 from cogmaula.cli import main
 from cogmaula.live.frames import Offer, Stated
 from cogmaula.live.kinds import DeviceKind
+from cogmaula.live.messages import BackMessage, SetpointMessage, SilentMessage
 from cogmaula.live.page_settings import PageSettings
 from cogmaula.simulation import BidMaker
 from cogmaula.simulation.life import Life
@@ -118,11 +119,11 @@ def test_a_control_offers_what_is_new_and_keeps_what_it_is_told():
     for second, state in ((1, 7), (1.5, 8), (2.9, 9), (3, 10)):
         control.offer(Stated(DeviceKind("load"), state), second)
     control.offer(None, 3)
-    control.write(b'{"power": -150, "step": 1, "price": 1}')
+    control.write(SetpointMessage(-150, 1, 1, 2, 3, "2026-06-01T00:00:00Z"))
     assert control.power == -150
-    control.write(b'{"market": "live", "since": "2026-06-01T00:00:00Z"}')
+    control.write(BackMessage("2026-06-01T00:00:00Z"))
     assert control.power == -150
-    control.write(b'{"market": "silent", "power": 0, "why": "no heartbeat"}')
+    control.write(SilentMessage("2026-06-01T00:00:00Z", 0, "no heartbeat"))
     assert control.power == 0
     assert [json.loads(message) for message in offered] == [{"power": [3, 2]}, {"kind": "load", "state": 7}, {"kind": "load", "state": 10}, {"leave": True}]
 
