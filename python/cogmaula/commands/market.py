@@ -6,20 +6,22 @@ import argparse
 import sys
 from dataclasses import replace
 from pathlib import Path
+from tempfile import TemporaryDirectory
 
 from .. import cli
-from ..deploy import Member, add_device, init_market, read_tree
+from ..deploy import Member, add_device, fence_settings, init_market, read_tree
 from ..live.errors import BadSettings, LiveError
+from ..live.fencing import fence
 from ..live.given import LimitsMessage
 from ..live.operating import drop, give_limits
 from ..live.settings import BrokerSettings, read_toml
 from ..live.toml_tables import value_of
 
 CALLS_PROGRAM = False
-HELP = "makes the files of a market at a broker, adds a device, lets a device go, or gives limits to a relay"
+HELP = "makes the files of a market at a broker, adds a device, lets a device go, fences a relay, or gives limits to one"
 MORE = (
     "init makes all files from one that names the tree, machines, limits and logins; add adds a device to them. They need openssl and"
-    " mosquitto. drop and limits go to the broker of --config, whose table [broker] is as a node's, with a login that may do this;"
+    " mosquitto. drop, fence and limits go to the broker of --config, whose table [broker] is as a node's, with a login that may do this;"
     " docs/LIVE.md names the rights. The exit status is 0 once it is done, 1 if it fails or a node refuses, and 2 for settings that are"
     " wrong."
 )
@@ -57,13 +59,16 @@ def add_arguments(parser: argparse.ArgumentParser) -> None:
     dropping = below.add_parser("drop", help="lets a device go at once: its bid does not count any more. It must take nothing")
     dropping.add_argument("node", metavar="NODE", help="the parent, a relay or the auctioneer")
     dropping.add_argument("child", metavar="CHILD", type=int, help="the device's number there")
+    fencing = below.add_parser("fence", help="lets all devices of a relay go that is down: its parent counts nothing of it any more")
+    fencing.add_argument("node", metavar="NODE", help="the relay, which has to be down for `grace`")
+    fencing.add_argument("--out", metavar="FOLDER", required=True, help="the folder that init made, with the relay's own login")
     giving = below.add_parser("limits", help="gives limits to a relay of limits_from")
     giving.add_argument("node", metavar="NODE", help="the relay")
     giving.add_argument("--floor", type=int, metavar="WATTS", help="the least power; default that of its settings")
     giving.add_argument("--ceiling", type=int, metavar="WATTS", help="the greatest power; default that of its settings")
     giving.add_argument("--until", metavar="TIME", help="until when they hold, as 2026-01-31T18:00:00Z; default without an end")
     giving.add_argument("--reference", metavar="TEXT", help="a word of your own, which comes back with the answer")
-    for one in (dropping, giving):
+    for one in (dropping, fencing, giving):
         one.add_argument("--config", metavar="FILE", required=True, help="a TOML file with the table [broker]")
         one.add_argument("--seconds", type=float, default=10.0, metavar="SECONDS", help="waits so long for the answer; default 10")
 
@@ -97,7 +102,12 @@ def _drop(arguments: argparse.Namespace) -> str:
     return drop(_broker_of(arguments.config), arguments.node, arguments.child, arguments.seconds)
 
 
-_WORDS = {"init": _init, "add": _add, "drop": _drop, "limits": _limits}
+def _fence(arguments: argparse.Namespace) -> str:
+    with TemporaryDirectory() as state:
+        return fence(_broker_of(arguments.config), fence_settings(Path(arguments.out), arguments.node, state), arguments.seconds)
+
+
+_WORDS = {"init": _init, "add": _add, "drop": _drop, "fence": _fence, "limits": _limits}
 
 
 def main(arguments: argparse.Namespace) -> int:

@@ -68,7 +68,7 @@ _FLAGS = [
     ("page", "insecure", "the page may be served at an address that others reach, though it has no login"),
     ("node", "limits_from", "a relay takes limits that are given while the market lives, at its topic limits"),
     ("node", "new_session", "an auctioneer begins a new session, in which all nodes count from 1"),
-    ("node", "leave", "a device leaves the market, and the command ends"),
+    ("node", "leave", "a device leaves the market, or a relay lets all of its devices go, and the command ends"),
 ]
 
 

@@ -6,7 +6,7 @@
 """
 
 from ..live.errors import BadSettings
-from .making import add_device, init_market
+from .making import add_device, fence_settings, init_market
 from .tree import Login, Member, Tree, read_tree
 
-__all__ = ["BadSettings", "Login", "Member", "Tree", "add_device", "init_market", "read_tree"]
+__all__ = ["BadSettings", "Login", "Member", "Tree", "add_device", "fence_settings", "init_market", "read_tree"]

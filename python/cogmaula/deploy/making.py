@@ -9,6 +9,7 @@ from collections.abc import Mapping
 from pathlib import Path
 
 from ..live.errors import BadSettings
+from ..live.settings import Settings
 from . import broker_files, history_files, installing, node_files, site_files
 from .containers import compose_text
 from .files import OPEN, RUN, SECRET, Places, text_of, write_file
@@ -39,6 +40,19 @@ def add_device(out: Path, device: Member, site: str | None = None) -> list[str]:
     changed = list(dict.fromkeys(["broker", *nodes, *(folder for folder in _folders(tree) if folder not in known)]))
     first = ["Let the broker read its files again, by SIGHUP."] if tree.market.here else []
     return [*first, *_lines(tree, out, changed)]
+
+
+def fence_settings(out: Path, name: str, state: str) -> Settings:
+    """The settings of one more life of a relay, by the files of the folder, which keeps its state in another one. Raises BadSettings."""
+    tree = read_tree(out / TREE)
+    member = tree.member(name)
+    if member.sort != "relay":
+        raise BadSettings(f"{name} is a {member.sort}, and no relay")
+    if site := tree.site_of(name):
+        raise BadSettings(f"{name} runs in the site {site.name}, and has no login of its own: start the site")
+    tables = node_files.tables_of(tree, member, Places(out, True))
+    tables["node"]["state"] = state
+    return node_files.require_settings(member, tables)
 
 
 def _folders(tree: Tree) -> dict[str, str]:

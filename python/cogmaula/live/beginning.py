@@ -147,7 +147,8 @@ class Beginning:
             raise NodeRefused(f"the market's basis is {told.basis}, and this node has {self.settings.basis}: give it the market's")
 
     def require_alone(self, session: Session, run: str, starts: int, own: int) -> None:
-        """Raises NodeRefused if another process goes on as this node. One that has ended by itself does not.
+        """Raises NodeRefused if another process goes on as this node. One that has ended by itself does not, unless it was a later one of a
+        relay.
 
         session:     the session that the node is in
         run, starts: those of this process
@@ -155,6 +156,11 @@ class Beginning:
         """
         settings = self.settings
         other = self.state()
+        if settings.sort == "relay" and other is not None and other.run != run and other.starts > starts and not other.may_live:
+            # A relay makes its sums by itself: each of the two may have given one number to another sum.
+            raise NodeRefused(
+                f"another process has run as {settings.name} since {other.started}, and has ended: this one is older. Start the node anew"
+            )
         if other is not None and other.may_live and other.run != run and (other.starts, other.run) > (starts, run):
             topic = settings.topics.of(settings.name, "state")
             raise NodeRefused(
@@ -203,7 +209,10 @@ class Beginning:
         return found[0].properties.get(BIDS_OF_SUM, "") if found is not None and found[0].payload == frame else ""
 
     def _newer(self, session: Session, stored: Stored | None) -> Stored | None:
-        """The newer of the Resume on disk and the one at the broker; the one on disk if they are of one number."""
+        """The newer of the Resume on disk and the one at the broker; the one on disk if they are of one number.
+
+        If both gave one number to two sums of a relay, the one at the broker was sent: another process was this relay meanwhile.
+        """
         found = self._resume_at_broker(session)
         if found is None:
             return stored
@@ -214,9 +223,11 @@ class Beginning:
             before = None if stored is None else resume_of(replace(self.settings, basis=stored.basis), stored.frame)
         except BadFrame as error:
             raise NodeRefused(f"{self.store.path(session)} has no Resume of this node: {error}") from None
-        if stored is not None and before is not None and before.last >= resume.last:
+        is_other = before is not None and before.last == resume.last and is_of_another_sum(before, resume)
+        if stored is not None and before is not None and before.last >= resume.last and not is_other:
             return stored
-        self.log.info(f"goes on from the broker's Resume with number {resume.last}, which is newer than the one on disk")
+        told = "in which it is of another sum than on disk" if is_other else "which is newer than the one on disk"
+        self.log.info(f"goes on from the broker's Resume with number {resume.last}, {told}")
         setpoint = self._setpoint(session) if isinstance(resume, DeviceResume) else None
         time = message.properties.get(TIME, now_text())
         # Who is a relay is told with the Resume. What the disk has of children that were let go, and of limits, is not older than it.
@@ -258,6 +269,13 @@ class Beginning:
                 f"child {bid.child} of {self.settings.parent} has bid number {bid.number} in session {session.id}, and its Resume is on no "
                 "disk and not at the broker: bring it back, give the node another child number, or begin a new session at the auctioneer"
             )
+
+
+def is_of_another_sum(one: Resume, other: Resume) -> bool:
+    """Whether two Resumes of a relay are of two sums, by the bids and the limits that these are made of."""
+    if not isinstance(one, RelayResume) or not isinstance(other, RelayResume):
+        return False
+    return (one.numbers, one.floor, one.ceiling) != (other.numbers, other.floor, other.ceiling)
 
 
 def _words_of(terms: tuple[int, int, int]) -> str:

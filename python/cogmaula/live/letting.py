@@ -52,6 +52,11 @@ class Letting:
         """Begins with the Resume, and the bids that the disk has of the children: they count as if they were heard now."""
         self._numbers = () if resume is None else resume.numbers
         self._are_missed = resume is not None
+        # A device gives even numbers. So an odd one says that it was let go, as by a fence, of which this disk does not know.
+        numbers = enumerate(self._numbers, 1) if isinstance(resume, RelayResume) else ()
+        gone = {child: number for child, number in numbers if number % 2 and self._is_device(child)}
+        if gone.keys() - self._lapsed.keys():
+            self._keeping.change(lapsed={**gone, **self._lapsed})
         for heard in kept:
             self._note_sender(heard, now)
 
@@ -84,7 +89,12 @@ class Letting:
     # Bids.
 
     def take_bid(self, child: int, message: Message, now: float) -> None:
-        """Takes a message on the topic of a child's bids. One that renews a bid is not fed, unless the child was let go."""
+        """Takes a message on the topic of a child's bids. One that renews a bid is not fed, unless the child was let go.
+
+        A relay that leaves hears the relays below it alone.
+        """
+        if self._settings.is_fence and self._is_device(child):
+            return
         if child == self._settings.place_of_limits:
             self._log.warning(f"{message.topic} is not taken: child {child} is the place in which limits are given")
             return
@@ -175,6 +185,17 @@ class Letting:
             self._log.warning(f"child {child} is not let go: it has not bid in this session")
         else:
             self._let_go(child, "by the word of an operator")
+
+    def let_all_go(self, why: str) -> None:
+        """Lets each device go that is in the newest sum."""
+        for child, number in enumerate(self._numbers, 1):
+            if number and self._is_device(child):
+                self._let_go(child, why)
+
+    @property
+    def are_all_gone(self) -> bool:
+        """Whether the newest sum has each child that was let go as gone."""
+        return all(self._numbers[child - 1] == number for child, number in self._lapsed.items())
 
     def tick(self, now: float, is_connected: bool) -> None:
         """Lets go who is due."""

@@ -116,7 +116,7 @@ class Node:
     # The work, and its end.
 
     def run(self) -> None:
-        """Works until `stop` is called, or a device that was to leave has left.
+        """Works until `stop` is called, or a device or a relay that was to leave has left.
 
         Raises NodeRefused if a person has to look first, another LiveError, or OSError, such as that of a full disk.
         """
@@ -133,7 +133,8 @@ class Node:
             why = "stopped"
             session = self.serving.session
             if self.settings.leave and session is not None and session.has_left:
-                why = f"it has left: child {self.settings.child} of {self.settings.parent} is gone as of number {session.last}"
+                is_now = "counts no device" if self.settings.is_fence else "is gone"
+                why = f"it has left: child {self.settings.child} of {self.settings.parent} {is_now} as of number {session.last}"
                 self._log.info(why)
         except (LiveError, OSError) as error:
             why = str(error)
@@ -380,7 +381,7 @@ class Node:
         if self.settings.leave and resume is None:
             raise NodeRefused(
                 f"{self.settings.name} has nothing to leave: no Resume of it in session {stored.session.id} is on this disk or at the broker. "
-                f"If {self.settings.parent} counts it still: cogmaula market drop {self.settings.parent} {self.settings.child}"
+                f"If {self.settings.parent} counts it still: {self._remedy}"
             )
         if self.settings.sort == "auctioneer" or stored.frame:
             self._store.save(stored)
@@ -390,7 +391,9 @@ class Node:
         times = self.settings.times if self.settings.sort == "auctioneer" or told is None else told.times
         known = beginning.bids_of_sum(stored.session, stored.frame)
         session = self.serving.begin(stored, resume, times, time.monotonic(), self._starts, known)
-        if self.settings.leave:
+        if self.settings.is_fence:
+            session.letting.let_all_go("its relay has left")
+        elif self.settings.leave:
             self.serving.offers.want(Leave())
         elif is_later and self.settings.sort == "device":
             self.serving.controlling.tell_session(stored.session)
@@ -400,6 +403,12 @@ class Node:
         self._take_all(session, [message for message in messages if message.topic.endswith(tuple(first))])
         self.serving.start(session, time.monotonic())
         self._take_all(session, [message for message in messages if not message.topic.endswith(tuple(first))])
+
+    @property
+    def _remedy(self) -> str:
+        """What to do about a node that counts at its parent and whose Resume is lost."""
+        is_relay = self.settings.sort == "relay"
+        return "begin a new session" if is_relay else f"cogmaula market drop {self.settings.parent} {self.settings.child}"
 
     def _session_before(self) -> str:
         """The id of the session before, in this process or on disk, "" without one."""

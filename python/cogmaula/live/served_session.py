@@ -119,10 +119,11 @@ class ServedSession:
 
     @property
     def has_left(self) -> bool:
-        """Whether a device has no offer, and the broker has its Resume and its Gone."""
+        """Whether a device has no offer, or a relay counts no device, and the broker has its Resume and its last Bid or Gone."""
         topics = [self._settings.own_topic(kind) for kind in ("bid", "resume")]
         is_told = self._bid == self.last and not self._parts.link.is_unconfirmed(topics)
-        return self._parts.is_up() and self._parts.offers.is_out and is_told
+        is_out = self.letting.are_all_gone if self._settings.is_fence else self._parts.offers.is_out
+        return self._parts.is_up() and is_out and is_told
 
     # What the node hears, for its service.
 
@@ -180,7 +181,9 @@ class ServedSession:
         parts.offers.forget()
 
     def tick(self, now: float) -> None:
-        """Tells below that the market lives, and lets go of children that do not."""
+        """Tells below that the market lives, and lets go of children that do not. A relay that leaves tells nothing below."""
+        if self._settings.is_fence:
+            return
         parts = self._parts
         parts.beating.tick(now, parts.is_up())
         if self._settings.sort == "device":
@@ -240,6 +243,8 @@ class ServedSession:
                 self.limiting.bids(frame.number, time.monotonic())
                 if isinstance(frame, Gone):
                     self._parts.link.publish(Publication(self._settings.own_topic("setpoint"), b""))
+            case Price() | Old() if self._settings.is_fence:
+                pass
             case Price():
                 self.pricing.pass_on(frame, self._time_of(frame.index), time.monotonic())
             case Setpoint():

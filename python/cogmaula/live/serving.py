@@ -122,7 +122,7 @@ class Serving:
 
     @property
     def has_left(self) -> bool:
-        """Whether a device has left the market."""
+        """Whether a device has left the market, or a relay that leaves counts no device."""
         return self.session is not None and self.session.has_left
 
     def end(self, why: str) -> None:

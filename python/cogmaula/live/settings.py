@@ -142,7 +142,7 @@ class Settings:
     prices:   of a parent, how it tells prices
     children: of a parent, the bounds of children
     new_session: whether an auctioneer begins a new session
-    leave:    whether a device leaves and the node then ends
+    leave:    whether a device leaves, or a relay lets all of its devices go, and the node then ends
     page:     the page that the node serves, None for no page
     record:   the folder of the node's recording; None records nothing
     record_size:  the bytes after which a file of the recording ends and the next begins
@@ -188,14 +188,19 @@ class Settings:
         self._require_limits()
         self._require_children()
         self._require_page_login()
-        if (self.new_session and self.sort != "auctioneer") or (self.leave and self.sort != "device"):
-            raise BadSettings("new_session is for an auctioneer, and leave for a device")
+        if (self.new_session and self.sort != "auctioneer") or (self.leave and self.sort == "auctioneer"):
+            raise BadSettings("new_session is for an auctioneer, and leave for a device or a relay")
         if self.device is not None and self.sort != "device":
             raise BadSettings(f"the table device is for a device, and this is {self.name}, of sort {self.sort}: take it out")
         if self.record_size < LEAST_SIZE:
             raise BadSettings(f"record_size is {self.record_size}: give {LEAST_SIZE} bytes or more")
         if self.record_files is not None and self.record_files < 1:
             raise BadSettings(f"record_files is {self.record_files}: give 1 or more")
+
+    @property
+    def is_fence(self) -> bool:
+        """Whether this is a life of a relay in which it lets all of its devices go, bids without them, and ends."""
+        return self.leave and self.sort == "relay"
 
     @property
     def place_of_limits(self) -> int:

@@ -447,6 +447,27 @@ def test_the_older_of_two_processes_of_one_name_ends(joined, tmp_path, topic, pa
         one.turned()
 
 
+def test_an_older_process_of_a_relay_ends_though_the_later_one_has_ended(joined):
+    """It may have given its next number to a sum that was not sent, behind a cut."""
+    one = joined("relay").begun(("market/street/bid/1", bid(1, 1, *OFFER).to_bytes()))
+    one.link.comes("market/street/state", state_payload("b" * 16, MOMENT, "down", "stopped", starts=9))
+    with pytest.raises(NodeRefused, match="another process has run as"):
+        one.turned()
+
+
+def test_of_two_sums_under_one_number_the_one_at_the_broker_was_sent(joined, tmp_path):
+    """The disk has a sum that was made behind a cut, and the broker that of a later process."""
+    saved(tmp_path, "relay", "street", relay_resume(2, 0, 0, numbers((1, 4))))
+    sent = relay_resume(2, 0, 0, numbers((1, 3)))
+    one = joined("relay")
+    one.link.comes(BASIS_TOPIC, basis_payload())
+    one.link.comes("market/street/resume", sent.to_bytes(), OF_SESSION)
+    one.link.settles()
+    one.turned()
+    assert one.stored() == sent.to_bytes()
+    assert "in which it is of another sum than on disk" in one.said[0]
+
+
 HARMLESS = [
     ("market/house/state", state_payload("b" * 16, "2126-01-31T06:30:00.000Z")),
     ("market/house/state", state_payload("b" * 16, MOMENT, "down", "stopped", starts=9)),
