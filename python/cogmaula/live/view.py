@@ -126,8 +126,11 @@ class MarketView:
     not_taken: tuple[NotTaken, ...]
 
     def to_json(self) -> dict[str, Any]:
-        """The view as JSON has it, with the names of these classes' members."""
-        return asdict(self)
+        """The view as JSON has it, with the names of these classes' members; a setpoint as its device is told it."""
+        told = asdict(self)
+        for node, shown in zip(self.nodes, told["nodes"], strict=True):
+            shown["setpoint"] = None if node.setpoint is None else node.setpoint.to_object()
+        return told
 
 
 def view_of(prefix: str, messages: Mapping[str, Message], own: str | None = None) -> MarketView:
