@@ -9,17 +9,17 @@ folder="$(mktemp -d)" || exit 1
 trap 'rm -rf "$folder"' EXIT
 # The folder has a blank in its name.
 top="$folder/a clone"
-mkdir -p "$top"/crates/{low,high,other,market,live}/src "$top"/{script,.ci,checks/{drive,lint},docs} "$folder"/{bin,tools,git}
+mkdir -p "$top"/crates/{low,high,other,market,live,over_links}/src "$top"/{script,.ci,checks/{drive,lint},docs} "$folder"/{bin,tools,git}
 cp market "$top/market"
 cp script/{words,program,prebuilt,packages,run}.sh "$top/script"
 mkdir -p "$top/packaging"
 cp packaging/prebuilt.sh "$top/packaging"
 cp .ci/run "$top/.ci"
 cp checks/run "$top/checks/run.kept"
-for crate in low high other market live; do
+for crate in low high other market live over_links; do
     echo "a source" >"$top/crates/$crate/src/lib.rt"
 done
-printf '%s\n' '# A comment.' 'low: kit # another' 'high: low' 'other:' 'market: high, low' 'live: other, low' \
+printf '%s\n' '# A comment.' 'low: kit # another' 'high: low' 'other:' 'market: high, low' 'live: other, low' 'over_links: low' \
     >"$top/crates.txt"
 printf '%s\n' '# The kit.' 'kit: kit-1' 'debian: bash' >"$top/kit.txt"
 echo 1.2.3 >"$top/VERSION"
@@ -60,9 +60,10 @@ cat >"$folder/bin/rt" <<'END_OF_RT'
 case "$*" in
     version) echo "kit-1 of today" ;;
     ci)
-        mkdir -p crates/{market,live}/out
+        mkdir -p crates/{market,live,over_links}/out
         [ -f no-build ] || cp program crates/market/out/market
         [ -f no-build ] || cp nodes crates/live/out/live
+        [ -f no-build ] || cp program crates/over_links/out/over_links
         [ ! -f meanwhile ] || echo "an edit" >>"$(cat meanwhile)"
         exit "$(cat ci-status 2>/dev/null || echo 0)"
         ;;
@@ -92,17 +93,17 @@ if "bad" in kept:
     sys.exit("low is not proved")
 if not os.path.exists("no-build"):
     os.makedirs(f"crates/{name}/out", exist_ok=True)
-    shutil.copy({"market": "program", "live": "nodes"}[name], f"crates/{name}/out/{name}")
+    shutil.copy({"live": "nodes"}.get(name, "program"), f"crates/{name}/out/{name}")
 if os.path.exists("meanwhile"):
     open(source, "a").write("an edit\n")
     if "restore" in open("meanwhile").read():
         open(source, "w").write(kept)
 END_OF_PROVE
 # The checks tell their arguments and a last line; that of the program tells its arguments alone.
-all="program prebuilt traces serve live network memory hostile script install python pages schema pictures names places definitions edits"
+all="program prebuilt links traces serve live network memory hostile script install python pages schema pictures names places definitions edits"
 folder_of() {
     case "$1" in
-        cases | traces | serve | nodes | network | memory | hostile | python) echo "$top/checks/drive" ;;
+        cases | links | traces | serve | nodes | network | memory | hostile | python) echo "$top/checks/drive" ;;
         *) echo "$top/checks/lint" ;;
     esac
 }
@@ -112,7 +113,7 @@ stub() {
         echo 'import sys; print(*sys.argv[1:]); print("1 passed, 0 failed")' >"$(folder_of "$name")/$name.py"
     done
 }
-stub traces serve nodes network memory hostile python pages schema pictures names places definitions edits
+stub links traces serve nodes network memory hostile python pages schema pictures names places definitions edits
 for name in script install prebuilt; do
     echo 'echo "1 passed, 0 failed"' >"$top/checks/drive/$name.sh"
 done
@@ -164,9 +165,10 @@ screen() {
 }
 
 # Takes the proof away, or makes one.
-forget() { rm -rf crates/{market,live}/out; }
+forget() { rm -rf crates/{market,live,over_links}/out; }
 prove() { ./market prove 2>/dev/null; }
 prove_live() { ./market prove live 2>/dev/null; }
+prove_links() { ./market prove over_links 2>/dev/null; }
 
 nproc() { echo 4; }
 export -f nproc
@@ -440,6 +442,7 @@ is "a gate that builds nothing" 0 "tried run: input" "$first $none" \
 is "an edit during the gate" 0 "tried run: input" \
     "market: the sources of market changed during the proof, so it does not count as proved
 market: the sources of live changed during the proof, so it does not count as proved
+market: the sources of over_links changed during the proof, so it does not count as proved
 $first $none" 'forget; echo crates/low/src/lib.rt >meanwhile; .ci/run; rm meanwhile; echo "a source" >crates/low/src/lib.rt'
 is "an edit of live during the gate" 0 "proved run: input" \
     "market: the sources of live changed during the proof, so it does not count as proved" \
@@ -474,6 +477,11 @@ is "the nodes' checks" 0 "crates/live/out/live crates/market/out/market all
 1 passed, 0 failed
 crates/live/out/live 1000
 1 passed, 0 failed" "" '{ checks/run live all; checks/run network 1000; } | sed "s|$top/||g"'
+is "the check of links without a proof" 1 "over_links is not proved from the sources of today: ./market prove over_links proves it first
+0 passed, 1 failed" "" 'checks/run links'
+prove_links
+is "the check of links" 0 "crates/over_links/out/over_links
+1 passed, 0 failed" "" 'checks/run links | sed "s|$top/||g"'
 is "the list" 0 "$all" "" 'echo $(checks/run | cut -d " " -f 1)'
 is "the list says how long and why" 0 "$(set -- $all; echo $#)" "" 'checks/run | grep -cE "^[a-z]+ +([0-9]+|some) s +(quick|program|proof) +[A-Z].*[?]$"'
 is "no such check" 2 "" "no check has the name rum: checks/run lists them" 'checks/run rum'
@@ -491,6 +499,7 @@ stub cases
 due_of() {
     case "$1" in
         program | traces | serve | hostile) echo crates/market/out/market ;;
+        links) echo crates/over_links/out/over_links ;;
         memory) echo crates/market/out/market crates/live/out/live ;;
         live) echo crates/live/out/live crates/market/out/market ;;
         network) echo crates/live/out/live ;;
@@ -625,7 +634,7 @@ sed -i s/kit-2/kit-1/ kit.txt
 rm -r prebuilt "$folder/prebuilt"
 
 # The order of proofs, and the range of minutes that pages name.
-is "the order of the proofs" 0 "9 passed, 0 failed" "" 'cd "$repository"; PYTHONDONTWRITEBYTECODE=1 python3 -m checks.drive.proving | tail -n 1'
+is "the order of the proofs" 0 "13 passed, 0 failed" "" 'cd "$repository"; PYTHONDONTWRITEBYTECODE=1 python3 -m checks.drive.proving | tail -n 1'
 is "the minutes of a proof on each page" 0 "" "" 'range="$(. script/program.sh; minutes_to_prove)"; cd "$repository"
     grep -L "$range" README.md docs/COMMANDS.md packaging/help/market.1 Makefile'
 
