@@ -66,9 +66,11 @@ def test_a_node_without_a_folder_records_nothing(joined, tmp_path):
 
 
 def test_a_start_has_the_resume_that_it_goes_on_from(joined, tmp_path):
-    saved(tmp_path, "relay", "street", FIRST)
+    # A device gives even numbers: an odd one would have to be let go again.
+    kept = relay_resume(1, 0, 0, numbers((1, 2)))
+    saved(tmp_path, "relay", "street", kept)
     joined("relay", record=str(tmp_path / "recordings")).begun()
-    assert [line["resume"] for line in told_in(tmp_path / "recordings")] == [FIRST.to_bytes().hex()]
+    assert [line["resume"] for line in told_in(tmp_path / "recordings")] == [kept.to_bytes().hex()]
 
 
 def test_a_service_that_ends_and_comes_back_is_recorded_in_one_file(joined, tmp_path, monkeypatch):
