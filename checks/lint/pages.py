@@ -9,6 +9,7 @@ A page is a file in Markdown. The doc comments of crates/ are read for their sen
 finding and ends with 'N passed, M failed'. It refuses
 
 - a link inside the repository to a file that is not there, or to a heading that its page has not;
+- a link that goes over the end of a line, which an installed page cannot have;
 - a README above 8 KB;
 - a mean above 17 words a sentence, over the README and the pages of docs/, and over the doc comments of all crates;
 - a path of the repository that a page names and does not link the first time. Headings, code blocks and what a command is
@@ -77,6 +78,14 @@ def target_of(page: Path, link: str) -> Path:
     """The file or folder that a link of a page leads to."""
     path = link.partition("#")[0]
     return (page.parent / path).resolve() if path else page
+
+
+def broken_lines(page: Path) -> Iterator[str]:
+    """The links of a page that go over the end of a line."""
+    text = prose_of(page.read_text())
+    for found in LINK.finditer(text):
+        if "\n" in found.group(0):
+            yield f"{name_of(page)}:{text.count(chr(10), 0, found.start()) + 1}: a link goes over the end of a line: put it on one line"
 
 
 def dead_links(page: Path) -> Iterator[str]:
@@ -275,6 +284,7 @@ def check() -> int:
     """Runs all checks, prints the findings and answers the status."""
     checks: list[Callable[[], Iterator[str]]] = [long_readme, long_sentences, names_of_no_source]
     checks += [lambda page=page: dead_links(page) for page in pages()]
+    checks += [lambda page=page: broken_lines(page) for page in pages()]
     checks += [lambda page=page: paths_without_a_link(page) for page in pages()]
     checks += [lambda page=page: reports_of_no_example(page) for page in pages()]
     if shutil.which("codespell"):
