@@ -11,10 +11,15 @@ import pytest
 from brokers import TOP, live_program, require_broker, wait_until
 from made import MadeMarket
 from markets import STEPS, falls_at
+from pretended import BASIS, MOMENT, SESSION, bid, settings
 
 from cogmaula.cli import main
+from cogmaula.live import fencing
+from cogmaula.live.errors import LiveError
 from cogmaula.live.frames import BIDS, Bid, frame_of
-from cogmaula.live.messages import StateMessage
+from cogmaula.live.messages import BasisMessage, StateMessage
+from cogmaula.live.settings import BrokerSettings
+from cogmaula.live.silence import Heartbeat
 
 TREE = """
 [basis]
@@ -155,3 +160,67 @@ def test_only_a_relay_is_fenced(made, capsys):
     for name, why in (("house", "house is a device, and no relay"), ("nobody", "no node is called nobody")):
         assert fence(made, name) == 2
         assert why in capsys.readouterr().err
+
+
+class Kept:
+    """What a broker keeps, as an operator reads it."""
+
+    def __init__(self, messages):
+        self.messages = messages
+
+    def __enter__(self):
+        return self
+
+    def __exit__(self, *_):
+        pass
+
+    def newest(self, topic):
+        return self.messages.get(topic, (b"", {}, True))
+
+    def wait(self, holds, why):
+        assert holds(), why
+
+
+def state_of(state):
+    return StateMessage(state, "0" * 16, MOMENT, SESSION.id, MOMENT, sort="relay").to_bytes(), {}, True
+
+
+def heartbeat_at(time):
+    return Heartbeat(1, 1, time).to_bytes(), {}, True
+
+
+@pytest.mark.parametrize(
+    ("changed", "why"),
+    [
+        ({}, "street is fenced: auctioneer counts nothing of it as of number 8"),
+        ({"street/bid/1": (bid(1, 4, 0, 0).to_bytes(), {"sort": "relay", "node": "lane"}, True)}, "street is fenced"),
+        (
+            {"street/bid/1": (bid(1, 4, 5, 0).to_bytes(), {"sort": "relay", "node": "lane"}, True)},
+            "child 1 of street, lane, is a relay that counts something: stop it, and fence it first",
+        ),
+        ({"street/state": state_of("up")}, "street is up since"),
+        ({"street/state": (b"", {}, True)}, "no node street is seen"),
+        ({"street/heartbeat": heartbeat_at("2026-01-31T06:59:00.000Z")}, "street passed on a heartbeat 60 s ago"),
+        ({"auctioneer/heartbeat": (b"", {}, True)}, "the market has no heartbeat above street"),
+    ],
+)
+def test_a_fence_looks_at_what_the_broker_keeps_of_the_relay(tmp_path, monkeypatch, changed, why):
+    """The relay is down, with a device that takes something, and the market's clock is an hour past its last heartbeat."""
+    kept = {
+        "basis": (BasisMessage(BASIS, SESSION).to_bytes(), {}, True),
+        "street/state": state_of("down"),
+        "street/bid/1": (bid(1, 4, 100, 0).to_bytes(), {"sort": "device", "node": "house"}, True),
+        "auctioneer/heartbeat": heartbeat_at("2026-01-31T07:00:00.000Z"),
+        "street/heartbeat": heartbeat_at("2026-01-31T06:00:00.000Z"),
+        "auctioneer/bid/3": (bid(3, 8, 0, 0).to_bytes(), {"sort": "relay", "node": "street"}, True),
+        **changed,
+    }
+    lives = []
+    monkeypatch.setattr(fencing, "Words", lambda *_: Kept({f"market/{topic}": message for topic, message in kept.items()}))
+    monkeypatch.setattr(fencing, "_live_once", lambda settings, _seconds: lives.append(settings))
+    try:
+        told = fencing.fence(BrokerSettings(), settings("relay", tmp_path))
+    except LiveError as error:
+        told = str(error)
+    assert why in told
+    assert [one.leave for one in lives] == ([True] if "is fenced" in why else []), "only then the relay lives once more"
