@@ -118,7 +118,8 @@ def test_a_flood_of_one_child_holds_no_sibling_up(broker, market):
     begun(market).stop("house")
     bids = [Bid(1, 2, (100 + number,) * STEPS).to_bytes() for number in range(50)]
     with Member(broker.port, "house") as house:
-        attack = Attack(lambda: house.floods("market/street/bid/1", bids, 5_000, 0.5, of_session(market)), 0.0)
+        # Ten times as many as are read. The flood is in the process of the nodes, and a faster one takes their own time.
+        attack = Attack(lambda: house.floods("market/street/bid/1", bids, 2_000, 0.5, of_session(market)), 0.0)
         waited = []
         for step in (5, 6, 7, 8):
             time.sleep(0.3)
