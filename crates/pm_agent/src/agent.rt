@@ -7,10 +7,10 @@ ghost use Rattle.pm_device.specs.Kinds.{is_valid, state_fits};
 ghost use Rattle.pm_agent.specs.MadeBids.{IsMade, demand_after_change};
 
 use crate::made::Made;
-use pm_bid::{ArrayBid, Steps};
+use pm_bid::{ArrayBid, uncounted};
 use pm_device::{Kind, Next};
 use std::alloc::{AllocError, Global};
-use std::marker::{Brand, Model};
+use std::marker::Model;
 
 /// The agent of one device: it turns the device's changes into bids.
 ///
@@ -59,7 +59,7 @@ impl DeviceAgent {
         ensures agent { IfOk result (λ agent. agent
             ≡ record { kind = kind; device = device; steps = steps }) }
     {
-        let none = ArrayBid::zero(alloc, steps, &mut Steps::<Brand>::start())?;
+        let none = ArrayBid::zero(alloc, steps, &mut uncounted())?;
         Ok(DeviceAgent {
             made: Made::unchanged(kind, device, none),
         })

@@ -5,10 +5,10 @@ ghost use Rattle.pm_bid.specs.Bids.{HaveSteps, zeros};
 ghost use Rattle.pm_device.specs.Kinds.{is_valid, state_fits};
 ghost use Rattle.pm_agent.specs.MadeBids.{IsMade, demand_after_change};
 
-use pm_bid::{ArrayBid, Steps};
+use pm_bid::{ArrayBid, uncounted};
 use pm_device::{DeviceState, Kind, Next};
 use pm_strategy::fill_bid;
-use std::marker::{Brand, Model};
+use std::marker::Model;
 
 /// What a device's next change makes of it: the change, the device's kind, and its demand afterwards.
 ///
@@ -131,6 +131,6 @@ fn fill_demand(kind: &Kind, next: Next, arrays: &[ArrayBid], out: &mut ArrayBid)
     if next.member {
         fill_bid(kind, next.state, arrays, out);
     } else {
-        out.set_zero(&mut Steps::<Brand>::start());
+        out.set_zero(&mut uncounted());
     }
 }

@@ -4,9 +4,8 @@ ghost use Rattle.std.specs.Prelude.{◌≡◌, ◌<◌, length, IfOk};
 ghost use Rattle.pm_base.specs.Limits.{most_steps};
 ghost use Rattle.pm_ask.specs.Curves.{least_of, greatest_of, are_crossed, break_at, breaks_of};
 
-use pm_bid::{ArrayBid, Steps};
+use pm_bid::{ArrayBid, uncounted};
 use std::alloc::{AllocError, Global};
-use std::marker::Brand;
 
 /// A step that has targets, and which: all whole numbers of watts from the least to the greatest.
 #[derive(Clone, Copy, Debug, PartialEq, Eq)]
@@ -56,7 +55,7 @@ fn least_of(total: &ArrayBid, step: usize) -> Option<i64>
     ensures { result ≡ least_of total.now step }
 {
     if step < total.steps() - 1 {
-        Some(total.at(step, &mut Steps::<Brand>::start()))
+        Some(total.at(step, &mut uncounted()))
     } else {
         None
     }
@@ -68,7 +67,7 @@ fn greatest_of(total: &ArrayBid, step: usize) -> Option<i64>
     ensures { result ≡ greatest_of total.now step }
 {
     if step > 0 {
-        Some(total.at(step - 1, &mut Steps::<Brand>::start()) - 1)
+        Some(total.at(step - 1, &mut uncounted()) - 1)
     } else {
         None
     }

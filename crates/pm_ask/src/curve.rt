@@ -14,9 +14,9 @@ use crate::breaks::{Break, find_breaks};
 use crate::fault::CurveFault;
 use crate::rise::find_rise;
 use crate::search::find_step;
-use pm_bid::{ArrayBid, Steps};
+use pm_bid::{ArrayBid, Steps, uncounted};
 use std::alloc::Global;
-use std::marker::{Brand, Model};
+use std::marker::Model;
 use std::sync::ledger::Ledger;
 
 /// What becomes of a target.
@@ -61,7 +61,7 @@ impl Curve {
             return Err(CurveFault::Rising { at });
         }
         let breaks = find_breaks(alloc, total)?;
-        let mut counter = Steps::<Brand>::start();
+        let mut counter = uncounted();
         let mut copy = ArrayBid::zero(alloc, total.steps(), &mut counter)?;
         total.copy_into(&mut copy, &mut counter);
         Ok(Curve {

@@ -8,9 +8,8 @@ ghost use Rattle.pm_ask.specs.Texts.{number_or, ends_text, break_line, answer_li
 use crate::breaks::Break;
 use crate::curve::Curve;
 use pm_basis::Basis;
-use pm_bid::Steps;
+use pm_bid::{Steps, uncounted};
 use std::alloc::{AllocError, Global};
-use std::marker::Brand;
 use std::sync::ledger::Ledger;
 
 /// The text of what is asked of a total. It has a line for each step that has targets, rising, with the least and the
@@ -96,7 +95,7 @@ fn push_answers(
     ensures { OnOk result (string_bytes text.new ≡ string_bytes text.old
         ++ flat_map (answer_line basis.now curve.now) targets.now) }
 {
-    let mut counter = Steps::<Brand>::start();
+    let mut counter = uncounted();
     for target in targets {
         push_answer(text, basis, curve, *target, &mut counter)?;
     }

@@ -10,11 +10,11 @@ ghost use Rattle.pm_auctioneer.specs.Auctions.{new_auction, MarketCleared, Clear
 ghost use Rattle.pm_auctioneer.specs.declared.fault.ClearFault.TheVariants.{NotChanged};
 
 use crate::fault::ClearFault;
-use pm_bid::{ArrayBid, BidHead, Steps};
+use pm_bid::{ArrayBid, BidHead, uncounted};
 use pm_cache::{BidCache, CacheFault};
 use pm_session::{Link, Prices};
 use std::alloc::{AllocError, Global};
-use std::marker::{Brand, Model};
+use std::marker::Model;
 
 /// A clearing of the market.
 #[derive(Clone, Copy, Debug, PartialEq, Eq)]
@@ -56,7 +56,7 @@ impl Auctioneer {
         requires steps { AreSteps steps }
         ensures new { IfOk result (λ a. a ≡ new_auction children steps) }
     {
-        let cache = BidCache::new(alloc, children, steps, &mut Steps::<Brand>::start())?;
+        let cache = BidCache::new(alloc, children, steps, &mut uncounted())?;
         Ok(Auctioneer {
             cache,
             step: 0,
@@ -80,9 +80,7 @@ impl Auctioneer {
           changed = self.old.changed || not (nat_le number (kept_number self.old.cache child));
         } }
     {
-        let answer = self
-            .cache
-            .learn(child, number, demand, &mut Steps::<Brand>::start());
+        let answer = self.cache.learn(child, number, demand, &mut uncounted());
         if answer.is_ok() {
             self.changed = true;
         }
@@ -112,7 +110,7 @@ impl Auctioneer {
     {
         let answer = self
             .cache
-            .exchange_bid(child, head, demand, &mut Steps::<Brand>::start());
+            .exchange_bid(child, head, demand, &mut uncounted());
         if answer.is_ok() {
             self.changed = true;
         }
@@ -135,7 +133,7 @@ impl Auctioneer {
             return Err(ClearFault::NotChanged);
         }
         let total = self.cache.aggregate();
-        let step = total.first_not_positive(&mut Steps::<Brand>::start()) as u32;
+        let step = total.first_not_positive(&mut uncounted()) as u32;
         let index = self.index + 1;
         self.step = step;
         self.index = index;

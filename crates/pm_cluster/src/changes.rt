@@ -29,14 +29,13 @@ use crate::fault::ChangeFault;
 use crate::links::{exchange_bid, offer_bid};
 use crate::tree::{parent_of, place_in_row};
 use pm_agent::Made;
-use pm_bid::{ArrayBid, Steps};
+use pm_bid::{ArrayBid, uncounted};
 use pm_device::{DeviceState, Kind, Next};
 use pm_market::Move;
 use pm_plan::{Plan, is_device};
 use pm_session::{Link, Port};
 use pm_strategy::fill_bid;
 use pm_tree::NodeId;
-use std::marker::Brand;
 
 impl<'p> Cluster<'p> {
     /// Makes the next change of a device and offers its bid to the device's parent.
@@ -227,7 +226,7 @@ fn fill_given(plan: &Plan, next: Next, kind: Kind, given: Option<&ArrayBid>, out
         return;
     }
     match given {
-        Some(demand) => demand.copy_into(out, &mut Steps::<Brand>::start()),
+        Some(demand) => demand.copy_into(out, &mut uncounted()),
         None => fill_bid(&kind, next.state, plan.arrays(), out),
     }
 }

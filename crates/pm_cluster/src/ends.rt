@@ -21,13 +21,12 @@ use crate::cluster::Cluster;
 use crate::tree::{parent_of, place_in_row};
 use pm_auctioneer::Auctioneer;
 use pm_base::Limits;
-use pm_bid::Steps;
+use pm_bid::uncounted;
 use pm_concentrator::Concentrator;
 use pm_plan::{LimitedLine, MemberLine, PhaseEnd, Plan, is_device};
 use pm_session::Port;
 use pm_tree::NodeId;
 use std::alloc::{AllocError, Global};
-use std::marker::Brand;
 
 impl<'p> Cluster<'p> {
     /// The end over all changes made so far, which is that of the plain auction. If these are the changes of the phases up to
@@ -73,7 +72,7 @@ impl<'p> Cluster<'p> {
     {
         let step = self.auctioneer.step();
         let sum = self.auctioneer.cache().aggregate();
-        let total = sum.at(step as usize, &mut Steps::<Brand>::start());
+        let total = sum.at(step as usize, &mut uncounted());
         out.begin(self.plan.basis(), step, total);
         for number in 1..self.plan.tree().len() + 1 {
             self.tell_member(NodeId(number), out);
@@ -145,7 +144,7 @@ impl<'p> Cluster<'p> {
         match (&self.concentrators[node.0 as usize], self.plan.limits(node)) {
             (Some(concentrator), Some((floor, ceiling))) => {
                 let sum = concentrator.cache().aggregate();
-                let mut counter = Steps::<Brand>::start();
+                let mut counter = uncounted();
                 let limits = Limits { floor, ceiling };
                 let local = sum.step_within(&limits, step as usize, &mut counter);
                 LimitedLine {
@@ -229,7 +228,7 @@ fn power_of(
     let parent = parent_of(plan, device);
     let place = place_in_row(plan, device);
     let step = price.step as usize;
-    let mut counter = Steps::<Brand>::start();
+    let mut counter = uncounted();
     if parent == 0 {
         return auctioneer.cache().demand(place, step, &mut counter);
     }

@@ -18,14 +18,13 @@ ghost use Rattle.pm_cluster.specs.Opening.{AreNewRows, IsNewAt, AreNewConcentrat
 use crate::cluster::Cluster;
 use crate::tree::is_concentrator;
 use pm_auctioneer::Auctioneer;
-use pm_bid::{ArrayBid, Steps};
+use pm_bid::{ArrayBid, uncounted};
 use pm_concentrator::Concentrator;
 use pm_device::DeviceState;
 use pm_plan::{Plan, is_device};
 use pm_session::{Link, Port};
 use pm_tree::NodeId;
 use std::alloc::{AllocError, Global};
-use std::marker::Brand;
 
 impl<'p> Cluster<'p> {
     /// Opens a cluster on a plan, before the first phase: no device made a change, and nobody sent anything. It takes the
@@ -49,7 +48,7 @@ impl<'p> Cluster<'p> {
             concentrators: concentrators(alloc, plan)?,
             auctioneer: Auctioneer::new(alloc, plan.tree().children(NodeId(0)).len(), steps)?,
             ports: ports(alloc, many)?,
-            spare: ArrayBid::zero(alloc, steps, &mut Steps::<Brand>::start())?,
+            spare: ArrayBid::zero(alloc, steps, &mut uncounted())?,
         })
     }
 }

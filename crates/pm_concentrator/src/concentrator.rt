@@ -19,11 +19,11 @@ ghost use Rattle.pm_concentrator.specs.Faults.{NotPublished};
 use crate::fault::PublishFault;
 use crate::limited::Limited;
 use pm_base::{Limits, WINDOW_SIZE};
-use pm_bid::{ArrayBid, BidHead, Steps};
+use pm_bid::{ArrayBid, BidHead, uncounted};
 use pm_cache::{BidCache, CacheFault};
 use pm_session::{Link, PriceUpdate, Prices, Record, Window};
 use std::alloc::{AllocError, Global};
-use std::marker::{Brand, Model};
+use std::marker::Model;
 
 /// A node between the devices and the auctioneer, with up to 256 children, which count from 0.
 ///
@@ -65,7 +65,7 @@ impl Concentrator {
         requires steps { AreSteps steps }
         ensures new { IfOk result (λ c. IsNewConcentrator children steps None c) }
     {
-        let cache = BidCache::new(alloc, children, steps, &mut Steps::<Brand>::start())?;
+        let cache = BidCache::new(alloc, children, steps, &mut uncounted())?;
         let window = Window::new(alloc, children)?;
         Ok(Concentrator {
             cache,
@@ -89,7 +89,7 @@ impl Concentrator {
         ensures new { IfOk result (λ c. IsNewConcentrator children steps
             (Some (record { floor = floor; ceiling = ceiling })) c) }
     {
-        let cache = BidCache::new(alloc, children, steps, &mut Steps::<Brand>::start())?;
+        let cache = BidCache::new(alloc, children, steps, &mut uncounted())?;
         let window = Window::limited(alloc, children, steps)?;
         let limited = Limited::new(alloc, steps, Limits { floor, ceiling })?;
         Ok(Concentrator {
@@ -112,8 +112,7 @@ impl Concentrator {
         ensures learnt { self.new ≡ record self.old
             { cache = after_learning self.old.cache child number (option_copied demand.entry) } }
     {
-        self.cache
-            .learn(child, number, demand, &mut Steps::<Brand>::start())
+        self.cache.learn(child, number, demand, &mut uncounted())
     }
 
     /// Learns a child's bid with this head as [`Concentrator::learn`] does, and copies nothing: the
@@ -138,7 +137,7 @@ impl Concentrator {
         ensures same_length { length demand.new ≡ length demand.old }
     {
         self.cache
-            .exchange_bid(child, head, demand, &mut Steps::<Brand>::start())
+            .exchange_bid(child, head, demand, &mut uncounted())
     }
 
     /// Makes the bid of the next number, which is the answer. Its demand is the sum of the children's
@@ -461,9 +460,7 @@ fn settled_step_below(limited: &Option<Limited>, limits: &Limits, step: u32, sen
         None => step,
         Some(_own) => match sent.sum() {
             None => step,
-            Some(sum) => {
-                sum.settled_step(limits, step as usize, &mut Steps::<Brand>::start()) as u32
-            }
+            Some(sum) => { sum.settled_step(limits, step as usize, &mut uncounted()) as u32 }
         },
     }
 }

@@ -7,9 +7,9 @@ ghost use Rattle.pm_bid.specs.Limited.{step_within};
 ghost use Rattle.pm_bid.specs.Taken.{announced_in};
 
 use pm_base::Limits;
-use pm_bid::{ArrayBid, Steps};
+use pm_bid::{ArrayBid, uncounted};
 use std::alloc::{AllocError, Global};
-use std::marker::{Brand, Model};
+use std::marker::Model;
 
 /// The limits of a limited concentrator, and the demand of its newest bid.
 #[derive(Drop)]
@@ -39,7 +39,7 @@ impl Limited {
         ensures limits { IfOk result (λ limited. limited
             ≡ record { limits = limits; announced = zeros steps }) }
     {
-        let announced = ArrayBid::zero(alloc, steps, &mut Steps::<Brand>::start())?;
+        let announced = ArrayBid::zero(alloc, steps, &mut uncounted())?;
         Ok(Limited { limits, announced })
     }
 
@@ -50,7 +50,7 @@ impl Limited {
             { announced = clamp self.old.limits.floor self.old.limits.ceiling sum.now } }
     {
         let Limits { floor, ceiling } = self.limits;
-        let mut counter = Steps::<Brand>::start();
+        let mut counter = uncounted();
         sum.clamp_into(floor, ceiling, &mut self.announced, &mut counter);
     }
 
@@ -60,7 +60,7 @@ impl Limited {
         ensures announced { self.new ≡ record self.old
             { announced = announced_in self.old.limits sum.now } }
     {
-        let mut counter = Steps::<Brand>::start();
+        let mut counter = uncounted();
         sum.announce_into(&self.limits, &mut self.announced, &mut counter);
     }
 
@@ -77,7 +77,7 @@ impl Limited {
         ensures step { result ≡ step_within self.now.limits step sum.now }
         ensures inside { result < length sum.now }
     {
-        sum.step_within(&self.limits, step as usize, &mut Steps::<Brand>::start()) as u32
+        sum.step_within(&self.limits, step as usize, &mut uncounted()) as u32
     }
 
     /// The limits.

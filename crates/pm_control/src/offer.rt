@@ -2,8 +2,8 @@
 
 ghost use Rattle.std.specs.Prelude.{◌≡◌, pos, slice_index_or};
 
-use pm_bid::{ArrayBid, Steps};
-use std::marker::{Brand, Model};
+use pm_bid::{ArrayBid, uncounted};
+use std::marker::Model;
 
 /// The power that a device would take at each step, in watts, under its number.
 #[derive(Drop)]
@@ -60,6 +60,6 @@ impl Offer {
         if step >= self.demand.steps() {
             return 0;
         }
-        self.demand.at(step, &mut Steps::<Brand>::start())
+        self.demand.at(step, &mut uncounted())
     }
 }

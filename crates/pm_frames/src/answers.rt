@@ -28,12 +28,11 @@ use crate::kinds::{
 use crate::terms::RelayTerms;
 use pm_base::Limits;
 use pm_basis::Basis;
-use pm_bid::{ArrayBid, Steps};
+use pm_bid::{ArrayBid, uncounted};
 use pm_control::{AgentResume, Setpoint};
 use pm_relay::Resume;
 use pm_session::{PriceUpdate, Prices};
 use pm_wire::Reply;
-use std::marker::Brand;
 
 /// Appends an answer that `serve` has too.
 pub fn write_reply(reply: Reply, out: &mut Vec<u8>)
@@ -127,7 +126,7 @@ fn write_demands(demand: &ArrayBid, out: &mut Vec<u8>)
     ensures capacity { vec_capacity out.old ≤ vec_capacity out.new }
 {
     for step in 0..demand.steps() {
-        write_i32(demand.at(step, &mut Steps::<Brand>::start()), out);
+        write_i32(demand.at(step, &mut uncounted()), out);
     }
 }
 

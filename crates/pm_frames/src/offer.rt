@@ -19,13 +19,12 @@ use crate::form::OfferForm;
 use crate::kinds::POINTS;
 use crate::place::{NodePlace, Stage};
 use pm_basis::Basis;
-use pm_bid::{ArrayBid, Steps};
+use pm_bid::{ArrayBid, uncounted};
 use pm_device::{DeviceState, Kind};
 use pm_points::PointBid;
 use pm_strategy::fill_bid;
 use pm_wire::{read_demands, read_i32};
 use std::alloc::{AllocError, Global};
-use std::marker::Brand;
 
 /// The most points of an offer.
 const MOST_POINTS: u8 = 64;
@@ -54,7 +53,7 @@ pub(crate) fn read_offered(
     ensures { IfOk result (IsOffer steps bytes.now) }
 {
     let demands = read_demands(alloc, steps, bytes)?;
-    match ArrayBid::new(demands, steps, &mut Steps::<Brand>::start()) {
+    match ArrayBid::new(demands, steps, &mut uncounted()) {
         Ok(demand) => Ok(Some(demand)),
         Err(_) => Ok(None),
     }
@@ -166,7 +165,7 @@ fn bid_in_state(
     ensures demand { IfOk result (λ demand. demand ≡ bid_of kind.now state.0 [] steps) }
     ensures bid { IfOk result (λ demand. checked_bid (length demand) demand ≡ Ok demand) }
 {
-    let mut demand = ArrayBid::zero(alloc, steps, &mut Steps::<Brand>::start())?;
+    let mut demand = ArrayBid::zero(alloc, steps, &mut uncounted())?;
     let arrays: [ArrayBid; 0] = [];
     fill_bid(kind, state, &arrays, &mut demand);
     Ok(demand)

@@ -6,14 +6,13 @@ ghost use Rattle.pm_phase.specs.Devices.{new_device, MayMakeChange, MakesChange,
 ghost use Rattle.pm_phase.specs.Devices.{MayWork, seat_after_change, after_price_is_given};
 
 use pm_agent::DeviceAgent;
-use pm_bid::{ArrayBid, Steps};
+use pm_bid::{ArrayBid, uncounted};
 use pm_cells::UpMessage;
 use pm_device::Next;
 use pm_nodes::can_work;
 use pm_plan::Plan;
 use pm_session::{Held, Port, PriceUpdate};
 use std::alloc::{AllocError, Global};
-use std::marker::Brand;
 
 /// A device's part of a market over links: all that it owns beside its end of the link to its parent.
 #[derive(Drop)]
@@ -133,7 +132,7 @@ fn demand_of(
     if !next.member {
         return Ok(None);
     }
-    let mut counter = Steps::<Brand>::start();
+    let mut counter = uncounted();
     let mut demand = ArrayBid::zero(alloc, agent.steps(), &mut counter)?;
     let made = agent.work(next, plan.arrays());
     made.demand().copy_into(&mut demand, &mut counter);

@@ -13,7 +13,7 @@ ghost use Rattle.pm_phase.specs.Matchers.{MayPassOn, PricesWait, waiting_at, new
 
 use pm_auctioneer::Auctioneer;
 use pm_base::Limits;
-use pm_bid::{ArrayBid, Steps};
+use pm_bid::{ArrayBid, uncounted};
 use pm_cache::BidCache;
 use pm_cells::UpMessage;
 use pm_concentrator::Concentrator;
@@ -21,7 +21,6 @@ use pm_plan::Plan;
 use pm_session::{PriceUpdate, Prices};
 use pm_tree::NodeId;
 use std::alloc::{AllocError, Global};
-use std::marker::Brand;
 
 /// What a node with children is.
 #[derive(Drop)]
@@ -62,7 +61,7 @@ impl Matcher {
         ensures unchanged { result ≡ false → self.new ≡ self.old }
     {
         let demand = bid.demand.as_ref();
-        let mut counter = Steps::<Brand>::start();
+        let mut counter = uncounted();
         match self {
             Matcher::Concentrator(concentrator) => {
                 concentrator.cache().can_learn(child, demand, &mut counter)
@@ -129,7 +128,7 @@ pub(crate) fn next_bid(
     if concentrator.last() == u32::MAX || !concentrator.changed() || concentrator.room() == 0 {
         return Ok(None);
     }
-    let mut counter = Steps::<Brand>::start();
+    let mut counter = uncounted();
     let steps = concentrator.demand().steps();
     let mut demand = ArrayBid::zero(alloc, steps, &mut counter)?;
     let Ok(number) = concentrator.next_bid() else {

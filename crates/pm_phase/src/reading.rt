@@ -15,14 +15,13 @@ use crate::matcher::Matcher;
 use crate::node::{Duty, NodePart};
 use pm_auctioneer::Auctioneer;
 use pm_base::Limits;
-use pm_bid::Steps;
+use pm_bid::uncounted;
 use pm_cache::BidCache;
 use pm_concentrator::Concentrator;
 use pm_plan::{LimitedLine, MemberLine, PhaseEnd, Plan};
 use pm_session::Held;
 use pm_tree::NodeId;
 use std::alloc::{AllocError, Global};
-use std::marker::Brand;
 
 /// The auctioneer, if node 0 is one.
 fn auctioneer_of(parts: &[NodePart]) -> Option<&Auctioneer>
@@ -95,7 +94,7 @@ fn sum_at(cache: &BidCache, step: u32) -> Option<i64>
     if step as usize >= sum.steps() {
         return None;
     }
-    Some(sum.at(step as usize, &mut Steps::<Brand>::start()))
+    Some(sum.at(step as usize, &mut uncounted()))
 }
 
 /// The power in watts of the child in a place that holds this price, and 0 if it holds none; None if there is no such child, or the
@@ -111,7 +110,7 @@ fn power_of(cache: &BidCache, place: usize, held: Option<Held>) -> Option<i64>
     if place >= cache.heads().len() || price.step as usize >= cache.aggregate().steps() {
         return None;
     }
-    Some(cache.demand(place, price.step as usize, &mut Steps::<Brand>::start()))
+    Some(cache.demand(place, price.step as usize, &mut uncounted()))
 }
 
 /// The number of the newest bid of the child in a place; None if there is no such child.
@@ -158,7 +157,7 @@ fn read_limited(
     if step as usize >= sum.steps() {
         return None;
     }
-    let mut counter = Steps::<Brand>::start();
+    let mut counter = uncounted();
     let local = sum.step_within(limits, step as usize, &mut counter);
     let total = sum.at(local, &mut counter);
     Some(LimitedLine {

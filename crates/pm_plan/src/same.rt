@@ -7,8 +7,7 @@ use crate::node::{Device, Node};
 use crate::plan::Plan;
 use crate::planned::Change;
 use pm_basis::Basis;
-use pm_bid::{ArrayBid, Steps};
-use std::marker::Brand;
+use pm_bid::{ArrayBid, uncounted};
 
 impl Plan {
     /// True exactly if both plans have the same basis, tree, nodes, arrays and phases, each in the same order.
@@ -109,7 +108,7 @@ fn same_demand(array: &ArrayBid, other: &ArrayBid, step: usize) -> bool
     requires within { step < length other.now }
     ensures { IsTrue result ↔ (demand_at array.now step ≡ demand_at other.now step) }
 {
-    let mut counter = Steps::<Brand>::start();
+    let mut counter = uncounted();
     array.at(step, &mut counter) == other.at(step, &mut counter)
 }
 

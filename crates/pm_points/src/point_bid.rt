@@ -10,9 +10,9 @@ use crate::fault::PointFault;
 use crate::line::demand_between;
 use crate::search::{find_last_at_most, find_outside, find_price_fall, find_rise, find_too_large};
 use pm_basis::Basis;
-use pm_bid::{ArrayBid, Steps};
+use pm_bid::{ArrayBid, uncounted};
 use std::alloc::AllocError;
-use std::marker::{Brand, Model};
+use std::marker::Model;
 
 /// The largest number of points of a bid.
 const MAX_POINTS: usize = 64;
@@ -78,7 +78,7 @@ impl PointBid {
         ensures falls { IfOk result (λ array. NeverRises array) }
         ensures within { IfOk result (λ array. AllWithinLimit demand_limit array) }
     {
-        let mut counter = Steps::<Brand>::start();
+        let mut counter = uncounted();
         let steps = basis.steps();
         let mut array = ArrayBid::zero(*self.points.allocator(), steps, &mut counter)?;
         for step in 0..steps {

@@ -20,12 +20,12 @@ use crate::numbers::{expiry_number, hears_nothing_newer, is_caught_up, note_numb
 use crate::outcome::PriceOutcome;
 use crate::resume::Resume;
 use pm_base::{Limits, MOST_NODES, WINDOW_SIZE};
-use pm_bid::{ArrayBid, Steps};
+use pm_bid::{ArrayBid, uncounted};
 use pm_cache::CacheFault;
 use pm_concentrator::Concentrator;
 use pm_session::{PriceUpdate, Prices};
 use std::alloc::{AllocError, Global};
-use std::marker::{Brand, Model};
+use std::marker::Model;
 
 /// How many places there are for the limits of numbers.
 const LIMITS_PLACES: usize = WINDOW_SIZE as usize + 1;
@@ -226,7 +226,7 @@ impl Relay {
     {
         let limits = self.limits();
         let sum = self.concentrator.cache().aggregate();
-        sum.has_step_within(&limits, &mut Steps::<Brand>::start())
+        sum.has_step_within(&limits, &mut uncounted())
     }
 
     /// Enters a child's bid.

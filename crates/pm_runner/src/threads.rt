@@ -8,7 +8,7 @@ use crate::desk::Desk;
 use crate::pending::Pending;
 use crate::rotation::serve_in_rotation;
 use crate::worker::{Shared, Worker, give_up, serve_node};
-use pm_bid::{ArrayBid, Steps};
+use pm_bid::{ArrayBid, uncounted};
 use pm_board::Board;
 use pm_nodes::Gate;
 use pm_plan::{Plan, is_device};
@@ -16,7 +16,6 @@ use pm_tree::NodeId;
 use pm_turns::complete;
 use pm_waking::Rings;
 use std::alloc::{AllocError, Global};
-use std::marker::Brand;
 use std::sync::{Mutex, Wait};
 use std::thread;
 use std::thread::{Builder, Threads};
@@ -114,7 +113,7 @@ fn bid_of(alloc: Global, plan: &Plan, node: NodeId) -> Result<Option<ArrayBid>, 
     if !is_device(plan, node) {
         return Ok(None);
     }
-    let bid = ArrayBid::zero(alloc, plan.basis().steps(), &mut Steps::<Brand>::start())?;
+    let bid = ArrayBid::zero(alloc, plan.basis().steps(), &mut uncounted())?;
     Ok(Some(bid))
 }
 

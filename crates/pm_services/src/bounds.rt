@@ -6,9 +6,9 @@ ghost use Rattle.pm_relay.specs.Relays.{AreRelayLimits};
 ghost use Rattle.pm_services.specs.Bounds.{KeepsBound, no_bounds, with_bound};
 
 use pm_base::{DEMAND_LIMIT, Limits, MOST_NODES};
-use pm_bid::{ArrayBid, Steps};
+use pm_bid::{ArrayBid, uncounted};
 use std::alloc::{AllocError, Global};
-use std::marker::{Brand, Model};
+use std::marker::Model;
 
 /// For each child the least and the greatest power that it may bid, in watts.
 ///
@@ -51,7 +51,7 @@ impl Bounds {
         ensures { IsTrue result ↔ KeepsBound self.now sender demand.now }
     {
         let bound = &self.bounds[usize::from(sender) - 1];
-        demand.stays_within(bound, &mut Steps::<Brand>::start())
+        demand.stays_within(bound, &mut uncounted())
     }
 
     /// Gives a child its bound.

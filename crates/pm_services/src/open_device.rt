@@ -16,7 +16,7 @@ ghost use Rattle.pm_services.specs.DeviceAnswers.{device_reply};
 ghost use Rattle.pm_services.specs.DeviceServiceFields.{HasSmallDemand, IsSmall};
 
 use pm_basis::Basis;
-use pm_bid::{ArrayBid, Steps};
+use pm_bid::{ArrayBid, uncounted};
 use pm_control::{ControlAgent, OfferFault};
 use pm_frames::{
     DeviceFrame, NamedBasis, ParentFrame, StoredAgent, write_agent_resume, write_bid,
@@ -25,7 +25,7 @@ use pm_frames::{
 };
 use pm_session::PriceUpdate;
 use std::alloc::{AllocError, Global};
-use std::marker::{Brand, Model};
+use std::marker::Model;
 
 /// A device that has a basis.
 ///
@@ -53,7 +53,7 @@ fn copy_of(alloc: Global, demand: &ArrayBid) -> Result<ArrayBid, AllocError>
     ensures copy { IfOk result (λ copy. copy ≡ demand.now) }
     ensures steps { length demand.now ≤ most_steps }
 {
-    let mut counter = Steps::<Brand>::start();
+    let mut counter = uncounted();
     let mut copy = ArrayBid::zero(alloc, demand.steps(), &mut counter)?;
     demand.copy_into(&mut copy, &mut counter);
     Ok(copy)

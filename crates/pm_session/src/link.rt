@@ -8,9 +8,9 @@ ghost use Rattle.pm_session.specs.Links.{BidOffered, BidTaken, PriceOffered, Pri
 ghost use Rattle.pm_session.specs.Ways.{Waits};
 
 use crate::price::PriceUpdate;
-use pm_bid::{ArrayBid, BidHead, Steps};
+use pm_bid::{ArrayBid, BidHead, uncounted};
 use std::alloc::{AllocError, Global};
-use std::marker::{Brand, Model};
+use std::marker::Model;
 use std::mem;
 
 /// The session between a child and its parent: the child offers bids, which the parent takes, and
@@ -50,7 +50,7 @@ impl Link {
         requires { AreSteps steps }
         ensures new { IfOk result (λ link. link ≡ new_session steps) }
     {
-        let demand = ArrayBid::zero(alloc, steps, &mut Steps::<Brand>::start())?;
+        let demand = ArrayBid::zero(alloc, steps, &mut uncounted())?;
         Ok(Link {
             bid: None,
             demand,
@@ -72,7 +72,7 @@ impl Link {
         ensures offered { BidOffered self.old self.new
             (bid_offered self.old.steps number (option_copied demand.entry)) }
     {
-        let mut counter = Steps::<Brand>::start();
+        let mut counter = uncounted();
         let gone = match demand {
             Some(bid) => {
                 bid.copy_into(&mut self.demand, &mut counter);

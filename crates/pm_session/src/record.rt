@@ -5,9 +5,9 @@ ghost use Rattle.std.specs.Option.{option_copied};
 ghost use Rattle.pm_bid.specs.Heads.{nothing_sent};
 ghost use Rattle.pm_session.specs.Windows.{HasSteps, steps_of};
 
-use pm_bid::{ArrayBid, BidHead, Steps};
+use pm_bid::{ArrayBid, BidHead, uncounted};
 use std::alloc::{AllocError, Global};
-use std::marker::{Brand, Model};
+use std::marker::Model;
 
 /// What went into one number of a concentrator: the heads of its children, and the children's sum
 /// if the concentrator is limited.
@@ -44,7 +44,7 @@ impl Record {
         let heads = vec![in alloc; nothing_sent; children]?;
         let sum = match steps {
             None => None,
-            Some(steps) => Some(ArrayBid::zero(alloc, steps, &mut Steps::<Brand>::start())?),
+            Some(steps) => Some(ArrayBid::zero(alloc, steps, &mut uncounted())?),
         };
         Ok(Record {
             number: 0,
@@ -92,7 +92,7 @@ impl Record {
     {
         self.write(number, children);
         if let Some(kept) = &mut self.sum {
-            sum.copy_into(kept, &mut Steps::<Brand>::start());
+            sum.copy_into(kept, &mut uncounted());
         }
     }
 }

@@ -7,9 +7,8 @@ ghost use Rattle.pm_device.specs.Kinds.{is_valid, state_fits};
 ghost use Rattle.pm_strategy.specs.Strategies.{bid_of, numbered_array};
 
 use crate::kinds::levels_of;
-use pm_bid::{ArrayBid, Steps};
+use pm_bid::{ArrayBid, uncounted};
 use pm_device::{DeviceState, Kind};
-use std::marker::Brand;
 
 /// Makes `out` the bid of a device of this kind in this state, with as many steps as `out` has. With `k` the step,
 /// `m` the last one, `/` rounding down and `ceil` rounding up, the demand in watts at `k` is:
@@ -53,7 +52,7 @@ fn fill_from_array(state: DeviceState, arrays: &[ArrayBid], out: &mut ArrayBid)
     ensures { out.new ≡ numbered_array arrays.now state.0 (length out.old) }
 {
     let DeviceState(number) = state;
-    let mut counter = Steps::<Brand>::start();
+    let mut counter = uncounted();
     match arrays.get(number as usize) {
         Some(array) => array.copy_into(out, &mut counter),
         None => out.set_zero(&mut counter),

@@ -5,8 +5,7 @@ ghost use Rattle.pm_base.specs.Limits.{demand_limit, IsWithin, most_steps};
 ghost use Rattle.pm_bid.specs.Bids.{demand_at};
 ghost use Rattle.pm_strategy.specs.Steps.{by_step};
 
-use pm_bid::{ArrayBid, Steps};
-use std::marker::Brand;
+use pm_bid::{ArrayBid, Steps, uncounted};
 
 /// A demand in watts with at most three levels. One is at the steps before `first_end`, the next at those
 /// before `second_end`, and the last at the others.
@@ -79,7 +78,7 @@ fn fill_range(out: &mut ArrayBid, start: usize, end: usize, demand: i64)
     ensures before { (step : ℕ) → step < start → demand_at out.new step ≡ demand_at out.old step }
     ensures same_length { length out.new ≡ length out.old }
 {
-    let mut counter = Steps::<Brand>::start();
+    let mut counter = uncounted();
     for step in start..end {
         out.set(step, demand, &mut counter);
     }

@@ -10,12 +10,11 @@ ghost use Rattle.pm_plan.specs.States.{state, changed_state};
 ghost use Rattle.pm_plan.specs.Kept.{change_fits};
 ghost use Rattle.pm_walk.specs.Standing.{HasCome, demand_come};
 
-use pm_bid::{ArrayBid, Steps};
+use pm_bid::{ArrayBid, uncounted};
 use pm_device::{DeviceState, Kind, advance};
 use pm_plan::{Plan, Planned};
 use pm_strategy::fill_bid;
 use pm_tree::NodeId;
-use std::marker::Brand;
 
 /// How far a node has come.
 #[derive(Clone, Copy)]
@@ -91,6 +90,6 @@ pub(crate) fn fill_demand(plan: &Plan, device: NodeId, here: Progress, out: &mut
     if here.member {
         fill_bid(&plan.kind(device), here.state, plan.arrays(), out);
     } else {
-        out.set_zero(&mut Steps::<Brand>::start());
+        out.set_zero(&mut uncounted());
     }
 }

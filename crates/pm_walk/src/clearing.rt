@@ -8,11 +8,10 @@ ghost use Rattle.pm_walk.specs.Clearing.{HasRoom, IsClearing, AreGroupSteps, Are
 
 use crate::standing::Standing;
 use crate::totals::{fill_total, group_step, power_of};
-use pm_bid::{ArrayBid, Steps};
+use pm_bid::{ArrayBid, uncounted};
 use pm_plan::Plan;
 use pm_tree::NodeId;
 use std::alloc::{AllocError, Global};
-use std::marker::Brand;
 
 /// The plain auction of a standing. Place 0 of each list is the auctioneer's.
 pub(crate) struct Clearing {
@@ -45,7 +44,7 @@ impl Clearing {
     {
         let many = plan.tree().len() as usize + 1;
         Ok(Clearing {
-            total: ArrayBid::zero(alloc, plan.basis().steps(), &mut Steps::<Brand>::start())?,
+            total: ArrayBid::zero(alloc, plan.basis().steps(), &mut uncounted())?,
             step: 0,
             group_steps: no_steps(alloc, many)?,
             powers: no_powers(alloc, many)?,
@@ -61,7 +60,7 @@ impl Clearing {
         ensures spare { length spare.new ≡ plan.now.basis.steps }
     {
         fill_total(plan, standing, spare, &mut self.total);
-        let step = self.total.first_not_positive(&mut Steps::<Brand>::start());
+        let step = self.total.first_not_positive(&mut uncounted());
         self.step = step as u32;
         fill_group_steps(plan, standing, step, &mut self.group_steps);
         fill_powers(plan, standing, &self.group_steps, &mut self.powers);

@@ -9,11 +9,10 @@ ghost use Rattle.pm_plan.specs.EndLines.{members_to, limited_to};
 
 use crate::clearing::Clearing;
 use crate::standing::Standing;
-use pm_bid::Steps;
+use pm_bid::uncounted;
 use pm_plan::{LimitedLine, MemberLine, PhaseEnd, Plan};
 use pm_tree::NodeId;
 use std::alloc::{AllocError, Global};
-use std::marker::Brand;
 
 /// The end over a standing and its auction.
 pub(crate) fn end_of(
@@ -32,7 +31,7 @@ pub(crate) fn end_of(
     Ok(PhaseEnd::new(
         plan.basis(),
         clearing.step,
-        clearing.total.at(step, &mut Steps::<Brand>::start()),
+        clearing.total.at(step, &mut uncounted()),
         members,
         limited,
     ))
@@ -107,8 +106,6 @@ fn limited_line(plan: &Plan, standing: &Standing, group_steps: &[u32], at: NodeI
     LimitedLine {
         node: at.0,
         step,
-        total: standing
-            .sum(plan, at)
-            .at(step as usize, &mut Steps::<Brand>::start()),
+        total: standing.sum(plan, at).at(step as usize, &mut uncounted()),
     }
 }

@@ -12,10 +12,9 @@ use crate::clearing::Clearing;
 use crate::lines::end_of;
 use crate::standing::{Standing, starts};
 use crate::stops::change_stops;
-use pm_bid::{ArrayBid, Steps};
+use pm_bid::{ArrayBid, uncounted};
 use pm_plan::{PhaseEnd, Plan};
 use std::alloc::{AllocError, Global};
-use std::marker::Brand;
 
 /// A run over the phases: how far it has come, and the plain auction there.
 pub(crate) struct Run {
@@ -44,7 +43,7 @@ impl Run {
         ensures standing { IfOk result (λ run. run.standing ≡ standing) }
     {
         let mut clearing = Clearing::new(alloc, plan)?;
-        let mut spare = ArrayBid::zero(alloc, plan.basis().steps(), &mut Steps::<Brand>::start())?;
+        let mut spare = ArrayBid::zero(alloc, plan.basis().steps(), &mut uncounted())?;
         clearing.clear(plan, &standing, &mut spare);
         Ok(Run {
             standing,

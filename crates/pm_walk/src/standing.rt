@@ -11,12 +11,12 @@ ghost use Rattle.pm_walk.specs.Standing.{progress_at, HasCome, HaveCome, IsStand
 ghost use Rattle.pm_walk.specs.Clearing.{ArePowers};
 
 use crate::changes::{Progress, fill_demand, make_changes};
-use pm_bid::{ArrayBid, Steps};
+use pm_bid::{ArrayBid, uncounted};
 use pm_device::DeviceState;
 use pm_plan::Plan;
 use pm_tree::NodeId;
 use std::alloc::{AllocError, Global};
-use std::marker::{Brand, Model};
+use std::marker::Model;
 
 /// How far a run has come, with the demands and the sums there. Place 0 of each list is the auctioneer's.
 pub(crate) struct Standing {
@@ -128,8 +128,8 @@ impl Standing {
         let at = device.0 as usize;
         let group = group_of(plan, device);
         self.progress[at] = here;
-        self.sums[group].exchange(&self.demands[at], demand, &mut Steps::<Brand>::start());
-        demand.copy_into(&mut self.demands[at], &mut Steps::<Brand>::start());
+        self.sums[group].exchange(&self.demands[at], demand, &mut uncounted());
+        demand.copy_into(&mut self.demands[at], &mut uncounted());
     }
 
     /// Makes the changes of a device in a phase, and tells whether there were any. `used` is its power at the
@@ -238,7 +238,7 @@ fn blanks(alloc: Global, many: usize, steps: usize) -> Result<Vec<ArrayBid>, All
 {
     let mut bids = Vec::new(alloc);
     for _ in 0..many {
-        bids.push(ArrayBid::zero(alloc, steps, &mut Steps::<Brand>::start())?)?;
+        bids.push(ArrayBid::zero(alloc, steps, &mut uncounted())?)?;
     }
     Ok(bids)
 }

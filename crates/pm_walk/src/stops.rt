@@ -10,11 +10,10 @@ ghost use Rattle.pm_walk.specs.Clearing.{ArePowers};
 
 use crate::changes::{Progress, make_changes};
 use crate::standing::Standing;
-use pm_bid::{ArrayBid, Steps};
+use pm_bid::{ArrayBid, uncounted};
 use pm_plan::Plan;
 use pm_tree::NodeId;
 use std::alloc::{AllocError, Global};
-use std::marker::Brand;
 
 /// Makes the changes of all devices in a phase, each device's as far as the cut goes. `powers` are those at the end
 /// of the phase before.
@@ -81,7 +80,7 @@ impl Standing {
     {
         let tree = plan.tree();
         let mut standing = Standing::start(alloc, plan)?;
-        let mut spare = ArrayBid::zero(alloc, plan.basis().steps(), &mut Steps::<Brand>::start())?;
+        let mut spare = ArrayBid::zero(alloc, plan.basis().steps(), &mut uncounted())?;
         for number in 1..tree.len() + 1 {
             let device = NodeId(number);
             if tree.is_leaf(device) {

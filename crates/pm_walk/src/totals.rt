@@ -10,10 +10,9 @@ ghost use Rattle.pm_walk.specs.Parts.{total_to};
 
 use crate::standing::{Standing, group_of};
 use pm_base::Limits;
-use pm_bid::{ArrayBid, Steps};
+use pm_bid::{ArrayBid, uncounted};
 use pm_plan::Plan;
 use pm_tree::NodeId;
-use std::marker::Brand;
 
 /// Makes `out` the total: the sum of the devices below no limited concentrator, and what each limited concentrator
 /// announces.
@@ -27,7 +26,7 @@ pub(crate) fn fill_total(plan: &Plan, standing: &Standing, spare: &mut ArrayBid,
 {
     standing
         .sum(plan, NodeId(0))
-        .copy_into(out, &mut Steps::<Brand>::start());
+        .copy_into(out, &mut uncounted());
     for number in 1..plan.tree().len() + 1 {
         add_group(plan, standing, NodeId(number), spare, out);
     }
@@ -47,7 +46,7 @@ fn add_group(plan: &Plan, standing: &Standing, at: NodeId, spare: &mut ArrayBid,
 {
     if let Some(limits) = limits_of(plan, at) {
         announce(plan, standing, at, limits, spare);
-        out.add_into(spare, &mut Steps::<Brand>::start());
+        out.add_into(spare, &mut uncounted());
     }
 }
 
@@ -70,12 +69,9 @@ fn announce(plan: &Plan, standing: &Standing, at: NodeId, limits: Limits, out: &
         (cut_made standing.now.progress) at.0 }
     ensures steps { length out.new ≡ plan.now.basis.steps }
 {
-    standing.sum(plan, at).clamp_into(
-        limits.floor,
-        limits.ceiling,
-        out,
-        &mut Steps::<Brand>::start(),
-    );
+    standing
+        .sum(plan, at)
+        .clamp_into(limits.floor, limits.ceiling, out, &mut uncounted());
 }
 
 /// The step of the nodes below a limited concentrator, by `step`, the step of the whole; of any other node `step`.
@@ -90,7 +86,7 @@ pub(crate) fn group_step(plan: &Plan, standing: &Standing, step: usize, group: N
     match limits_of(plan, group) {
         Some(limits) => standing
             .sum(plan, group)
-            .step_within(&limits, step, &mut Steps::<Brand>::start()),
+            .step_within(&limits, step, &mut uncounted()),
         None => step,
     }
 }
@@ -105,5 +101,5 @@ pub(crate) fn power_of(plan: &Plan, standing: &Standing, group_steps: &[u32], at
     let step = group_steps[group_of(plan, at)];
     standing
         .demand(plan, at)
-        .at(step as usize, &mut Steps::<Brand>::start())
+        .at(step as usize, &mut uncounted())
 }

@@ -15,9 +15,8 @@ use crate::number_fields::{read_i32, read_u16, read_u32};
 use crate::stream_frame::StreamFrame;
 use pm_base::{DEMAND_LIMIT, MOST_NODES};
 use pm_basis::Basis;
-use pm_bid::{ArrayBid, Steps};
+use pm_bid::{ArrayBid, uncounted};
 use std::alloc::{AllocError, Global};
-use std::marker::Brand;
 
 /// How many bytes a frame of this kind has, if it may stand at this place: before Hello, or behind it.
 fn size_at(steps: Option<usize>, kind: u8) -> Option<usize>
@@ -79,7 +78,7 @@ fn fill(bid: &mut ArrayBid, bytes: &[u8]) -> bool
     ensures steps { length bid.new ≡ length bid.old }
     ensures bid { IsTrue result ↔ (checked_bid (length bid.new) bid.new ≡ Ok bid.new) }
 {
-    let mut counter = Steps::<Brand>::start();
+    let mut counter = uncounted();
     let mut rest = bytes;
     let mut before = DEMAND_LIMIT;
     let mut falls = true;
@@ -101,7 +100,7 @@ fn read_bid(alloc: Global, steps: usize, body: &[u8]) -> Result<Option<Frame>, A
 {
     let (child, rest) = read_u16(body);
     let (number, rest) = read_u32(rest);
-    let mut demand = ArrayBid::zero(alloc, steps, &mut Steps::<Brand>::start())?;
+    let mut demand = ArrayBid::zero(alloc, steps, &mut uncounted())?;
     if !fill(&mut demand, rest) {
         return Ok(None);
     }

@@ -8,11 +8,10 @@ ghost use Rattle.pm_cache.specs.Learning.{HasSingleBids};
 use crate::same::same;
 use crate::shared::may_be_shared;
 use pm_auctioneer::{Auctioneer, ClearFault, Cleared};
-use pm_bid::{ArrayBid, Steps};
+use pm_bid::{ArrayBid, uncounted};
 use pm_cache::CacheFault;
 use pm_session::{Link, PriceUpdate};
 use std::alloc::Global;
-use std::marker::Brand;
 use std::test::Fail;
 
 /// A load of 100 watts at ten steps.
@@ -21,7 +20,7 @@ fn load(alloc: Global) -> Result<ArrayBid, Fail>
     ensures small { IfOk result (λ bid. AllWithinLimit demand_limit bid) }
 {
     let demands = [100; 10].to_vec(alloc)?;
-    Ok(ArrayBid::new(demands, 10, &mut Steps::<Brand>::start())?)
+    Ok(ArrayBid::new(demands, 10, &mut uncounted())?)
 }
 
 /// Learns the only child's bid of ten steps under number 1.

@@ -8,7 +8,7 @@ ghost use Rattle.pm_cache.specs.Learning.{HasSingleBids, demand_of_offer};
 
 use crate::same::same;
 use crate::shared::may_be_shared;
-use pm_bid::{ArrayBid, BidHead, Steps};
+use pm_bid::{ArrayBid, BidHead, Steps, uncounted};
 use pm_cache::{BidCache, CacheFault};
 use std::alloc::{AllocError, Global};
 use std::marker::Brand;
@@ -21,7 +21,7 @@ fn bid_of(rt: &impl Abort, alloc: Global, demands: [i64; 2]) -> ArrayBid
     ensures small { AllWithinLimit demand_limit result }
 {
     let demands = demands.to_vec(alloc).expect(rt, "memory");
-    ArrayBid::new(demands, 2, &mut Steps::<Brand>::start()).expect(rt, "a bid")
+    ArrayBid::new(demands, 2, &mut uncounted()).expect(rt, "a bid")
 }
 
 /// Hands a child's bid to the cache, or removes the child if there is no bid.
@@ -39,7 +39,7 @@ fn learn(
     ensures children { length cache.new.heads ≡ length cache.old.heads }
     ensures single { HasSingleBids cache.new }
 {
-    let mut counter = Steps::<Brand>::start();
+    let mut counter = uncounted();
     // The call tells a fact of the type: the sum is that of the bids kept.
     let _heads = cache.heads();
     cache.learn(child, number, bid, &mut counter)
@@ -52,8 +52,8 @@ fn steps_of_a_newer_bid(alloc: Global, bid: &ArrayBid) -> Result<Steps<Brand>, A
     requires within { AllWithinLimit sum_limit bid.now }
     ensures cost { IfOk result (λ steps. steps ≤ 3000) }
 {
-    let mut cache = BidCache::new(alloc, 256, 1000, &mut Steps::<Brand>::start())?;
-    let mut counter = Steps::<Brand>::start();
+    let mut cache = BidCache::new(alloc, 256, 1000, &mut uncounted())?;
+    let mut counter = uncounted();
     let _ = cache.replace(0, 1, bid, &mut counter);
     Ok(counter)
 }
@@ -80,7 +80,7 @@ fn learns(
         None => learn(cache, child, number, None),
     };
     same(rt, (child, number), answer, wanted.0);
-    let mut counter = Steps::<Brand>::start();
+    let mut counter = uncounted();
     let aggregate = cache.aggregate();
     let sum = [aggregate.at(0, &mut counter), aggregate.at(1, &mut counter)];
     same(rt, (child, number), sum, wanted.1);
@@ -98,14 +98,14 @@ fn bids_are_learnt(rt: &impl Abort, alloc: Global, cache: &mut BidCache)
     learns(rt, alloc, cache, 0, 1, Some([9, 9]), (old(1), [7, -1]));
     learns(rt, alloc, cache, 0, 2, None, (Ok(()), [2, -4]));
     learns(rt, alloc, cache, 0, 2, None, (old(2), [2, -4]));
-    let mut counter = Steps::<Brand>::start();
+    let mut counter = uncounted();
     same(rt, "demand", cache.demand(1, 1, &mut counter), -4);
 }
 
 #[test]
 fn the_aggregate_follows_the_newest_bids(rt: HostRuntime) -> Result<(), Fail> {
     let alloc = rt.alloc();
-    let mut cache = BidCache::new(alloc, 2, 2, &mut Steps::<Brand>::start())?;
+    let mut cache = BidCache::new(alloc, 2, 2, &mut uncounted())?;
     bids_are_learnt(&rt, alloc, &mut cache);
     let heads = [
         BidHead {
@@ -124,7 +124,7 @@ fn the_aggregate_follows_the_newest_bids(rt: HostRuntime) -> Result<(), Fail> {
 #[test]
 fn a_newer_bid_of_a_thousand_steps_is_counted(rt: HostRuntime) -> Result<(), Fail> {
     let alloc = rt.alloc();
-    let widest = ArrayBid::zero(alloc, 1000, &mut Steps::<Brand>::start())?;
+    let widest = ArrayBid::zero(alloc, 1000, &mut uncounted())?;
     let _steps = steps_of_a_newer_bid(alloc, &widest)?;
     Ok(())
 }

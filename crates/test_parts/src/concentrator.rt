@@ -9,12 +9,11 @@ ghost use Rattle.pm_concentrator.specs.Limited.{IsStepOf};
 
 use crate::same::same;
 use crate::shared::may_be_shared;
-use pm_bid::{ArrayBid, Steps};
+use pm_bid::{ArrayBid, uncounted};
 use pm_cache::CacheFault;
 use pm_concentrator::{Concentrator, PublishFault};
 use pm_session::{Link, PriceUpdate};
 use std::alloc::Global;
-use std::marker::Brand;
 use std::process::Abort;
 use std::test::Fail;
 
@@ -25,7 +24,7 @@ fn bid_of(alloc: Global, demands: &[i64]) -> Result<ArrayBid, Fail>
     ensures small { IfOk result (λ bid. AllWithinLimit demand_limit bid) }
 {
     let demands = demands.to_vec(alloc)?;
-    Ok(ArrayBid::new(demands, 10, &mut Steps::<Brand>::start())?)
+    Ok(ArrayBid::new(demands, 10, &mut uncounted())?)
 }
 
 /// Learns a child's bid of ten steps.
@@ -244,7 +243,7 @@ fn demands_of(bid: &ArrayBid) -> [i64; 10]
 {
     let mut demands = [0; 10];
     for step in 0..10 {
-        demands[step] = bid.at(step, &mut Steps::<Brand>::start());
+        demands[step] = bid.at(step, &mut uncounted());
     }
     demands
 }
@@ -267,7 +266,7 @@ fn bid_on_link(alloc: Global, c: &mut Concentrator) -> Result<FirstBid, Fail>
     ensures cache { c.new.cache ≡ c.old.cache }
     ensures limits { c.new.limits ≡ c.old.limits }
 {
-    let mut counter = Steps::<Brand>::start();
+    let mut counter = uncounted();
     let mut up = Link::new(alloc, 10)?;
     let number = c.publish(&mut up);
     let mut demand = ArrayBid::zero(alloc, 10, &mut counter)?;

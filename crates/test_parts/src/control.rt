@@ -4,11 +4,10 @@ ghost use Rattle.std.specs.Prelude.{◌≡◌, length, IfOk};
 
 use crate::same::same;
 use crate::shared::may_be_shared;
-use pm_bid::{ArrayBid, Steps};
+use pm_bid::{ArrayBid, uncounted};
 use pm_control::{ControlAgent, OfferFault, Setpoint};
 use pm_session::PriceUpdate;
 use std::alloc::Global;
-use std::marker::Brand;
 use std::process::Abort;
 use std::test::Fail;
 
@@ -17,7 +16,7 @@ fn offer_of(alloc: Global, demands: [i64; 2]) -> Result<ArrayBid, Fail>
     ensures { IfOk result (λ bid. length bid ≡ 2) }
 {
     let demands = demands.to_vec(alloc)?;
-    Ok(ArrayBid::new(demands, 2, &mut Steps::<Brand>::start())?)
+    Ok(ArrayBid::new(demands, 2, &mut uncounted())?)
 }
 
 /// Makes an offer of these demands, with this answer.

@@ -7,12 +7,11 @@ ghost use Rattle.pm_bid.specs.Bids.{AllWithinLimit};
 use crate::same::same;
 use crate::shared::may_be_shared;
 use pm_base::{Limits, MOST_NODES};
-use pm_bid::{ArrayBid, Steps};
+use pm_bid::{ArrayBid, uncounted};
 use pm_cache::CacheFault;
 use pm_relay::{PriceOutcome, Relay, Resume, SendFault};
 use pm_session::PriceUpdate;
 use std::alloc::Global;
-use std::marker::Brand;
 use std::process::Abort;
 use std::test::Fail;
 
@@ -22,7 +21,7 @@ fn bid_of(alloc: Global, demands: [i64; 2]) -> Result<ArrayBid, Fail>
     ensures small { IfOk result (λ bid. AllWithinLimit demand_limit bid) }
 {
     let demands = demands.to_vec(alloc)?;
-    Ok(ArrayBid::new(demands, 2, &mut Steps::<Brand>::start())?)
+    Ok(ArrayBid::new(demands, 2, &mut uncounted())?)
 }
 
 /// Learns a child's bid of these demands.
@@ -53,7 +52,7 @@ fn demands_of(relay: &Relay) -> [i64; 2]
     requires { relay.now.gathered.cache.steps ≡ 2 }
 {
     let demand = relay.demand();
-    let mut counter = Steps::<Brand>::start();
+    let mut counter = uncounted();
     [demand.at(0, &mut counter), demand.at(1, &mut counter)]
 }
 

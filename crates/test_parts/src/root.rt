@@ -8,11 +8,10 @@ use crate::same::same;
 use crate::shared::may_be_shared;
 use pm_auctioneer::Cleared;
 use pm_base::MOST_NODES;
-use pm_bid::{ArrayBid, Steps};
+use pm_bid::{ArrayBid, uncounted};
 use pm_relay::{Root, RootFault};
 use pm_session::PriceUpdate;
 use std::alloc::Global;
-use std::marker::Brand;
 use std::process::Abort;
 use std::test::Fail;
 
@@ -22,7 +21,7 @@ fn bid_of(alloc: Global, demands: [i64; 2]) -> Result<ArrayBid, Fail>
     ensures small { IfOk result (λ bid. AllWithinLimit demand_limit bid) }
 {
     let demands = demands.to_vec(alloc)?;
-    Ok(ArrayBid::new(demands, 2, &mut Steps::<Brand>::start())?)
+    Ok(ArrayBid::new(demands, 2, &mut uncounted())?)
 }
 
 /// Learns a child's bid of these demands.

@@ -5,10 +5,9 @@ ghost use Rattle.pm_session.specs.Windows.{Keeps};
 
 use crate::same::same;
 use crate::shared::may_be_shared;
-use pm_bid::{ArrayBid, Steps};
+use pm_bid::{ArrayBid, uncounted};
 use pm_session::{BidHead, Held, Link, Port, PriceUpdate, Prices, Record, Window};
 use std::alloc::Global;
-use std::marker::Brand;
 use std::process::Abort;
 use std::test::Fail;
 
@@ -17,7 +16,7 @@ fn load(alloc: Global) -> Result<ArrayBid, Fail>
     ensures { IfOk result (λ bid. length bid ≡ 10) }
 {
     let demands = vec![in alloc; 100; 10]?;
-    Ok(ArrayBid::new(demands, 10, &mut Steps::<Brand>::start())?)
+    Ok(ArrayBid::new(demands, 10, &mut uncounted())?)
 }
 
 #[test]
@@ -40,7 +39,7 @@ fn the_newest_bid_is_given_alone(rt: HostRuntime) -> Result<(), Fail> {
     let alloc = rt.alloc();
     let load = load(alloc)?;
     let mut link = Link::new(alloc, 10)?;
-    let mut taken = ArrayBid::zero(alloc, 10, &mut Steps::<Brand>::start())?;
+    let mut taken = ArrayBid::zero(alloc, 10, &mut uncounted())?;
     same(&rt, "load", link.offer_bid(1, Some(&load)), Ok(()));
     same(&rt, "gone", link.offer_bid(2, None), Ok(()));
     let gone = BidHead {
@@ -57,11 +56,11 @@ fn the_newest_bid_is_given_alone(rt: HostRuntime) -> Result<(), Fail> {
 fn a_bid_is_given_in_exchange(rt: HostRuntime) -> Result<(), Fail> {
     let alloc = rt.alloc();
     let mut bid = load(alloc)?;
-    let mut newer = ArrayBid::zero(alloc, 10, &mut Steps::<Brand>::start())?;
+    let mut newer = ArrayBid::zero(alloc, 10, &mut uncounted())?;
     let mut link = Link::new(alloc, 10)?;
     link.exchange_bid(1, &mut bid);
     link.exchange_bid(2, &mut newer);
-    let mut counter = Steps::<Brand>::start();
+    let mut counter = uncounted();
     same(&rt, "older", newer.at(9, &mut counter), 100);
     let newest = BidHead {
         number: 2,

@@ -1,7 +1,7 @@
 //! What a device's thread does on the board if its change is refused.
 
 use crate::runs::REJOINS;
-use pm_bid::{ArrayBid, Steps};
+use pm_bid::{ArrayBid, uncounted};
 use pm_board::Board;
 use pm_device::Next;
 use pm_nodes::make_bid;
@@ -9,7 +9,6 @@ use pm_plan::Plan;
 use pm_scene::read_scene;
 use pm_turns::{Posted, next_of, post_made};
 use std::alloc::{AllocError, Global};
-use std::marker::Brand;
 use std::test::Fail;
 
 /// The device that joins, leaves and joins again in the second phase.
@@ -77,7 +76,7 @@ fn post(
     next: Next,
 ) -> Result<Option<Posted>, AllocError> {
     let steps = board.plan().basis().steps();
-    let bid = ArrayBid::zero(alloc, steps, &mut Steps::<Brand>::start())?;
+    let bid = ArrayBid::zero(alloc, steps, &mut uncounted())?;
     let Ok(made) = make_bid(plan, next, bid) else {
         return Ok(None);
     };

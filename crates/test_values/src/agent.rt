@@ -6,10 +6,9 @@ ghost use Rattle.pm_bid.specs.Bids.{HaveSteps};
 use crate::same::same;
 use crate::shared::may_be_shared;
 use pm_agent::{DeviceAgent, Made};
-use pm_bid::{ArrayBid, Steps};
+use pm_bid::{ArrayBid, uncounted};
 use pm_device::{DeviceState, Kind, Next};
 use std::alloc::Global;
-use std::marker::Brand;
 use std::process::Abort;
 use std::test::Fail;
 
@@ -35,7 +34,7 @@ fn answer_is<R: Abort>(
 }
 
 fn demand_is<R: Abort>(rt: &R, next: Next, bid: &ArrayBid, demands: (i64, i64), end: usize) {
-    let mut counter = Steps::<Brand>::start();
+    let mut counter = uncounted();
     for step in 0..bid.steps() {
         let want = if step < end { demands.0 } else { demands.1 };
         same(rt, (next, step), bid.at(step, &mut counter), want);
@@ -82,7 +81,7 @@ fn a_freezer_answers_with_its_bid(rt: HostRuntime) -> Result<(), Fail> {
 fn seven_first(alloc: Global) -> Result<ArrayBid, Fail>
     ensures { IfOk result (λ array. length array ≡ 3) }
 {
-    let mut counter = Steps::<Brand>::start();
+    let mut counter = uncounted();
     let mut array = ArrayBid::zero(alloc, 3, &mut counter)?;
     array.set(0, 7, &mut counter);
     Ok(array)

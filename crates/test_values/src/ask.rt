@@ -9,9 +9,8 @@ use pm_ask::{
     Answer, Break, Curve, CurveFault, MOST_TARGETS, TargetsFault, ask_text, read_targets,
 };
 use pm_basis::Basis;
-use pm_bid::{ArrayBid, Steps};
+use pm_bid::{ArrayBid, uncounted};
 use std::alloc::{AllocError, Global};
-use std::marker::Brand;
 use std::process::Abort;
 use std::test::Fail;
 
@@ -23,7 +22,7 @@ fn total_of(alloc: Global, demands: &[i32]) -> Result<ArrayBid, AllocError>
     requires { AreSteps (length demands.now) }
     ensures { IfOk result (λ total. length total ≡ length demands.now) }
 {
-    let mut counter = Steps::<Brand>::start();
+    let mut counter = uncounted();
     let mut total = ArrayBid::zero(alloc, demands.len(), &mut counter)?;
     for (step, demand) in demands.iter().enumerate() {
         total.set(step, i64::from(*demand), &mut counter);
@@ -53,7 +52,7 @@ fn breaks_are(rt: &impl Abort, alloc: Global, demands: &[i32], breaks: &[Break])
 const ANSWERS: &[(i16, u32, i64)] = &[(0, 4, -50), (100, 0, 0), (-60, 9, 10), (99, 4, -149)];
 
 fn answers_are(rt: &impl Abort, curve: &Curve) {
-    let mut counter = Steps::<Brand>::start();
+    let mut counter = uncounted();
     for (target, step, total) in ANSWERS {
         let answer = curve.answer(i64::from(*target), &mut counter);
         let (step, total) = (*step, *total);

@@ -2,22 +2,21 @@
 
 use crate::same::same;
 use crate::shared::may_be_shared;
-use pm_bid::{ArrayBid, BidFault, BidHead, Steps};
+use pm_bid::{ArrayBid, BidFault, BidHead, uncounted};
 use std::alloc::Global;
-use std::marker::Brand;
 use std::test::Fail;
 
 /// The fault of these demands, if they are no bid of three steps.
 fn fault_of(alloc: Global, demands: &[i64]) -> Result<Option<BidFault>, Fail> {
     let demands = demands.to_vec(alloc)?;
-    Ok(ArrayBid::new(demands, 3, &mut Steps::<Brand>::start()).err())
+    Ok(ArrayBid::new(demands, 3, &mut uncounted()).err())
 }
 
 #[test]
 fn a_market_without_bids_has_no_power_and_clears_at_the_first_step(
     rt: HostRuntime,
 ) -> Result<(), Fail> {
-    let mut counter = Steps::<Brand>::start();
+    let mut counter = uncounted();
     let bid = ArrayBid::zero(rt.alloc(), 10, &mut counter)?;
     same(&rt, "clears", bid.first_not_positive(&mut counter), 0);
     for step in 0..bid.steps() {

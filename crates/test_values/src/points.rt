@@ -3,10 +3,9 @@
 use crate::same::same;
 use crate::shared::may_be_shared;
 use pm_basis::Basis;
-use pm_bid::{ArrayBid, Steps};
+use pm_bid::{ArrayBid, uncounted};
 use pm_points::{PointBid, PointFault};
 use std::alloc::Global;
-use std::marker::Brand;
 use std::process::Abort;
 use std::test::Fail;
 
@@ -55,7 +54,7 @@ fn array_of(alloc: Global, points: &[(i64, i64)], basis: &Basis) -> Result<Array
 /// The array has these demands, step by step.
 fn array_is(rt: &impl Abort, array: &ArrayBid, demands: &[i64]) {
     same(rt, demands, array.steps(), demands.len());
-    let mut counter = Steps::<Brand>::start();
+    let mut counter = uncounted();
     for step in 0..array.steps() {
         let due = demands.get(step).copied();
         same(rt, step, Some(array.at(step, &mut counter)), due);

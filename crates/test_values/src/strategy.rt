@@ -6,11 +6,10 @@ ghost use Rattle.pm_bid.specs.Bids.{HaveSteps};
 
 use crate::kinds::{battery, cogeneration, freezer, heat_pump};
 use crate::same::same;
-use pm_bid::{ArrayBid, Steps};
+use pm_bid::{ArrayBid, uncounted};
 use pm_device::{DeviceState, Kind};
 use pm_strategy::fill_bid;
 use std::alloc::Global;
-use std::marker::Brand;
 use std::process::Abort;
 use std::test::Fail;
 
@@ -27,7 +26,7 @@ fn bid_is<R: Abort>(
     let state = DeviceState(number);
     assert!(rt; kind.valid() && kind.fits(state));
     fill_bid(&kind, state, &[], out);
-    let mut counter = Steps::<Brand>::start();
+    let mut counter = uncounted();
     for step in 0..out.steps() {
         let want = if step < ends.0 {
             demands.0
@@ -119,14 +118,14 @@ fn rows_are<R: Abort>(rt: &R, out: &mut ArrayBid, rows: &[Row]) {
 
 #[test]
 fn bids_of_ten_steps_follow_the_table(rt: HostRuntime) -> Result<(), Fail> {
-    let mut out = ArrayBid::zero(rt.alloc(), 10, &mut Steps::<Brand>::start())?;
+    let mut out = ArrayBid::zero(rt.alloc(), 10, &mut uncounted())?;
     rows_are(&rt, &mut out, TEN);
     Ok(())
 }
 
 #[test]
 fn bids_of_a_hundred_steps_follow_the_table(rt: HostRuntime) -> Result<(), Fail> {
-    let mut out = ArrayBid::zero(rt.alloc(), 100, &mut Steps::<Brand>::start())?;
+    let mut out = ArrayBid::zero(rt.alloc(), 100, &mut uncounted())?;
     rows_are(&rt, &mut out, HUNDRED);
     Ok(())
 }
@@ -137,7 +136,7 @@ fn array_with(alloc: Global, step: usize, demand: i64) -> Result<ArrayBid, Fail>
     requires within { IsWithin sum_limit demand }
     ensures { IfOk result (λ bid. length bid ≡ 3) }
 {
-    let mut counter = Steps::<Brand>::start();
+    let mut counter = uncounted();
     let mut array = ArrayBid::zero(alloc, 3, &mut counter)?;
     array.set(step, demand, &mut counter);
     Ok(array)
@@ -151,7 +150,7 @@ fn manual_bid(out: &mut ArrayBid, number: u8, arrays: &[ArrayBid]) -> (i64, i64)
 {
     let state = DeviceState(i64::from(number));
     fill_bid(&Kind::Manual, state, arrays, out);
-    let mut counter = Steps::<Brand>::start();
+    let mut counter = uncounted();
     (out.at(0, &mut counter), out.at(2, &mut counter))
 }
 
@@ -159,7 +158,7 @@ fn manual_bid(out: &mut ArrayBid, number: u8, arrays: &[ArrayBid]) -> (i64, i64)
 fn manual_bids_are(rt: &impl Abort, alloc: Global, arrays: &[ArrayBid]) -> Result<(), Fail>
     requires { HaveSteps 3 arrays.now }
 {
-    let mut out = ArrayBid::zero(alloc, 3, &mut Steps::<Brand>::start())?;
+    let mut out = ArrayBid::zero(alloc, 3, &mut uncounted())?;
     same(rt, 1, manual_bid(&mut out, 1, arrays), (0, -5));
     same(rt, 2, manual_bid(&mut out, 2, arrays), (0, 0));
     Ok(())

@@ -12,11 +12,10 @@ use crate::draft::Draft;
 use crate::parts::StateSpec;
 use crate::refusal::{Cause, Place, PlanFault, Refusal};
 use pm_basis::Basis;
-use pm_bid::{ArrayBid, BidFault, Steps};
+use pm_bid::{ArrayBid, BidFault, uncounted};
 use pm_device::{DeviceState, Kind};
 use pm_points::{PointBid, PointFault};
 use std::alloc::Global;
-use std::marker::Brand;
 
 /// The number of the state that is written for a device of this kind. A manual device's bid joins the arrays.
 #[tactic(auto, unfolding(crate::specs::Building::state_of))]
@@ -108,7 +107,7 @@ fn bid_of_demands(
         (array_or_refuse place (checked_bid basis.now.steps demands.now)) }
 {
     let demands = demands.to_vec(alloc)?;
-    match ArrayBid::new(demands, basis.steps(), &mut Steps::<Brand>::start()) {
+    match ArrayBid::new(demands, basis.steps(), &mut uncounted()) {
         Ok(bid) => Ok(bid),
         Err(fault) => Err(PlanFault::Refused(refused_bid(place, fault))),
     }

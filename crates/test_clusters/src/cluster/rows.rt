@@ -3,12 +3,11 @@
 use super::files::{BESIDE, LONE, NINE, NINE_CHANGES, REJOINS, TWO_BIDS, TWO_LEVELS, plan_of};
 use super::hand::{End, close, ends_so, held, line_of, make, next_node, rest, step};
 use crate::same::same;
-use pm_bid::Steps;
+use pm_bid::{Steps, uncounted};
 use pm_cluster::{ApplyFault, Cluster};
 use pm_market::{Act, Journal, Line};
 use pm_plan::Plan;
 use std::alloc::Global;
-use std::marker::Brand;
 use std::process::Abort;
 use std::test::Fail;
 
@@ -57,7 +56,7 @@ fn all_hold(cluster: &Cluster, first: u32, last: u32, due: (u32, u32)) -> Result
 /// The auctioneer's price, and the first step at which its sum is not positive.
 fn standing(cluster: &Cluster) -> (i64, usize) {
     let sum = cluster.aggregate();
-    let step = sum.first_not_positive(&mut Steps::<Brand>::start());
+    let step = sum.first_not_positive(&mut uncounted());
     (cluster.price(), step)
 }
 
