@@ -5,7 +5,7 @@
 
 | Fact | Home | Made from it |
 |---|---|---|
-| limits | the constants of crates/*/src | checks/facts.py, python/cogmaula/limits.py, tables of pages and market.1 |
+| limits | the constants of crates/*/src | checks/facts.py, python/cogmaula/program_limits.py, tables of pages and market.1 |
 | kinds of node | pm_scene and pm_device; cluster.schema.json has their members and limits for checks and Python | checks/facts.py, market.1 |
 | refusals | crates/pm_plan/src/refusal.rt has the numbers, script/refusals.toml the words | script/words.sh, python/cogmaula/refusals.py, pages |
 | exit statuses | crates/pm_answer/src/status.rt has the numbers, script/statuses.toml the words | the same, market.1, python/cogmaula/live/statuses.py |
@@ -318,7 +318,7 @@ def snake(name: str) -> str:
 
 FILES: dict[str, Callable[[], str]] = {
     "checks/facts.py": facts_of_checks,
-    "python/cogmaula/limits.py": limits_of_package,
+    "python/cogmaula/program_limits.py": limits_of_package,
     "python/cogmaula/refusals.py": refusals_of_package,
     "python/cogmaula/live/statuses.py": statuses_of_package,
 }

@@ -12,7 +12,7 @@ from datetime import date
 
 from .cluster import Cluster, Source, bytes_of
 from .errors import ProgramFault
-from .frames import START
+from .data_frames import START
 from .members import whole
 from .moments import moment_of
 from .program import Program, chosen

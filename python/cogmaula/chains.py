@@ -13,8 +13,8 @@ from .calls import bill, cluster_in, run
 from .cluster import Cluster, Source
 from .continuing import NoContinuation, resumed
 from .errors import Place, Refused
-from .frames import START
-from .limits import MOST_BYTES, MOST_CHANGES
+from .data_frames import START
+from .program_limits import MOST_BYTES, MOST_CHANGES
 from .moments import later, moment_of
 from .phases import Events, Join, Leave, Phase, State, Tick
 from .program import Program, chosen

@@ -69,7 +69,7 @@ class Cluster:
     @staticmethod
     def from_json(text: str | bytes) -> Cluster:
         """The cluster of a text. Raises Unreadable if it has another shape: the program refuses each such text."""
-        from .reader import cluster_of
+        from .cluster_reader import cluster_of
 
         return cluster_of(text)
 

@@ -10,7 +10,7 @@ from functools import cached_property
 from pathlib import Path
 from typing import TYPE_CHECKING, Any
 
-from . import frames
+from . import data_frames
 from .cluster import Cluster
 from .errors import NoPackage
 from .moments import later
@@ -60,7 +60,7 @@ class Run:
         self._text = None if isinstance(text, Report) else text
         self.ends: tuple[PhaseEnd, ...] = report.ends
         self.changes = report.changes
-        self.start = start or frames.START
+        self.start = start or data_frames.START
         self._program = program
         self._bill = bill
 
@@ -98,7 +98,7 @@ class Run:
 
     @cached_property
     def _index(self) -> MultiIndex:
-        return frames.index_of(self.times, self.ends)
+        return data_frames.index_of(self.times, self.ends)
 
     @cached_property
     def prices(self) -> DataFrame:
@@ -110,12 +110,12 @@ class Run:
         members: how many devices are members
         minutes: how long these hold: the minutes of the tick that follows, 0 if none does
         """
-        return frames.prices(self._index, self.ends, self.durations)
+        return data_frames.prices(self._index, self.ends, self.durations)
 
     @cached_property
     def held(self) -> Held:
         """What holds over each tick, as arrays: powers, members and prices. It needs numpy, which comes with pandas."""
-        frames.arrays()
+        data_frames.arrays()
         from .held import held_of
 
         return held_of(self.cluster, self.ends)
@@ -128,7 +128,7 @@ class Run:
         a row is as long as their greatest common divisor.
         """
         held = self.held
-        return frames.series(self.start, held.names, held.powers, held.members, held.minutes.tolist())
+        return data_frames.series(self.start, held.names, held.powers, held.members, held.minutes.tolist())
 
     @cached_property
     def powers(self) -> DataFrame:
@@ -137,12 +137,12 @@ class Run:
         Phases that last no time have rows too. Drop them before you add up or take means: `powers[prices["minutes"] > 0]`, or take
         `series`, which has none.
         """
-        return frames.wide(self._index, [device.name for device in self.cluster.devices], [end.powers for end in self.ends])
+        return data_frames.wide(self._index, [device.name for device in self.cluster.devices], [end.powers for end in self.ends])
 
     @cached_property
     def bids(self) -> DataFrame:
         """The number of each device's bid, which is that of its last change: shaped as `powers`."""
-        return frames.wide(self._index, [device.name for device in self.cluster.devices], [end.bids for end in self.ends])
+        return data_frames.wide(self._index, [device.name for device in self.cluster.devices], [end.bids for end in self.ends])
 
     @cached_property
     def states(self) -> DataFrame:
@@ -151,7 +151,7 @@ class Run:
         Of a battery it is the charge in watt-hours, of a freezer, heat pump or cogeneration unit the temperature in the unit of
         the file, of a solar panel, a load and an objective the watts. By the report and the rules of ticks.
         """
-        return frames.states(self._index, self.cluster, self.ends)
+        return data_frames.states(self._index, self.cluster, self.ends)
 
     @cached_property
     def limited_groups(self) -> DataFrame:
@@ -163,7 +163,7 @@ class Run:
         excess_W:           0 within the limits, else how far the sum is above the ceiling, or below the floor (negative)
         minutes:            how long these hold: the minutes of the tick that follows, 0 if none does
         """
-        return frames.limited_groups(self.times, self.cluster, self.ends, self.durations)
+        return data_frames.limited_groups(self.times, self.cluster, self.ends, self.durations)
 
     @cached_property
     def violations(self) -> DataFrame:
@@ -185,7 +185,7 @@ class Run:
         `party` is device or grid, so that a device called grid is another row. `amount` is in price units times watts times
         minutes, in whole numbers of any size: 60,000 are a price unit times a kilowatt-hour.
         """
-        return frames.accounts(self.bill)
+        return data_frames.accounts(self.bill)
 
     @cached_property
     def snapshot(self) -> Snapshot:
@@ -201,8 +201,8 @@ class Run:
 
         Raises ValueError if only one of the last two is given, NoConnection if the connection is none, and NoPackage without numpy.
         """
-        frames.arrays()
-        from .figures.finding import figures_of
+        data_frames.arrays()
+        from .figures.run_figures import figures_of
 
         return figures_of(self, connection, currency_of(currency, per_kwh))
 
@@ -258,12 +258,12 @@ class Run:
         """
         from importlib.util import find_spec
 
-        pd = frames.pandas()
+        pd = data_frames.pandas()
         if find_spec("tables") is None:
             raise NoPackage("HDF5 needs PyTables: on Debian, apt-get install python3-tables")
         with pd.HDFStore(os.fspath(path), mode="w") as store:
             for name, frame in self.tables().items():
-                store.put(name, frames.simple(frame))
+                store.put(name, data_frames.simple(frame))
         return Path(path)
 
     def dataset(self, households: Mapping[str, Sequence[str]] | None = None) -> Any:
@@ -337,7 +337,7 @@ def _parquet_engine() -> str:
     """The engine with which pandas can write Parquet. Raises NoPackage."""
     from importlib.util import find_spec
 
-    frames.pandas()
+    data_frames.pandas()
     for name in ("pyarrow", "fastparquet"):
         if find_spec(name) is not None:
             return name

@@ -11,7 +11,7 @@ from collections.abc import Iterable, Iterator, Mapping
 from dataclasses import dataclass
 
 from .cluster import Cluster
-from .limits import MOST_TEMPERATURE
+from .program_limits import MOST_TEMPERATURE
 from .members import Demand, Points
 from .nodes import Battery, Cogeneration, Freezer, HeatPump, Manual, Node
 from .phases import Events, Join, Phase, State

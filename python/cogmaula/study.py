@@ -12,7 +12,7 @@ from dataclasses import dataclass, fields, is_dataclass
 from pathlib import Path
 from typing import TYPE_CHECKING, Any, Generic, Literal, TypeVar
 
-from . import frames
+from . import data_frames
 from .cluster import Cluster, Source, bytes_of
 from .figures import Figures
 from .money import Rate
@@ -256,7 +256,7 @@ def frame_of(outcomes: Iterable[Outcome[Any]]) -> DataFrame:
         }
         for outcome in outcomes
     ]
-    return frames.pandas().DataFrame(rows, columns=None if rows else ["name", "sha256", "fault"]).set_index("name")
+    return data_frames.pandas().DataFrame(rows, columns=None if rows else ["name", "sha256", "fault"]).set_index("name")
 
 
 def _members(result: Any) -> dict[str, Any]:

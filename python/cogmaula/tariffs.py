@@ -10,7 +10,7 @@ from dataclasses import dataclass
 from datetime import datetime, time
 from typing import TYPE_CHECKING
 
-from .frames import pandas
+from .data_frames import pandas
 
 if TYPE_CHECKING:
     from pandas import DataFrame, DatetimeIndex, Index, Series

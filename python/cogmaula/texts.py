@@ -96,7 +96,7 @@ class Bill:
 
         Raises ValueError if per_kwh is not above 0, and NoPackage without pandas.
         """
-        from .frames import money_accounts
+        from .data_frames import money_accounts
 
         return money_accounts(self, currency_of(currency, per_kwh), number)
 
@@ -106,7 +106,7 @@ class Bill:
 
     def _repr_html_(self) -> str:
         """The accounts as a table of a notebook, in price units times kilowatt-hours. It needs pandas."""
-        from .frames import money_accounts
+        from .data_frames import money_accounts
 
         caption = f"<p>{self.ticks} ticks, {self.minutes} minutes. Amounts in price units \u00d7 kWh, above 0 if the account pays.</p>"
         return caption + str(money_accounts(self, Currency(), float).to_html(max_rows=60))

@@ -13,7 +13,7 @@ from hypothesis import strategies as st
 from cogmaula import Basis, Battery, Cluster, Events, Join, Leave, Load, Manual, NoContinuation
 from cogmaula import Refused, State, Tick, TooLong, chain, continued, parts_of, resumed, run, run_parts, whole_of
 from cogmaula.continuing import script_for
-from cogmaula.limits import MOST_BYTES
+from cogmaula.program_limits import MOST_BYTES
 
 pytestmark = pytest.mark.usefixtures("program")
 MANY = settings(max_examples=300)

@@ -16,7 +16,7 @@ from cogmaula import Cluster, Events, Join, Load, Program, Solar, State, Tick, U
 from cogmaula.data import RecipeFault, TableFault, from_csv, read_recipe, read_table
 from cogmaula.data.recipe import Table
 from cogmaula.report import groups_of
-from cogmaula.report.times import intervals_of
+from cogmaula.report.intervals import intervals_of
 from cogmaula.states import snapshots
 
 TOP = Path(__file__).resolve().parents[2]

@@ -15,7 +15,7 @@ from cogmaula.states import snapshots
 
 pytest.importorskip("matplotlib")
 from cogmaula.drawing import draw_answers, draw_bill, draw_clearing, draw_run, save
-from cogmaula.drawing.bids import sum_of_bids
+from cogmaula.drawing.asked_bids import sum_of_bids
 from cogmaula.report import flexibility_of
 
 TOP = Path(__file__).resolve().parents[2]

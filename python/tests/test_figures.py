@@ -32,7 +32,7 @@ from cogmaula import (
     vary,
 )
 from cogmaula.figures import NoConnection, Peak
-from cogmaula.figures.plain import plain_powers
+from cogmaula.figures.plain_rules import plain_powers
 
 pytest.importorskip("pandas")
 

@@ -13,7 +13,7 @@ from conftest import CASES, EXAMPLES
 from hypothesis import given, settings
 
 from cogmaula import Basis, Cluster, Events, Join, Limited, Load, NoPackage, Run, Tick, ask, bill, run
-from cogmaula import frames
+from cogmaula import data_frames
 
 pd = pytest.importorskip("pandas")
 pytestmark = pytest.mark.usefixtures("program")
@@ -135,7 +135,7 @@ def test_amounts_past_64_bits():
 
 def test_curve_and_targets():
     told = ask(EXAMPLES / "balance.json", [0, -250])
-    curve, targets = frames.curve(told), frames.targets(told)
+    curve, targets = data_frames.curve(told), data_frames.targets(told)
     assert list(curve.columns) == ["step", "price", "from_W", "to_W"]
     assert curve["to_W"].isna().tolist() == [True] + [False] * 5
     assert targets.to_dict("list") == {"target_W": [0, -250], "price": [2, 5], "step": [2, 5], "total_W": [0, -50]}

@@ -24,9 +24,9 @@ from cogmaula.continuing import continued
 from cogmaula.report import Currency, bills_of, flexibility_of, frame_of, groups_of
 from cogmaula.report.bills import add_up, sum_of
 from cogmaula.report.flexibility import MOST_TARGET
-from cogmaula.report.limits import Violation
-from cogmaula.report.making import span_for
-from cogmaula.report.times import intervals_of, spans_of
+from cogmaula.report.kept_limits import Violation
+from cogmaula.report.cluster_report import span_for
+from cogmaula.report.intervals import intervals_of, spans_of
 from cogmaula.study import summary
 
 TOP = Path(__file__).resolve().parents[2]
@@ -36,9 +36,9 @@ from checks.oracle.accounts import bill_of as oracle_bill
 numpy = pytest.importorskip("numpy")
 pytest.importorskip("matplotlib")
 from cogmaula.report import report
-from cogmaula.report.course import Course
+from cogmaula.report.long_course import Course
 from cogmaula.report.grouping import rows_of
-from cogmaula.report.page import STYLE
+from cogmaula.report.markup import STYLE
 from cogmaula.report.svg import inline
 from cogmaula.report.charts import number, watts
 from cogmaula.report.words import duration

@@ -9,7 +9,7 @@ import pytest
 
 from cogmaula import Basis, Cluster, Events, Join, Load, Program, Tick, cli
 from cogmaula.data.faults import RecipeFault
-from cogmaula.data.supply import read_supply
+from cogmaula.data.supplier_connection import read_supply
 
 pandas = pytest.importorskip("pandas")
 pytest.importorskip("matplotlib")

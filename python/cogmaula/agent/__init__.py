@@ -9,6 +9,6 @@ docs/DEVICES.md says how to write the settings.
 
 from .guard import Guard, Limits
 from .running import Agent
-from .settings import AgentSettings, agent_settings_of, read_agent_toml
+from .agent_settings import AgentSettings, agent_settings_of, read_agent_toml
 
 __all__ = ["Agent", "AgentSettings", "Guard", "Limits", "agent_settings_of", "read_agent_toml"]

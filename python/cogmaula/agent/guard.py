@@ -7,7 +7,7 @@ from __future__ import annotations
 
 from dataclasses import dataclass
 
-from ..live.errors import BadSettings
+from ..live.node_errors import BadSettings
 from ..live.frames import AnyOffer, Offer, Points, Stated
 from ..logs import NodeLog
 

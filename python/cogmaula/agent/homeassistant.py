@@ -12,7 +12,7 @@ from collections.abc import Callable, Mapping
 from dataclasses import dataclass
 from typing import Any
 
-from ..live.errors import BadSettings
+from ..live.node_errors import BadSettings
 from ..live.frames import AnyOffer, Offer, Points, Stated
 from ..version import __version__
 from .mqtt import BrokerPlace, Client

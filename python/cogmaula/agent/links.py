@@ -17,7 +17,7 @@ from pathlib import Path
 from typing import Any, Protocol
 
 from ..cluster import Basis
-from ..live.errors import BadMessage
+from ..live.node_errors import BadMessage
 from ..live.frames import AnyOffer, Leave, Offer, Points, Stated
 from ..live.messages import StateMessage, members_of, object_of
 from ..live.sessions import time_of

@@ -8,8 +8,8 @@ from dataclasses import dataclass
 from typing import Any
 
 from ..errors import NoPackage
-from ..live.errors import BadSettings
-from .values import NoReading, NotWritten, Place
+from ..live.node_errors import BadSettings
+from .device_values import NoReading, NotWritten, Place
 
 # The formats of the types of values, most significant byte first.
 TYPES = {"u16": "H", "i16": "h", "u32": "I", "i32": "i", "f32": "f", "u64": "Q", "i64": "q", "f64": "d"}

@@ -12,8 +12,8 @@ from pathlib import Path
 from typing import Any
 
 from ..errors import NoPackage
-from ..live.errors import BadSettings
-from .values import NoReading, NotWritten, Place, number_in, require_pointer, text_with
+from ..live.node_errors import BadSettings
+from .device_values import NoReading, NotWritten, Place, number_in, require_pointer, text_with
 
 # The seconds within which the broker has to confirm a message, its keepalive, and the most between tries to connect.
 CONFIRMED, KEEPALIVE, AGAIN = 5.0, 30, 2

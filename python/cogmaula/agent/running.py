@@ -16,8 +16,8 @@ from ..simulation.device import BadBid, offer_of
 from .guard import Guard
 from .homeassistant import HomeAssistant, Shown
 from .links import Setpoint, Silent, Standing, Word
-from .settings import Access, AgentSettings
-from .values import NoReading, NotWritten
+from .agent_settings import Access, AgentSettings
+from .device_values import NoReading, NotWritten
 
 # The least and the greatest seconds between looks at the clock, and between tries to write what was not written.
 LEAST_LOOK, MOST_LOOK, AGAIN = 0.02, 0.5, 1.0

@@ -5,7 +5,7 @@ from __future__ import annotations
 from datetime import datetime
 
 from ..live.frames import Stated
-from ..live.kinds import DeviceKind
+from ..live.device_kinds import DeviceKind
 from ..simulation import Bid
 
 

@@ -7,7 +7,7 @@ import signal
 import sys
 
 from .. import cli, logs
-from ..live.errors import BadSettings
+from ..live.node_errors import BadSettings
 
 CALLS_PROGRAM = False
 HELP = "is the agent of a real device: reads its state, bids by a model, and writes the power that the market tells"

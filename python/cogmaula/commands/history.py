@@ -12,9 +12,9 @@ from datetime import datetime, timedelta
 from .. import cli, logs
 from ..history import Database, Keeper, open_database
 from ..history.days import span_of
-from ..live.errors import BadSettings
+from ..live.node_errors import BadSettings
 from ..live.notifying import Notifier
-from ..live.settings import BrokerSettings, read_toml
+from ..live.node_settings import BrokerSettings, read_toml
 from ..live.toml_tables import value_of
 
 CALLS_PROGRAM = False

@@ -14,7 +14,7 @@ from typing import Any
 from .. import cli, logs
 from ..hub.hub_settings import HubSettings, hub_settings_of, read_hub_toml
 from ..hub.tokens import TokenFile, child_of, children_in, write_token
-from ..live.errors import BadSettings, NodeRefused
+from ..live.node_errors import BadSettings, NodeRefused
 from ..live.topics import require_name
 from ..program import LIVE_VARIABLE
 

@@ -10,11 +10,11 @@ from tempfile import TemporaryDirectory
 
 from .. import cli
 from ..deploy import Member, add_device, fence_settings, init_market, read_tree
-from ..live.errors import BadSettings, LiveError
+from ..live.node_errors import BadSettings, LiveError
 from ..live.fencing import fence
-from ..live.given import LimitsMessage
+from ..live.given_limits import LimitsMessage
 from ..live.operating import drop, give_limits
-from ..live.settings import BrokerSettings, read_toml
+from ..live.node_settings import BrokerSettings, read_toml
 from ..live.toml_tables import value_of
 
 CALLS_PROGRAM = False

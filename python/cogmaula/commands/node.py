@@ -9,9 +9,9 @@ import sys
 from typing import Any
 
 from .. import cli, logs
-from ..live.errors import BadSettings, NodeRefused, OtherTerms
+from ..live.node_errors import BadSettings, NodeRefused, OtherTerms
 from ..live.frames import SORTS
-from ..live.settings import PASSWORD_VARIABLE, read_toml, settings_of
+from ..live.node_settings import PASSWORD_VARIABLE, read_toml, settings_of
 from ..program import LIVE_VARIABLE
 
 CALLS_PROGRAM = False

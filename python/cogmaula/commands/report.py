@@ -10,7 +10,7 @@ from pathlib import Path
 from zoneinfo import ZoneInfo
 
 from .. import cli
-from ..data.supply import read_supply
+from ..data.supplier_connection import read_supply
 from ..money import rate_of
 from ..report import Currency, history_page, report
 
@@ -97,7 +97,7 @@ def _report_history(arguments: argparse.Namespace, currency: Currency | None) ->
     """Writes the page of a day of a history."""
     # These load what a live market needs.
     from ..history import open_database
-    from ..live.errors import BadSettings
+    from ..live.node_errors import BadSettings
 
     if given := [name for name in OF_FILE if getattr(arguments, name) is not None]:
         arguments.fail(f"--{given[0]} goes with a cluster FILE")

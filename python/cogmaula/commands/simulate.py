@@ -8,7 +8,7 @@ import sys
 
 from .. import cli, logs
 from ..cluster import Cluster, bytes_of
-from ..live.errors import BadSettings
+from ..live.node_errors import BadSettings
 from ..live.page_settings import PageSettings
 from ..program import LIVE_VARIABLE, live_command
 from .hub import allow_files

@@ -8,7 +8,7 @@ import signal
 import sys
 
 from .. import cli, logs
-from ..live.errors import BadSettings, LiveError, NodeRefused
+from ..live.node_errors import BadSettings, LiveError, NodeRefused
 
 CALLS_PROGRAM = False
 HELP = "runs many nodes of a market in one process, over one connection to an MQTT broker"

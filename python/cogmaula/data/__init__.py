@@ -2,7 +2,7 @@
 
 from .faults import RecipeFault, TableFault
 from .looks import Look
-from .making import Made, cluster_of, from_csv, made_by, made_of
+from .recipe_cluster import Made, cluster_of, from_csv, made_by, made_of
 from .recipe import Connection, PriceTable, Recipe, Table, Window, read_recipe
 from .tables import Measured, read_table
 

@@ -8,11 +8,11 @@ from pathlib import Path
 from typing import TYPE_CHECKING
 
 from ..cluster import Basis, Cluster
-from ..frames import pandas
+from ..data_frames import pandas
 from ..nodes import Node
 from ..schema import limits_of
 from .faults import TableFault
-from .making import made_of
+from .recipe_cluster import made_of
 from .recipe import Recipe, Table
 from .tables import Measured
 

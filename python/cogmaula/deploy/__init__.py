@@ -5,8 +5,8 @@
     init_market(read_tree("TREE.toml"), Path("market"))
 """
 
-from ..live.errors import BadSettings
-from .making import add_device, fence_settings, init_market
-from .tree import Login, Member, Tree, read_tree
+from ..live.node_errors import BadSettings
+from .market_files import add_device, fence_settings, init_market
+from .market_file import Login, Member, Tree, read_tree
 
 __all__ = ["BadSettings", "Login", "Member", "Tree", "add_device", "fence_settings", "init_market", "read_tree"]

@@ -6,7 +6,7 @@ import os
 from dataclasses import dataclass
 
 from .files import Places
-from .tree import Tree
+from .market_file import Tree
 
 MIB = 1_048_576
 # The broker stores what it retains after so many seconds.

@@ -7,7 +7,7 @@ import json
 from .files import STATE
 from .history_files import FILE, histories_of
 from .node_files import login_folders
-from .tree import CLIENT, SQLITE, Tree
+from .market_file import CLIENT, SQLITE, Tree
 
 FIRST = """\
 # Made by `cogmaula market`. The market in containers of one machine. Each has what /etc/market has on a machine of its own, read-only.

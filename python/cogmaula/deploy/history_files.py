@@ -6,7 +6,7 @@ from string import Template
 from urllib.parse import urlsplit
 
 from .files import ETC, Places, text_of
-from .tree import SQLITE, Login, Tree
+from .market_file import SQLITE, Login, Tree
 
 # The file of SQLite, in the folder that the unit keeps.
 FILE = "market.db"

@@ -5,11 +5,11 @@ from __future__ import annotations
 from string import Template
 from typing import Any
 
-from ..live.errors import BadSettings
-from ..live.settings import Settings, settings_of
+from ..live.node_errors import BadSettings
+from ..live.node_settings import Settings, settings_of
 from .files import ETC, Places, text_of
 from .toml_text import toml_text
-from .tree import CONTROL, PAGE, Member, Tree
+from .market_file import CONTROL, PAGE, Member, Tree
 
 MADE = "# Made by `cogmaula market`."
 # The seconds between two bids of a device that count, unless its parent has `child_pause`: a device that floods does not hold up others.

@@ -7,14 +7,14 @@ from collections.abc import Iterable
 from string import Template
 from typing import Any
 
-from ..live.errors import BadSettings
+from ..live.node_errors import BadSettings
 from ..live.site import files_of
 from ..live.site_settings import site_settings_of
 from .files import ETC, Places, text_of
 from .node_files import MADE, WATCHED, broker_table, tables_of
 from .site_plan import SitePlan
 from .toml_text import toml_text
-from .tree import Tree
+from .market_file import Tree
 
 # The memory of a site in MiB: without a node, of each node with its process of `live`, and of each page. A device takes a fifth of one.
 WITHOUT, BY_NODE, BY_PAGE = 256, 1, 256

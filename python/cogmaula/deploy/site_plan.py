@@ -6,7 +6,7 @@ from collections.abc import Collection, Mapping, Sequence
 from dataclasses import dataclass
 from typing import Any
 
-from ..live.errors import BadSettings
+from ..live.node_errors import BadSettings
 from ..live.toml_tables import table_of, value_of
 from ..live.topics import require_name
 

@@ -11,7 +11,7 @@ from ..report.flexibility import demands_after
 from ..report.svg import COLOURS, LINE, SETTINGS
 from ..runs import Run
 from ..states import snapshots
-from .bids import sum_of_bids
+from .asked_bids import sum_of_bids
 
 
 def draw_clearing(run: Run, phase: int = 1, program: Program | None = None) -> Figure:

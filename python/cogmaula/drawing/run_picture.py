@@ -19,7 +19,7 @@ from ..report.svg import COLOURS, LIMIT, LINE, SETTINGS
 from ..runs import Run
 from ..states import snapshots
 from ..texts import PhaseEnd
-from .bids import sum_of_bids
+from .asked_bids import sum_of_bids
 
 HATCHES = ["", "//", "..", "xx", "--", "oo"]
 # A picture has at most so many devices and phases: a report shows more.

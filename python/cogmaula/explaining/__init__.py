@@ -13,8 +13,8 @@ from ..cluster import Source, bytes_of
 from ..errors import Invalid, Refused, TooLong
 from ..program import Program, found_program
 from ..refusals import RULES
-from . import inputs, script, shape, tree
-from .finding import File, Finding, number, shortened
+from . import inputs, script, shape, tree_refusals
+from .findings import File, Finding, number, shortened
 from .located import NoJson, read
 
 EXPLAINERS: dict[int, Callable[[File], Finding]] = {
@@ -23,11 +23,11 @@ EXPLAINERS: dict[int, Callable[[File], Finding]] = {
     4: shape.unknown,
     5: shape.version,
     6: shape.basis,
-    7: tree.name,
-    8: tree.twice,
-    9: tree.parent,
-    10: tree.depth,
-    11: tree.count,
+    7: tree_refusals.name,
+    8: tree_refusals.twice,
+    9: tree_refusals.parent,
+    10: tree_refusals.depth,
+    11: tree_refusals.count,
     12: shape.kind,
     13: script.parameter,
     14: script.no_device,
@@ -37,7 +37,7 @@ EXPLAINERS: dict[int, Callable[[File], Finding]] = {
     18: script.points,
     19: script.state,
     20: script.too_many,
-    22: tree.limited,
+    22: tree_refusals.limited,
 }
 
 

@@ -5,8 +5,8 @@ from __future__ import annotations
 import re
 
 from ..errors import Refused
-from ..limits import MOST_BYTES, MOST_TARGET, MOST_TARGETS
-from .finding import Finding, number, shortened
+from ..program_limits import MOST_BYTES, MOST_TARGET, MOST_TARGETS
+from .findings import Finding, number, shortened
 
 HEAD = re.compile(rb"(0|[1-9][0-9]*)\n")
 

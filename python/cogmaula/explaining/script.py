@@ -3,9 +3,9 @@
 from __future__ import annotations
 
 from .. import schema
-from ..limits import MOST_CHANGES
+from ..program_limits import MOST_CHANGES
 from ..nodes import KINDS
-from .finding import File, Finding, Node, close, listed, number
+from .findings import File, Finding, Node, close, listed, number
 from .located import Member, Value
 
 FORMS = ("value", "demand", "points")

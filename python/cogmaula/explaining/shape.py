@@ -5,7 +5,7 @@ from __future__ import annotations
 from typing import Any
 
 from .. import schema
-from .finding import ONE_OF, File, Finding, close, listed, number
+from .findings import ONE_OF, File, Finding, close, listed, number
 from .located import Member, Value
 
 TYPES = {

@@ -3,6 +3,6 @@
 `figures.finding` finds them. It needs numpy, and this file does not.
 """
 
-from .values import BatteryUse, Figures, NoConnection, Peak
+from .figure_values import BatteryUse, Figures, NoConnection, Peak
 
 __all__ = ["BatteryUse", "Figures", "NoConnection", "Peak"]

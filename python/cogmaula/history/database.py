@@ -10,7 +10,7 @@ from typing import Any, Protocol
 from urllib.parse import urlsplit
 
 from ..errors import NoPackage
-from ..live.errors import BadSettings, LiveError
+from ..live.node_errors import BadSettings, LiveError
 from .rows import Row
 
 # The version of the tables.

@@ -23,9 +23,9 @@ from ..live.connection import (
     words_of_end,
     words_of_refusal,
 )
-from ..live.errors import BadMessage
+from ..live.node_errors import BadMessage
 from ..live.rights import KEPT
-from ..live.settings import BrokerSettings
+from ..live.node_settings import BrokerSettings
 from ..live.topics import Topics
 from ..logs import NodeLog
 from .database import Database, DatabaseLost

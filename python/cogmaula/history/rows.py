@@ -9,7 +9,7 @@ from typing import Any
 
 from ..live.broker_link import Message
 from ..live.children import SESSION, TIME
-from ..live.errors import BadFrame, BadMessage
+from ..live.node_errors import BadFrame, BadMessage
 from ..live.frames import BIDS, PRICES, Bid, Gone, Price, frame_of
 from ..live.messages import BasisMessage, LapseMessage, SetpointMessage, SilentMessage, StateMessage, object_of
 from ..live.price_table import PriceTable

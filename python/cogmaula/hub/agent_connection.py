@@ -9,9 +9,9 @@ from collections.abc import Callable
 from typing import Protocol
 
 from ..cluster import Basis
-from ..live.errors import BadMessage, LiveError
-from ..live.kinds import DeviceKind
-from .agent import Agent
+from ..live.node_errors import BadMessage, LiveError
+from ..live.device_kinds import DeviceKind
+from .agent_control import Agent
 from .agent_messages import LEAVE_OFFER, BidUpdate, error_line, word_of
 from .lines import Lines
 from .login_refusals import NoLogin

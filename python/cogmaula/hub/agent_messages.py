@@ -10,9 +10,9 @@ from dataclasses import dataclass
 from typing import Any
 
 from ..cluster import Basis
-from ..live.errors import BadFrame, BadMessage
+from ..live.node_errors import BadFrame, BadMessage
 from ..live.frames import Offer, Points, require_demands
-from ..live.kinds import DeviceKind
+from ..live.device_kinds import DeviceKind
 from ..live.messages import ControlMessage, SetpointMessage, members_of, object_of, require_reference, stated
 
 # The longest line or message, in bytes.

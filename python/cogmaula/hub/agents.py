@@ -5,12 +5,12 @@ from __future__ import annotations
 import asyncio
 
 from ..live.broker_link import Message
-from ..live.errors import BadMessage, BadSettings, LiveError, NodeRefused
+from ..live.node_errors import BadMessage, BadSettings, LiveError, NodeRefused
 from ..live.frames import RESUMES, AuctioneerResume, frame_of
 from ..live.node import Node
 from ..live.sessions import Session
 from ..logs import NodeLog
-from .agent import Agent
+from .agent_control import Agent
 from .agent_messages import LEAVE_OFFER, Login, quoted
 from .exchange import Exchange
 from .hub_settings import HubSettings

@@ -13,15 +13,15 @@ from collections.abc import Callable
 from typing import Any
 
 from ..live.counting import NodeFacts
-from ..live.errors import LiveError
+from ..live.node_errors import LiveError
 from ..live.messages import BasisMessage
 from ..live.node import Node
-from ..live.page import MOST_CONNECTIONS as CONNECTIONS_OF_PAGE
-from ..live.page import PATIENCE_OF_LOOP
+from ..live.market_page import MOST_CONNECTIONS as CONNECTIONS_OF_PAGE
+from ..live.market_page import PATIENCE_OF_LOOP
 from ..live.sessions import Session, now_text
 from ..logs import NodeLog
 from .admission import Admission, Guest, files_allowed
-from .agent import Agent
+from .agent_control import Agent
 from .agent_connection import Channel, Connection
 from .agent_messages import error_line, welcome
 from .agents import Agents

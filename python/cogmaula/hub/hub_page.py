@@ -7,7 +7,7 @@ from collections.abc import Callable
 from ..errors import NoPackage
 from ..live.board import Board
 from ..live.counting import NodeFacts
-from ..live.page import Page
+from ..live.market_page import Page
 from ..live.page_settings import PageSettings
 from ..logs import NodeLog
 from .exchange import Exchange

@@ -11,10 +11,10 @@ from pathlib import Path
 from typing import Any
 
 from ..cluster import Basis
-from ..live.errors import BadSettings
+from ..live.node_errors import BadSettings
 from ..live.page_settings import PageSettings
-from ..live.settings import Settings
-from ..live.times import MARGIN, VALIDITY
+from ..live.node_settings import Settings
+from ..live.market_times import MARGIN, VALIDITY
 from ..live.toml_tables import read_tables, value_of
 from ..live.topics import Topics, require_name
 from ..program import live_command

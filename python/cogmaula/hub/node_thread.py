@@ -5,7 +5,7 @@ from __future__ import annotations
 import threading
 from collections.abc import Callable
 
-from ..live.errors import LiveError
+from ..live.node_errors import LiveError
 from ..live.node import Node
 
 

@@ -12,7 +12,7 @@ from collections.abc import Mapping
 from dataclasses import dataclass
 from pathlib import Path
 
-from ..live.errors import BadMessage, BadSettings, BadStore
+from ..live.node_errors import BadMessage, BadSettings, BadStore
 from ..live.messages import object_of
 from .tokens import Entries
 

@@ -16,7 +16,7 @@ from collections.abc import Awaitable, Callable
 from http import HTTPStatus
 from typing import Any
 
-from ..live.errors import BadSettings, LiveError
+from ..live.node_errors import BadSettings, LiveError
 from ..live.websocket import NoHandshake, WebSocket, protocol_of
 from .admission import Admission, Guest
 from .agent_connection import LOGIN_SECONDS, Channel

@@ -19,7 +19,7 @@ from contextlib import contextmanager
 from dataclasses import dataclass
 from pathlib import Path
 
-from ..live.errors import BadSettings
+from ..live.node_errors import BadSettings
 from ..live.frames import CHILDREN
 from ..live.topics import require_name
 

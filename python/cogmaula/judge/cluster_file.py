@@ -8,7 +8,7 @@ from __future__ import annotations
 import re
 
 from ..cluster import Cluster
-from ..limits import MOST_DEPTH, MOST_EVENTS, MOST_NAME_BYTES, MOST_NODES
+from ..program_limits import MOST_DEPTH, MOST_EVENTS, MOST_NAME_BYTES, MOST_NODES
 from ..nodes import AUCTIONEER, Concentrator, Manual, Node
 from ..phases import Events
 from .following import Following

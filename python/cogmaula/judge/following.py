@@ -11,7 +11,7 @@ from __future__ import annotations
 import itertools
 
 from ..cluster import Basis
-from ..limits import MOST_EVENTS
+from ..program_limits import MOST_EVENTS
 from ..live.frames import (
     RESUMES,
     WRITES,

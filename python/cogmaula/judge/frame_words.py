@@ -2,7 +2,7 @@
 
 from __future__ import annotations
 
-from ..live.errors import BadFrame
+from ..live.node_errors import BadFrame
 from ..live.frames import (
     READS,
     WRITES,

@@ -17,7 +17,7 @@ from typing import Any
 
 from ..cluster import Basis
 from ..live.compressing import ENDING
-from ..live.errors import BadMessage
+from ..live.node_errors import BadMessage
 from ..live.frames import SORTS, Sort
 from ..live.recording import END, IN, OUT, START, STORED, SUFFIX
 from ..live.sessions import Session

@@ -10,7 +10,7 @@ from __future__ import annotations
 from collections import Counter
 from dataclasses import dataclass, field
 
-from ..live.errors import BadFrame, LiveError
+from ..live.node_errors import BadFrame, LiveError
 from ..live.frames import (
     READS,
     RESUMES,

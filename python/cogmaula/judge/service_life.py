@@ -7,7 +7,7 @@ import select
 import subprocess
 from collections.abc import Iterator
 
-from ..live.errors import LiveError
+from ..live.node_errors import LiveError
 from ..live.frames import WRITES, Hello, size_of
 from .reading import Start
 

@@ -4,7 +4,7 @@ from __future__ import annotations
 
 from dataclasses import dataclass, field
 
-from ..limits import MOST_DEPTH
+from ..program_limits import MOST_DEPTH
 from .reading import Recorded, Start
 
 

@@ -9,7 +9,7 @@ from __future__ import annotations
 
 from collections.abc import Mapping
 
-from ..limits import WINDOW
+from ..program_limits import WINDOW
 from .event_script import Script
 from .journal import Journal
 

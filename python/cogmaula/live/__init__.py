@@ -8,10 +8,10 @@ What is proved is the service, the program `live` (docs/RELAY.md). This package 
 """
 
 from .control import Control, StandardControl
-from .errors import BadFrame, BadMessage, BadSettings, BadStore, LiveError, NodeRefused, OtherTerms
+from .node_errors import BadFrame, BadMessage, BadSettings, BadStore, LiveError, NodeRefused, OtherTerms
 from .node import Node, make_node
 from .page_settings import PageSettings
-from .settings import BrokerSettings, ChildSettings, Settings, read_toml, settings_of
+from .node_settings import BrokerSettings, ChildSettings, Settings, read_toml, settings_of
 
 __all__ = [
     "BadFrame",

@@ -8,9 +8,9 @@ from .broker_link import Link, Publication
 from .frames import Bid
 from .publisher import Publisher
 from .sessions import now_text
-from .settings import Settings
+from .node_settings import Settings
 from .silence import Heartbeat, Silence
-from .times import Times
+from .market_times import Times
 
 
 class Beating:

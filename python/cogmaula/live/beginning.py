@@ -8,11 +8,11 @@ from dataclasses import dataclass, replace
 from ..logs import NodeLog
 from .broker_link import Message
 from .children import BIDS_OF_SUM, FORM, RELAYS, SESSION, TIME
-from .errors import BadFrame, BadMessage, NodeRefused, OtherTerms
+from .node_errors import BadFrame, BadMessage, NodeRefused, OtherTerms
 from .frames import BIDS, FIRST_FORM, RESUMES, AuctioneerResume, Bid, DeviceResume, Gone, RelayResume, Resume, ResumeGone, frame_of
 from .messages import VERSION, BasisMessage, SetpointMessage, StateMessage
 from .sessions import Session, new_session, now_text
-from .settings import Settings
+from .node_settings import Settings
 from .store import Store, Stored
 
 

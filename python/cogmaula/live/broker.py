@@ -27,7 +27,7 @@ from .connection import (
     words_of_end,
     words_of_refusal,
 )
-from .settings import BrokerSettings
+from .node_settings import BrokerSettings
 from .topics import Topics
 
 # The seconds after which a message that did not come back is told.

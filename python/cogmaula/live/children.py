@@ -10,7 +10,7 @@ from functools import cached_property
 
 from ..logs import NodeLog
 from .broker_link import Message
-from .errors import BadFrame
+from .node_errors import BadFrame
 from .frames import BIDS, Bid, Gone, frame_of
 from .messages import VERSION
 from .topics import Topics

@@ -12,7 +12,7 @@ from typing import Any
 
 from ..errors import NoPackage
 from ..logs import NodeLog
-from .settings import BrokerSettings
+from .node_settings import BrokerSettings
 
 # The pauses between tries in seconds: the first, and the longest; each is twice the one before.
 FIRST_PAUSE, LONGEST_PAUSE = 1.0, 60.0

@@ -6,9 +6,9 @@ from collections.abc import Sequence
 from dataclasses import dataclass
 
 from ..cluster import Basis
-from .errors import BadFrame
+from .node_errors import BadFrame
 from .frame import DEMANDS, MOST, PAIRS, POINTS, Frame, require_demands
-from .kinds import DeviceKind
+from .device_kinds import DeviceKind
 
 # The most points of an offer.
 MOST_POINTS = 64

@@ -12,7 +12,7 @@ from .messages import BackMessage, ControlMessage, NewSessionMessage, SetpointMe
 from .offers import Offers
 from .publisher import Publisher
 from .sessions import Session, now_text
-from .settings import Settings
+from .node_settings import Settings
 from .silence import Heartbeat, Silence
 
 

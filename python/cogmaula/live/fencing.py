@@ -12,12 +12,12 @@ from dataclasses import replace
 from datetime import datetime
 
 from .children import NODE, SORT
-from .errors import BadFrame, BadMessage, LiveError
+from .node_errors import BadFrame, BadMessage, LiveError
 from .frames import BIDS, CHILDREN, Bid, frame_of
 from .messages import BasisMessage, StateMessage
 from .node import make_node
 from .operating import Words
-from .settings import BrokerSettings, Settings
+from .node_settings import BrokerSettings, Settings
 from .silence import Heartbeat
 
 

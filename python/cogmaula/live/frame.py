@@ -10,7 +10,7 @@ from dataclasses import dataclass
 from typing import ClassVar, cast
 
 from ..cluster import Basis
-from .errors import BadFrame
+from .node_errors import BadFrame
 
 # The most children of a node, the greatest demand in watts, and the greatest number and index.
 CHILDREN, MOST, LAST_NUMBER = 256, 1_000_000_000, 4_294_967_295

@@ -14,7 +14,7 @@ from typing import Literal
 
 from ..cluster import Basis
 from .control_frames import MOST_POINTS, AnyOffer, Kind, Leave, Offer, Points, Setpoint, State, Stated, Wanted, frames_of
-from .errors import BadFrame
+from .node_errors import BadFrame
 from .frame import (
     BASIS,
     CHILDREN,

@@ -8,7 +8,7 @@ from typing import TypeVar
 
 from .broker_link import Message
 from .children import SESSION, TIME
-from .errors import BadFrame, BadMessage
+from .node_errors import BadFrame, BadMessage
 from .frames import BIDS, PRICES, Bid, Gone, Kinds, Old, Price, frame_of
 from .messages import BasisMessage, LapseMessage, SetpointMessage, SilentMessage, StateMessage, control_message_of
 from .price_table import PriceTable

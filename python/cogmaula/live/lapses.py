@@ -9,7 +9,7 @@ from __future__ import annotations
 from collections.abc import Iterable
 from dataclasses import dataclass
 
-from .times import Times
+from .market_times import Times
 
 
 @dataclass

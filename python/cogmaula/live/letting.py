@@ -8,7 +8,7 @@ from collections.abc import Iterable
 
 from .broker_link import Message
 from .children import Children, Heard
-from .errors import BadMessage, BadSettings
+from .node_errors import BadMessage, BadSettings
 from .frames import AuctioneerResume, Bound, Expire, Gone, Old, RelayResume, TooMuch
 from .keeping import Keeping
 from .lapses import Lapses
@@ -16,7 +16,7 @@ from .messages import LapseMessage, StateMessage
 from .node_parts import NodeParts
 from .pricing import Pricing
 from .sessions import now_text
-from .times import Times
+from .market_times import Times
 from .topics import require_name
 
 # The most names of nodes that are taken of one child: their states are read.

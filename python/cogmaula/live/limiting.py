@@ -2,9 +2,9 @@
 
 from __future__ import annotations
 
-from .errors import BadMessage
+from .node_errors import BadMessage
 from .frames import Limits, OutOfLimits, RelayResume
-from .given import GivenLimits
+from .given_limits import GivenLimits
 from .keeping import Keeping
 from .node_parts import NodeParts
 from .sessions import now_text

@@ -7,11 +7,11 @@ from dataclasses import dataclass, field, replace
 from typing import Any, Literal
 
 from ..cluster import Basis
-from .errors import BadFrame, BadMessage, BadSettings
+from .node_errors import BadFrame, BadMessage, BadSettings
 from .frames import CHILDREN, SORTS, Leave, Offer, Points, Setpoint, Sort, Stated, Wanted
-from .kinds import DeviceKind
+from .device_kinds import DeviceKind
 from .sessions import Session, time_of
-from .times import Times
+from .market_times import Times
 
 # The form of all messages and frames. Nodes of another version do not take part.
 VERSION = 3

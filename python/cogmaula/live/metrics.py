@@ -7,7 +7,7 @@ from typing import Any
 
 from ..errors import NoPackage
 from .counting import NodeFacts
-from .errors import BadMessage
+from .node_errors import BadMessage
 from .sessions import time_of
 from .view import MarketView, NodeView
 

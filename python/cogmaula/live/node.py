@@ -20,7 +20,7 @@ from .broker import Broker
 from .broker_link import Arrived, Confirmed, Event, Link, Message, Publication, Settled
 from .control import Control, StandardControl
 from .counting import NodeFacts
-from .errors import LiveError, NodeRefused
+from .node_errors import LiveError, NodeRefused
 from .frames import CHILDREN, MOST, Leave
 from .messages import LOST, BasisMessage, StateMessage
 from .parent import Parent
@@ -28,7 +28,7 @@ from .served_session import ServedSession
 from .service import Came, Ended, MakeService
 from .serving import LAST_SECONDS, Serving
 from .sessions import Session, now_text
-from .settings import Settings
+from .node_settings import Settings
 from .showing import Showing
 from .store import Store
 

@@ -8,14 +8,14 @@ from dataclasses import dataclass, field
 from ..logs import NodeLog
 from .asking import Asking
 from .beating import Beating
-from .bids import BidLog
+from .kept_bids import BidLog
 from .broker_link import Link
 from .controlling import Controlling
 from .counting import Counts
 from .offers import Offers
 from .publisher import Publisher
 from .recording import Recording
-from .settings import Settings
+from .node_settings import Settings
 from .store import Store
 
 

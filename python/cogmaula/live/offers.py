@@ -7,9 +7,9 @@ from datetime import datetime, timedelta, timezone
 
 from ..cluster import Basis
 from ..logs import NodeLog
-from .errors import BadMessage
+from .node_errors import BadMessage
 from .frames import DeviceResume, Leave, Offer, Points, ResumeGone, Stated, Wanted
-from .kinds import DeviceKind
+from .device_kinds import DeviceKind
 from .messages import OfferMessage
 from .sessions import time_of, time_text
 

@@ -10,10 +10,10 @@ from typing import Any
 
 from .children import SORT
 from .connection import REFUSED, connect, new_client, paho, user_properties_of, words_of, words_of_refusal
-from .errors import BadMessage, LiveError
-from .given import LimitsMessage
+from .node_errors import BadMessage, LiveError
+from .given_limits import LimitsMessage
 from .messages import LapseMessage, StateMessage, object_of
-from .settings import BrokerSettings
+from .node_settings import BrokerSettings
 from .topics import Topics
 
 TICK = 0.05

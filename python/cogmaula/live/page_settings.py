@@ -6,7 +6,7 @@ import ipaddress
 from dataclasses import dataclass
 from urllib.parse import urlsplit
 
-from .errors import BadSettings
+from .node_errors import BadSettings
 
 
 @dataclass(frozen=True)

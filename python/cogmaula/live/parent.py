@@ -9,12 +9,12 @@ from ..logs import NodeLog
 from .beating import Beating
 from .broker_link import Message
 from .children import SESSION, TIME
-from .errors import BadFrame, BadMessage
+from .node_errors import BadFrame, BadMessage
 from .frames import PRICES, Old, Price, frame_of
 from .messages import VERSION, StateMessage, object_of
 from .price_table import price_for
 from .served_session import ServedSession
-from .settings import Settings
+from .node_settings import Settings
 
 
 class Parent:

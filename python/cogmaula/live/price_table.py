@@ -10,7 +10,7 @@ import struct
 from dataclasses import dataclass, field
 
 from ..cluster import Basis
-from .errors import BadFrame
+from .node_errors import BadFrame
 from .frame import BASIS, CHILDREN, is_basis
 from .frames import Price
 

@@ -11,7 +11,7 @@ from collections.abc import Callable, Collection
 
 from .broker_link import Message, Publication
 from .children import SESSION, TIME
-from .errors import BadFrame
+from .node_errors import BadFrame
 from .frames import PRICES, Old, Price, frame_of
 from .node_parts import NodeParts
 from .price_table import PriceTable

@@ -13,7 +13,7 @@ from datetime import datetime, timezone
 from pathlib import Path
 
 from .compressing import ENDING, compress_later
-from .settings import Settings
+from .node_settings import Settings
 from .store import Stored
 
 SUFFIX = ".frames"

@@ -15,7 +15,7 @@ from dataclasses import replace
 
 from .broker_link import Publication
 from .children import BIDS_OF_SUM, NODE, RELAYS, SORT, VALID, Children
-from .errors import OtherTerms
+from .node_errors import OtherTerms
 from .frames import (
     AuctioneerResume,
     Bid,
@@ -48,7 +48,7 @@ from .price_feed import PriceFeed
 from .pricing import Pricing
 from .sessions import now_text
 from .store import Stored
-from .times import Times
+from .market_times import Times
 
 # The seconds between two lines about children that are awaited.
 BETWEEN_LINES = 60.0

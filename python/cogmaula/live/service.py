@@ -16,7 +16,7 @@ from dataclasses import dataclass
 from typing import Protocol
 
 from ..cluster import Basis
-from .errors import BadFrame, LiveError
+from .node_errors import BadFrame, LiveError
 from .frames import WRITES, Frame, Hello, Sort, Splitter
 from .loop import READ, WRITE, Loop
 from .statuses import STATUSES

@@ -9,12 +9,12 @@ from collections.abc import Callable
 from ..logs import NodeLog
 from .asking import Asking
 from .beating import Beating
-from .bids import BidLog
+from .kept_bids import BidLog
 from .broker_link import Link
 from .control import Control
 from .controlling import Controlling
 from .counting import Counts
-from .errors import LiveError
+from .node_errors import LiveError
 from .frames import Clear, DeviceResume, Resume, ResumeGone, Send, frames_of
 from .node_parts import NodeParts
 from .offers import Offers
@@ -23,9 +23,9 @@ from .recording import Recording
 from .served_session import ServedSession
 from .service import Came, Ended, MakeService, Service, ServiceProcess
 from .sessions import now_text
-from .settings import Settings
+from .node_settings import Settings
 from .store import Store, Stored
-from .times import Times
+from .market_times import Times
 
 # The pauses in seconds before a service is started anew that ended soon: the first, and the longest. Soon is below the third.
 FIRST_PAUSE, LONGEST_PAUSE, LIVED = 0.5, 60.0, 10.0

@@ -7,7 +7,7 @@ import secrets
 from dataclasses import dataclass
 from datetime import datetime, timedelta, timezone
 
-from .errors import BadMessage
+from .node_errors import BadMessage
 
 _ID = re.compile(r"[0-9a-f]{16}")
 

@@ -28,7 +28,7 @@ from .connection import (
     words_of_refusal,
 )
 from .loop import READ, WRITE, Loop
-from .settings import BrokerSettings
+from .node_settings import BrokerSettings
 from .topics import Topics
 
 # The most nodes that settle at once: a broker keeps few messages for a connection that has not taken them.

@@ -10,10 +10,10 @@ from ..logs import NodeLog
 from .board import Board
 from .broker_link import Message
 from .counting import NodeFacts
-from .page import Page
+from .market_page import Page
 from .page_settings import PageSettings
-from .reader import Reader
-from .settings import BrokerSettings, Settings
+from .market_reader import Reader
+from .node_settings import BrokerSettings, Settings
 
 
 def reading_settings(page: PageSettings, broker: BrokerSettings) -> BrokerSettings:

@@ -13,10 +13,10 @@ from dataclasses import dataclass, field
 from datetime import datetime, timedelta, timezone
 from typing import Any
 
-from .errors import BadMessage
+from .node_errors import BadMessage
 from .messages import object_of
 from .sessions import now_text, time_of, time_text
-from .times import Times
+from .market_times import Times
 
 
 @dataclass(frozen=True, order=True)

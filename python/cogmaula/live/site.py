@@ -16,13 +16,13 @@ from collections.abc import Callable, Iterable, Sequence
 from functools import partial
 
 from ..logs import NodeLog
-from .errors import LiveError
+from .node_errors import LiveError
 from .frames import Sort
 from .loop import Loop
 from .messages import ControlMessage
 from .node import TICK, Node
 from .service import PolledService
-from .settings import Settings
+from .node_settings import Settings
 from .shared import SharedConnection
 from .site_settings import SiteSettings
 

@@ -8,9 +8,9 @@ from dataclasses import dataclass, replace
 from pathlib import Path
 from typing import Any, cast
 
-from .errors import BadSettings
+from .node_errors import BadSettings
 from .frames import SORTS, Sort
-from .settings import BrokerSettings, Settings, settings_of
+from .node_settings import BrokerSettings, Settings, settings_of
 from .toml_tables import read_tables, table_of, value_of
 from .topics import require_name
 

@@ -18,7 +18,7 @@ from dataclasses import dataclass, field
 from pathlib import Path
 
 from ..cluster import Basis
-from .errors import BadMessage, BadStore
+from .node_errors import BadMessage, BadStore
 from .frames import Sort
 from .messages import VERSION, SetpointMessage
 from .safely import replace_safely, with_path

@@ -15,7 +15,7 @@ from dataclasses import MISSING, Field, fields
 from pathlib import Path
 from typing import Any, TypeVar
 
-from .errors import BadSettings
+from .node_errors import BadSettings
 
 T = TypeVar("T")
 # What a member of each type takes, in words. Members of other types are made by who reads the file, and are taken as they are.

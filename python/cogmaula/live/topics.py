@@ -5,7 +5,7 @@ from __future__ import annotations
 import re
 from dataclasses import dataclass
 
-from .errors import BadSettings
+from .node_errors import BadSettings
 from .frames import CHILDREN
 from .price_table import LONGEST as LONGEST_TABLE
 

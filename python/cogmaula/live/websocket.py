@@ -14,7 +14,7 @@ from http import HTTPStatus
 from typing import Any
 
 from ..errors import NoPackage
-from .errors import LiveError
+from .node_errors import LiveError
 
 # The bytes that are read at a time, and the most bytes of a request.
 PIECE, LONGEST_REQUEST = 16_384, 16_384

@@ -3,7 +3,7 @@
 from .bills import Currency, Span, bills_of, frame_of
 from .flexibility import Flexibility, flexibility_of
 from .history_day import history_page
-from .limits import Group, Violation, groups_of
-from .making import report
+from .kept_limits import Group, Violation, groups_of
+from .cluster_report import report
 
 __all__ = ["Currency", "Flexibility", "Group", "Span", "Violation", "bills_of", "flexibility_of", "frame_of", "groups_of", "history_page", "report"]

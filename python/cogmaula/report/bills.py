@@ -11,13 +11,13 @@ from dataclasses import dataclass
 from datetime import datetime
 from typing import TYPE_CHECKING
 
-from .. import frames
+from .. import data_frames
 from ..errors import ProgramFault
 from ..moments import later
 from ..money import WATT_MINUTES, Currency, energy
 from ..runs import Run
 from ..texts import Account, Bill
-from .times import intervals_of, spans_of
+from .intervals import intervals_of, spans_of
 
 if TYPE_CHECKING:
     from pandas import DataFrame
@@ -66,10 +66,10 @@ def frame_of(spans: Iterable[Span], start: datetime) -> DataFrame:
 
     Raises NoPackage without pandas.
     """
-    pd = frames.pandas()
-    parts = [frames.accounts(span.bill).assign(begin=later(start, span.begin), end=later(start, span.end)) for span in spans]
+    pd = data_frames.pandas()
+    parts = [data_frames.accounts(span.bill).assign(begin=later(start, span.begin), end=later(start, span.end)) for span in spans]
     if not parts:
-        parts = [frames.accounts(Bill({}, Account(0, 0, 0), 0, 0)).iloc[:0].assign(begin=start, end=start)]
+        parts = [data_frames.accounts(Bill({}, Account(0, 0, 0), 0, 0)).iloc[:0].assign(begin=start, end=start)]
     return pd.concat(parts).set_index(["begin", "end"], append=True).reorder_levels(["begin", "end", "party", "name"])
 
 

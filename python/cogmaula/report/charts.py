@@ -21,7 +21,7 @@ from matplotlib.patches import StepPatch
 from matplotlib.ticker import FixedLocator, FuncFormatter, MaxNLocator
 
 from ..moments import later
-from .course import Course
+from .long_course import Course
 from .svg import COLOURS, LIMIT, LINE, SETTINGS, new_figure
 
 # Up to so many devices a figure stacks their powers; it shows more as a heat map.

@@ -6,9 +6,9 @@ from collections.abc import Iterator
 
 from ..figures import Figures
 from ..money import Currency
-from . import page
+from . import markup
 from .charts import number, watts
-from .making import Findings
+from .cluster_report import Findings
 from .words import count, duration, hours, kilowatt_hours, moment, money_of
 
 # A battery with fewer cycles a day than this is hardly used.
@@ -19,19 +19,19 @@ MOST_TOLD = 3
 
 def glance(found: Findings) -> str:
     """Three answers beside each other, and the warnings below them."""
-    answers = page.cards([("Were limits kept?", verdict(found)), ("What did it cost?", cost(found)), ("Who flexed?", flexed(found))])
-    return "\n".join([answers, *(page.words(f"\u26a0 {warning}", "warning") for warning in warnings(found))])
+    answers = markup.cards([("Were limits kept?", verdict(found)), ("What did it cost?", cost(found)), ("Who flexed?", flexed(found))])
+    return "\n".join([answers, *(markup.words(f"\u26a0 {warning}", "warning") for warning in warnings(found))])
 
 
 def verdict(found: Findings) -> str:
     """Whether the limits were kept."""
     if not found.groups:
-        return page.words("No group has limits.", "soft")
+        return markup.words("No group has limits.", "soft")
     broken = [group for group in found.groups if group.outside]
     if not broken:
-        return page.words(f"\u2713 All limits were kept, in {count(len(found.groups), 'group')}.", "good")
+        return markup.words(f"\u2713 All limits were kept, in {count(len(found.groups), 'group')}.", "good")
     lines = [
-        page.words(
+        markup.words(
             f"\u26a0 {group.name} was outside its limits for {duration(group.minutes_outside)}, "
             f"at the ends of {group.outside} of {count(len(found.run.ends), 'phase')}.",
             "bad",
@@ -39,19 +39,19 @@ def verdict(found: Findings) -> str:
         for group in broken[:5]
     ]
     if len(broken) > 5:
-        lines.append(page.words(f"\u26a0 So were {count(len(broken) - 5, 'more group')}.", "bad"))
+        lines.append(markup.words(f"\u26a0 So were {count(len(broken) - 5, 'more group')}.", "bad"))
     return "\n".join(lines)
 
 
 def cost(found: Findings) -> str:
     """What the devices paid, and what the same would have cost otherwise."""
     figures, currency = found.figures, found.currency
-    lines = [page.words(money_of(currency, figures.cost), "large"), page.words("by the market's bill, paid by all devices together.", "soft")]
+    lines = [markup.words(money_of(currency, figures.cost), "large"), markup.words("by the market's bill, paid by all devices together.", "soft")]
     if figures.cost_at_connection is None:
-        lines.append(page.words("Name the connection to the supplier (--connection) to compare this with the cost without the market.", "soft"))
+        lines.append(markup.words("Name the connection to the supplier (--connection) to compare this with the cost without the market.", "soft"))
     else:
         rows = [[name, amount(currency, value)] for name, value in compared(figures)]
-        lines.append(page.plain_table(["At the connection's prices", currency.unit], rows))
+        lines.append(markup.plain_table(["At the connection's prices", currency.unit], rows))
     return "\n".join(lines)
 
 
@@ -74,11 +74,11 @@ def flexed(found: Findings) -> str:
     figures = found.figures
     moved = sorted(((energy, name) for name, energy in figures.shifted_kWh.items() if energy > 0), key=lambda move: (-move[0], move[1]))
     if not moved:
-        return page.words("No device with a plain rule took or delivered energy at another time than by that rule.", "soft")
+        return markup.words("No device with a plain rule took or delivered energy at another time than by that rule.", "soft")
     total = sum(energy for energy, _ in moved)
-    lines = [page.words(f"{hours(total)} kWh", "large"), page.words(f"shifted by {count(len(moved), 'device')} *, most by", "soft")]
+    lines = [markup.words(f"{hours(total)} kWh", "large"), markup.words(f"shifted by {count(len(moved), 'device')} *, most by", "soft")]
     rows = [[name, hours(energy)] for energy, name in moved[:MOST_TOLD]]
-    return "\n".join([*lines, page.plain_table(["device", "kWh"], rows)])
+    return "\n".join([*lines, markup.plain_table(["device", "kWh"], rows)])
 
 
 def warnings(found: Findings) -> Iterator[str]:

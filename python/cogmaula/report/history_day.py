@@ -11,7 +11,7 @@ from ..errors import NoPackage
 from ..money import Currency
 
 if TYPE_CHECKING:
-    from ..history.course import Course, Price
+    from ..history.span_course import Course, Price
     from ..history.database import Database
 
 # Watts times milliseconds of a kilowatt-hour.
@@ -64,7 +64,7 @@ def _midnight_after(begin: datetime) -> datetime:
 def day_of(database: Database, day: datetime, title: str | None = None, currency: Currency | None = None) -> Day:
     """What a history tells of a day. Raises DatabaseLost."""
     # A history is of a live market, whose modules the page of a file does without.
-    from ..history.course import course_of
+    from ..history.span_course import course_of
 
     begin, end = day_span(day)
     course = course_of(database, round(begin.timestamp() * 1000), round(end.timestamp() * 1000))

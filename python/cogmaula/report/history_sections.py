@@ -9,10 +9,10 @@ import numpy
 from matplotlib.ticker import MaxNLocator
 
 from ..history.accounts import Account
-from ..history.course import Relay
-from . import page
+from ..history.span_course import Relay
+from . import markup
 from .charts import Hours, draw_exchange, draw_load, draw_powers, number, timed_axes, watts
-from .course import Course as TimeAxis
+from .long_course import Course as TimeAxis
 from .grouping import MOST_NAMED
 from .history_day import FAR, KILOWATT_HOUR, MOST_FIGURES, Day, prices_by_slot
 from .svg import LINE, svg_of
@@ -27,13 +27,13 @@ def page_of(day: Day) -> str:
     """The whole page."""
     sections = [section for section in SECTIONS if section[0] != "limits" or has_limits(day)]
     body = [
-        page.heading(day.title, 1),
-        page.words(f"From {day.begin:%Y-%m-%d %H:%M} to {day.end:%Y-%m-%d %H:%M %Z}, as the history of the market has it.", "soft"),
-        page.facts(facts(day)),
-        page.contents((name, title) for name, title, _, _ in sections),
-        page.parts(page.section(name, title, is_wide, *make(day)) for name, title, is_wide, make in sections),
+        markup.heading(day.title, 1),
+        markup.words(f"From {day.begin:%Y-%m-%d %H:%M} to {day.end:%Y-%m-%d %H:%M %Z}, as the history of the market has it.", "soft"),
+        markup.facts(facts(day)),
+        markup.contents((name, title) for name, title, _, _ in sections),
+        markup.parts(markup.section(name, title, is_wide, *make(day)) for name, title, is_wide, make in sections),
     ]
-    return page.page(day.title, body)
+    return markup.page(day.title, body)
 
 
 def facts(day: Day) -> Iterator[tuple[str, str]]:
@@ -86,7 +86,7 @@ def prices(day: Day) -> Iterator[str]:
     slots = prices_by_slot(day.course)
     known = [slot for slot in slots if slot.mean is not None]
     if not known:
-        yield page.words("The history has no clearing of this day.")
+        yield markup.words("The history has no clearing of this day.")
         return
     hours = hours_of(day)
     figure, axes = timed_axes(hours)
@@ -102,19 +102,19 @@ def prices(day: Day) -> Iterator[str]:
     axes.margins(y=0.1)
     caption = "The auctioneer's price: the mean of each quarter of an hour, and a band from its least to its greatest value."
     least, greatest = min(slot.least or 0 for slot in known), max(slot.greatest or 0 for slot in known)
-    yield page.figure(svg_of(figure, "price"), caption, f"{caption} It goes from {least} to {greatest}.")
+    yield markup.figure(svg_of(figure, "price"), caption, f"{caption} It goes from {least} to {greatest}.")
 
 
 def powers(day: Day) -> Iterator[str]:
     """The power of each device, or of the devices below each node if they are many."""
     if not day.course.energies:
-        yield page.words("The history has no power of this day.")
+        yield markup.words("The history has no power of this day.")
         return
     rows = {name: mean_powers(day, energies) for name, energies in rows_of(day).items()}
     caption = "The mean power of each quarter of an hour, measured or else set: taken above 0, given below."
     if len(day.course.energies) > MOST_NAMED:
         caption += " Devices are added up by the node above them."
-    yield page.figure(svg_of(draw_powers(hours_of(day), rows), "powers"), caption, caption)
+    yield markup.figure(svg_of(draw_powers(hours_of(day), rows), "powers"), caption, caption)
 
 
 def rows_of(day: Day) -> dict[str, list[int]]:
@@ -134,7 +134,7 @@ def left_over(day: Day) -> Iterator[str]:
     """What all devices take, less what they give."""
     totals = mean_powers(day, (slot.taken - slot.given for slot in day.course.sums))
     caption = "What all devices take, less what they give: the mean of each quarter of an hour."
-    yield page.figure(svg_of(draw_exchange(hours_of(day), totals), "left-over"), caption, caption)
+    yield markup.figure(svg_of(draw_exchange(hours_of(day), totals), "left-over"), caption, caption)
 
 
 def limits(day: Day) -> Iterator[str]:
@@ -142,11 +142,11 @@ def limits(day: Day) -> Iterator[str]:
     relays = limited(day)
     longest = sorted(relays.items(), key=lambda item: -(item[1].ceiling_for + item[1].floor_for))[:MOST_FIGURES]
     figures = [load_of(day, at, name, relay) for at, (name, relay) in enumerate(longest)]
-    yield page.beside(*figures)
+    yield markup.beside(*figures)
     if relays:
         head = ["relay", "floor", "ceiling", "least load", "greatest load", "ceiling reached for", "floor reached for"]
         yield long_table("Relays with limits", head, [relay_row(day, name, relay) for name, relay in relays.items()])
-        yield page.words(
+        yield markup.words(
             "A limit is reached while a relay passes another price down than it has: a higher one at its ceiling, a lower one at its floor. "
             "Loads are means of quarters of an hour, of powers as they are billed. The limits are the newest that the relay told."
         )
@@ -166,7 +166,7 @@ def load_of(day: Day, at: int, name: str, relay: Relay) -> str:
     floor, ceiling = relay.place.floor, relay.place.ceiling
     figure = draw_load(hours_of(day), loads, -FAR if floor is None else floor, FAR if ceiling is None else ceiling)
     told = f"The load of {name} goes from {watts(min(loads))} to {watts(max(loads))}."
-    return page.heading(name, 3) + page.figure(svg_of(figure, f"load{at}"), "Means of quarters of an hour.", told)
+    return markup.heading(name, 3) + markup.figure(svg_of(figure, f"load{at}"), "Means of quarters of an hour.", told)
 
 
 def relay_row(day: Day, name: str, relay: Relay) -> list[str]:
@@ -179,20 +179,20 @@ def relay_row(day: Day, name: str, relay: Relay) -> list[str]:
 def bills(day: Day) -> Iterator[str]:
     """The bill of each device, and that of each hour."""
     unit, accounts = day.currency.unit, day.course.accounts
-    yield page.words(
+    yield markup.words(
         f"Each device is billed by its measured power, and by its set power where none was measured, at the newest price that it was told. "
         f"A measured power counts until the next one, for 15 minutes at most. Amounts are in {unit}: above 0 if the device pays."
     )
     head = ["device", "billed by", "taken (kWh)", "given (kWh)", f"amount ({unit})"]
     rows = [account_row(day, name, account) for name, account in list(accounts.items())[:MOST_ROWS]]
     whole = Account(*(sum(getattr(account, name) for account in accounts.values()) for name in ("taken", "given", "amount")))
-    by_device = page.table("By device", head, rows, [["all devices", "", *energies_and_amount(day, whole)]])
-    yield by_device if len(rows) <= MOST_OPEN else page.folded(f"By device ({count(len(accounts), 'device')})", by_device)
+    by_device = markup.table("By device", head, rows, [["all devices", "", *energies_and_amount(day, whole)]])
+    yield by_device if len(rows) <= MOST_OPEN else markup.folded(f"By device ({count(len(accounts), 'device')})", by_device)
     if len(accounts) > MOST_ROWS:
-        yield page.words(f"The table has the first {MOST_ROWS} of {count(len(accounts), 'device')}; the sum has all.", "soft")
-    yield page.table("By hour, all devices", ["from", "taken (kWh)", "given (kWh)", f"amount ({unit})"], list(hour_rows(day)))
+        yield markup.words(f"The table has the first {MOST_ROWS} of {count(len(accounts), 'device')}; the sum has all.", "soft")
+    yield markup.table("By hour, all devices", ["from", "taken (kWh)", "given (kWh)", f"amount ({unit})"], list(hour_rows(day)))
     if unpriced := sum(account.unpriced for account in accounts.values()):
-        yield page.words(f"{kilowatt_hours(unpriced)} kWh were taken or given before the device was told a price. No amount has them.", "warning")
+        yield markup.words(f"{kilowatt_hours(unpriced)} kWh were taken or given before the device was told a price. No amount has them.", "warning")
 
 
 def account_row(day: Day, name: str, account: Account) -> list[str]:
@@ -217,7 +217,7 @@ def hour_rows(day: Day) -> Iterator[list[str]]:
 
 def cautions(_: Day) -> Iterator[str]:
     """What the page does not show."""
-    yield page.words(
+    yield markup.words(
         "The history has what the broker told. A set power counts until the next setpoint, until the control was told its fallback, which "
         "counts then, or until the device was let go. Nobody measured that a device did as it was told, unless its row says so. Prices are "
         "as they were told; the judge decides from recordings whether they are right."
@@ -226,8 +226,8 @@ def cautions(_: Day) -> Iterator[str]:
 
 def long_table(title: str, head: list[str], rows: list[list[str]]) -> str:
     """A table, folded if it is long."""
-    made = page.table(title, head, rows)
-    return made if len(rows) <= MOST_OPEN else page.folded(f"{title} ({len(rows)} rows)", made)
+    made = markup.table(title, head, rows)
+    return made if len(rows) <= MOST_OPEN else markup.folded(f"{title} ({len(rows)} rows)", made)
 
 
 # Each section by its name and its title; whether it is as wide as the page; and what makes it.

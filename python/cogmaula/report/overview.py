@@ -5,10 +5,10 @@ from __future__ import annotations
 import matplotlib
 from matplotlib.figure import Figure
 
-from ..figures.supply import connection_in
+from ..figures.supplier_tariffs import connection_in
 from ..runs import Run
 from .charts import MOST_STACKED, Hours, draw_line, number, put_legend, set_hours, set_powers
-from .course import Course
+from .long_course import Course
 from .grouping import rows_of
 from .svg import COLOURS, LINE, SETTINGS
 

@@ -7,12 +7,12 @@ from fractions import Fraction
 from typing import Any
 
 from ..texts import Account
-from . import page
+from . import markup
 from .charts import MOST_LINES, MOST_STACKED, Hours, draw_curve, draw_exchange, draw_load, draw_powers, draw_prices, number, watts
 from .glance import compared, facts, glance
 from .grouping import MOST_NAMED, rows_of
-from .limits import Group, Violation
-from .making import Findings
+from .kept_limits import Group, Violation
+from .cluster_report import Findings
 from .svg import svg_of
 from .words import count, duration, hours, kilowatt_hours, moment, money, price_words, span_words, unit_of
 
@@ -36,16 +36,16 @@ def page_of(found: Findings) -> str:
     left_out |= set() if found.tariff else {"tariff"}
     sections = [section for section in SECTIONS if section[0] not in left_out]
     body = [
-        page.heading(found.title, 1),
-        page.words(span_of(found), "soft"),
+        markup.heading(found.title, 1),
+        markup.words(span_of(found), "soft"),
         glance(found),
-        page.facts([*price_facts(found), *facts(found)]),
-        page.words(MODEL, "soft small"),
-        page.contents((name, title_of(found, name, title)) for name, title, _, _ in sections),
-        page.parts(page.section(name, title_of(found, name, title), is_wide, *make(found)) for name, title, is_wide, make in sections),
+        markup.facts([*price_facts(found), *facts(found)]),
+        markup.words(MODEL, "soft small"),
+        markup.contents((name, title_of(found, name, title)) for name, title, _, _ in sections),
+        markup.parts(markup.section(name, title_of(found, name, title), is_wide, *make(found)) for name, title, is_wide, make in sections),
         foot(found),
     ]
-    return page.page(f"{found.title}: report of a run", body)
+    return markup.page(f"{found.title}: report of a run", body)
 
 
 def title_of(found: Findings, name: str, title: str) -> str:
@@ -98,7 +98,7 @@ def foot(found: Findings) -> str:
         "Powers, prices, accounts and answers are those of the program market. This page adds, compares and rounds them. "
         f"The cluster file has the SHA-256 {found.digest}."
     )
-    return f"<footer>{page.words(told)}</footer>"
+    return f"<footer>{markup.words(told)}</footer>"
 
 
 # The sections.
@@ -107,7 +107,7 @@ def foot(found: Findings) -> str:
 def prices(found: Findings) -> Iterator[str]:
     """The price over the hours."""
     if not found.intervals:
-        yield page.words("No time passes in this run, so there is nothing to draw.")
+        yield markup.words("No time passes in this run, so there is nothing to draw.")
         return
     held, groups = held_prices(found), {group.name: group.prices for group in found.groups}
     figure = draw_prices(hours_of(found), held, groups, unit_of(found.currency))
@@ -116,7 +116,7 @@ def prices(found: Findings) -> Iterator[str]:
     caption = "The price that holds over each tick." + (f" At some time {count(own, 'limited group')} had another price." if own else "")
     if own > MOST_LINES:
         caption += f" The figure shows {MOST_LINES} of them."
-    yield page.figure(svg_of(figure, "price"), caption + means(found, WITH_BAND), told)
+    yield markup.figure(svg_of(figure, "price"), caption + means(found, WITH_BAND), told)
 
 
 def held_prices(found: Findings) -> list[int]:
@@ -131,9 +131,9 @@ def limits(found: Findings) -> Iterator[str]:
     figures = [load_of(found, at, group) for at, group in enumerate(shown)]
     tables = "\n".join(limit_tables(found))
     # One group leaves room for the tables beside it.
-    yield page.beside(*figures, tables) if len(figures) == 1 else page.beside(*figures) + tables
+    yield markup.beside(*figures, tables) if len(figures) == 1 else markup.beside(*figures) + tables
     if len(found.groups) > len(shown) > 0:
-        yield page.words(f"The figures show {len(shown)} of {len(found.groups)} groups; the table has all.", "soft")
+        yield markup.words(f"The figures show {len(shown)} of {len(found.groups)} groups; the table has all.", "soft")
 
 
 def limit_tables(found: Findings) -> Iterator[str]:
@@ -147,7 +147,7 @@ def limit_tables(found: Findings) -> Iterator[str]:
         title = f"Violations: {count(len(broken), 'span')} of time outside a limit"
         title += f", the {MOST_ROWS} longest" if len(broken) > MOST_ROWS else ""
         yield long_table(title, ["group", "from", "to", "for", "limit", "farthest load", "beyond"], rows)
-        yield page.words(
+        yield markup.words(
             "In these spans no price of the market brings the group within its limits. A phase that ends outside, "
             "and lasts no time, is counted above and is in no span."
         )
@@ -161,7 +161,7 @@ def load_of(found: Findings, at: int, group: Group) -> str:
     else:
         caption = "Within its limits at all times." if not group.outside else "Within its limits, except in phases that last no time."
     told = f"The load of {group.name} goes from {watts(min(group.loads))} to {watts(max(group.loads))}. {caption}"
-    return page.heading(group.name, 3) + page.figure(svg_of(figure, f"load{at}"), caption, told)
+    return markup.heading(group.name, 3) + markup.figure(svg_of(figure, f"load{at}"), caption, told)
 
 
 def group_row(group: Group) -> list[str]:
@@ -179,8 +179,8 @@ def violation_row(found: Findings, name: str, violation: Violation) -> list[str]
 
 def long_table(title: str, head: Sequence[str], rows: Sequence[Sequence[str]], limit: int = MOST_OPEN) -> str:
     """A table, folded if it has more rows than the limit."""
-    made = page.table(title, head, rows)
-    return made if len(rows) <= limit else page.folded(f"{title} ({len(rows)} rows)", made)
+    made = markup.table(title, head, rows)
+    return made if len(rows) <= limit else markup.folded(f"{title} ({len(rows)} rows)", made)
 
 
 def powers(found: Findings) -> Iterator[str]:
@@ -188,7 +188,7 @@ def powers(found: Findings) -> Iterator[str]:
     held = found.run.held
     columns = held.without(found.connection)
     if not found.intervals or not columns:
-        yield page.words("No time passes in this run, or nobody is in it, so there is nothing to draw.")
+        yield markup.words("No time passes in this run, or nobody is in it, so there is nothing to draw.")
         return
     rows = rows_of(found.run.cluster, held.powers, columns)
     devices = count(len(columns), "device")
@@ -200,13 +200,13 @@ def powers(found: Findings) -> Iterator[str]:
         caption += f"The connection ({found.connection}) is not drawn. "
     caption += "Who is no member has 0." if len(rows) <= MOST_STACKED else "Who is no member has 0. The scale also tells small powers apart."
     svg = svg_of(draw_powers(hours_of(found), rows), "powers")
-    yield page.figure(svg, caption + means(found), caption, is_detailed=len(rows) > MOST_STACKED)
+    yield markup.figure(svg, caption + means(found), caption, is_detailed=len(rows) > MOST_STACKED)
 
 
 def exchange(found: Findings) -> Iterator[str]:
     """What the devices leave over, or buy and sell."""
     if not found.intervals:
-        yield page.words("No time passes in this run, so there is nothing to draw.")
+        yield markup.words("No time passes in this run, so there is nothing to draw.")
         return
     totals = found.run.held.exchange(found.connection)
     if found.connection is None:
@@ -217,7 +217,7 @@ def exchange(found: Findings) -> Iterator[str]:
     else:
         caption = f"What the devices buy above 0 and sell below. The supplier is the connection ({found.connection}) and the grid together."
     told = f"{caption} It goes from {watts(min(totals))} to {watts(max(totals))}."
-    yield page.figure(svg_of(draw_exchange(hours_of(found), totals), "left-over"), caption + means(found, WITH_BAND), told)
+    yield markup.figure(svg_of(draw_exchange(hours_of(found), totals), "left-over"), caption + means(found, WITH_BAND), told)
 
 
 def has_use(found: Findings) -> bool:
@@ -233,7 +233,7 @@ def use(found: Findings) -> Iterator[str]:
     if figures.cost_plain is not None:
         rows = [["the market's bill", money(figures.cost)]]
         rows += [[f"at the connection's prices, {name}", money(value or 0)] for name, value in compared(figures)]
-        tables.append(page.table("What it costs, and would cost", ["cost", f"amount ({unit})"], rows))
+        tables.append(markup.table("What it costs, and would cost", ["cost", f"amount ({unit})"], rows))
     if figures.batteries:
         head = ["battery", "charge, least (%)", "mean (%)", "greatest (%)", "at the end (%)", "cycles", "cycles a day"]
         use = [
@@ -251,8 +251,8 @@ def use(found: Findings) -> Iterator[str]:
         rows = [[name, hours(energy)] for name, energy in sorted(moved, key=lambda move: -move[1])]
         tables.append(long_table("Energy at another time than by the device's plain rule *", ["device", "shifted (kWh)"], rows))
     # The long table of batteries is beside the two short ones.
-    yield page.beside(*tables) if len(tables) < 3 else page.beside(tables[0] + tables[2], tables[1])
-    yield page.words(
+    yield markup.beside(*tables) if len(tables) < 3 else markup.beside(tables[0] + tables[2], tables[1])
+    yield markup.words(
         "Costs at the connection's prices: what the connection asks for the power that is bought or sold over each tick, as the program answers. "
         "What a battery holds more or less at the end than at the begin is not paid for in any of them. "
         "Of a battery, half of what it took and delivered counts as shifted."
@@ -264,7 +264,7 @@ def bills(found: Findings) -> Iterator[str]:
     bill, currency = found.bill, found.currency
     party = "(the grid)" if found.connection is None else "(the supplier)"
     other = party.strip("()")
-    yield page.words(
+    yield markup.words(
         f"Amounts are in {currency.unit}: above 0 if the account pays, below 0 if it earns. All amounts add up to 0. "
         + (
             "The grid takes and gives what the devices leave over."
@@ -274,14 +274,14 @@ def bills(found: Findings) -> Iterator[str]:
     )
     head = ["account", "taken (kWh)", "given (kWh)", f"amount ({currency.unit})"]
     sums = [account_row(found, party, bill.grid)]
-    by_device = page.table("By device", head, [account_row(found, name, account) for name, account in bill.devices.items()], sums)
+    by_device = markup.table("By device", head, [account_row(found, name, account) for name, account in bill.devices.items()], sums)
     head = ["span", "taken (kWh)", "given (kWh)", f"devices pay ({currency.unit})", f"{other} pays ({currency.unit})"]
     by_span = long_table(
         "By span of time, all devices", head, [span_row(found, at) for at in range(min(len(found.spans), MOST_ROWS))], limit=MOST_COLUMNS
     )
-    yield page.beside(by_device, by_span) if found.spans else by_device
+    yield markup.beside(by_device, by_span) if found.spans else by_device
     if len(found.spans) > MOST_ROWS:
-        yield page.words(f"The table has the first {MOST_ROWS} of {count(len(found.spans), 'span')}. In Python, bills_of gives all.", "soft")
+        yield markup.words(f"The table has the first {MOST_ROWS} of {count(len(found.spans), 'span')}. In Python, bills_of gives all.", "soft")
     if 0 < len(found.spans) <= MOST_COLUMNS:
         yield by_device_and_span(found)
 
@@ -292,10 +292,10 @@ def by_device_and_span(found: Findings) -> str:
     names, currency = list(found.bill.devices), found.currency
     energies = [[name, *(kilowatt_hours(net(span.bill.devices.get(name))) for span in found.spans)] for name in names]
     amounts = [[name, *(money(paid(found, span.bill.devices.get(name))) for span in found.spans)] for name in names]
-    return page.folded(
+    return markup.folded(
         "By device and span of time",
-        page.table("Energy taken, less what was given (kWh), by the begin of each span", ["account", *spans], energies),
-        page.table(f"Amounts ({currency.unit}), by the begin of each span", ["account", *spans], amounts),
+        markup.table("Energy taken, less what was given (kWh), by the begin of each span", ["account", *spans], energies),
+        markup.table(f"Amounts ({currency.unit}), by the begin of each span", ["account", *spans], amounts),
     )
 
 
@@ -304,7 +304,7 @@ def tariff(found: Findings) -> Iterator[str]:
     if found.tariff is None:
         return
     unit, frame = found.tariff
-    yield page.words(
+    yield markup.words(
         f"What a supplier bills by its tariff for the powers of the run. It is no account of the market. Amounts are in {unit}: VAT is paid on what "
         "is bought and on the fee, and the total is that less what is sold."
     )
@@ -313,7 +313,7 @@ def tariff(found: Findings) -> Iterator[str]:
     yield long_table("Each household and month", head, rows)
     if len(rows) > 1:
         sums = frame.sum().tolist()
-        yield page.words(f"All together pay {money(sums[-1])} {unit}.", "soft")
+        yield markup.words(f"All together pay {money(sums[-1])} {unit}.", "soft")
 
 
 def frame_rows(frame: Any) -> Iterator[tuple[tuple[str, str], list[float]]]:
@@ -354,13 +354,13 @@ def flexibility(found: Findings) -> Iterator[str]:
     known = [demand for demand in flex.demands if demand is not None]
     caption = "What the cluster takes beyond what it delivers, at each price of the basis. Nothing lies between two steps."
     told = f"{caption} It goes from {watts(known[0])} at the lowest price to {watts(known[-1])}."
-    yield page.figure(svg_of(figure, "curve"), caption, told)
-    yield page.words(
+    yield markup.figure(svg_of(figure, "curve"), caption, told)
+    yield markup.words(
         "A target asks the cluster to take so much more than it delivers, or below 0 to deliver so much more. The price is the first at "
         "which the cluster takes at most the target. If the neighbouring steps differ much, no price delivers exactly the target."
     )
     head = ["target", f"price ({unit_of(found.currency)})", "one step lower", "at the price", "one step higher", "taken less the target"]
-    yield page.table("What the cluster takes at and beside the price that answers each target", head, list(answer_rows(found)))
+    yield markup.table("What the cluster takes at and beside the price that answers each target", head, list(answer_rows(found)))
 
 
 def answer_rows(found: Findings) -> Iterable[list[str]]:

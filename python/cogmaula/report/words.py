@@ -8,7 +8,7 @@ from fractions import Fraction
 from ..moments import later
 from ..money import Currency, energy
 from .charts import number
-from .making import Findings
+from .cluster_report import Findings
 
 
 def moment(found: Findings, at: int | datetime) -> str:

@@ -12,12 +12,12 @@ bid by points is at each price, and the prices, come from the proved programs. d
 """
 
 from ..live.frames import Stated
-from ..live.kinds import DeviceKind
+from ..live.device_kinds import DeviceKind
 from .battery import Battery
 from .device import BadBid, Bid, Demands, Device
-from .given import Load, Manual, Solar
+from .given_devices import Load, Manual, Solar
 from .heating import Boiler, Cogeneration, HeatPump
-from .making import BidMaker
+from .demands import BidMaker
 from .markets import Group, Market
 from .profiles import Held, Profile
 from .simulating import BidsNotKept, Simulation, simulate

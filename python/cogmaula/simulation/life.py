@@ -7,11 +7,11 @@ from dataclasses import dataclass
 from datetime import datetime, timedelta
 
 from ..cluster import Cluster
-from ..frames import START
+from ..data_frames import START
 from ..live.frames import AnyOffer
 from ..phases import Event, Events, Join, Leave, State, Tick
 from .device import offer_of
-from .kinds import ClusterDevice
+from .kind_models import ClusterDevice
 
 # The minutes of a tick if the file has none.
 USUAL_TICK = 15

@@ -22,13 +22,13 @@ from ..hub.hub_page import Showing
 from ..hub.node_thread import Running
 from ..live.broker_link import Message
 from ..live.counting import NodeFacts
-from ..live.errors import LiveError
+from ..live.node_errors import LiveError
 from ..live.frames import MOST, AnyOffer, Leave, Sort, Stated
 from ..live.messages import ControlMessage, SetpointMessage, SilentMessage, StateMessage, members_of
 from ..live.node import Node
 from ..live.page_settings import PageSettings
 from ..live.price_table import PriceTable
-from ..live.settings import Settings
+from ..live.node_settings import Settings
 from ..logs import NodeLog
 from ..nodes import AUCTIONEER, Limited
 from ..program import LIVE_VARIABLE

@@ -8,7 +8,7 @@ from datetime import date, datetime
 from functools import cached_property
 from typing import Any
 
-from .. import frames
+from .. import data_frames
 from ..cluster import Basis, Cluster
 from ..errors import MarketError
 from ..moments import later, moment_of
@@ -17,7 +17,7 @@ from ..phases import Events, Join, Phase, State, Tick
 from ..program import Program
 from ..texts import GroupEnd, PhaseEnd
 from .device import Demands, Device, offer_of
-from .making import BidMaker
+from .demands import BidMaker
 from .markets import Cleared, Group, Market
 
 
@@ -63,7 +63,7 @@ def simulate(
     """
     if ticks < 1 or minutes < 1:
         raise ValueError(f"{ticks} ticks of {minutes} minutes: give 1 or more of each")
-    begin, names = moment_of(start, frames.START), [device.name for device in devices]
+    begin, names = moment_of(start, data_frames.START), [device.name for device in devices]
     rows: list[_Row] = []
     with Market(basis, names, groups, program=program, live=live) as market, BidMaker(basis, live) as maker:
         for tick in range(ticks):
@@ -124,29 +124,29 @@ class Simulation:
 
     @cached_property
     def _index(self) -> Any:
-        return frames.index_of(self.times, self.ends)
+        return data_frames.index_of(self.times, self.ends)
 
     @cached_property
     def prices(self) -> Any:
         """A row for each tick: price, step, total_W, members, minutes. See `Run.prices`."""
-        return frames.prices(self._index, self.ends, [self.minutes] * len(self))
+        return data_frames.prices(self._index, self.ends, [self.minutes] * len(self))
 
     @cached_property
     def powers(self) -> Any:
         """The power of each device in watts, positive if it takes power: (time, phase) by device, Int64."""
-        return frames.wide(self._index, self.names, [end.powers for end in self.ends])
+        return data_frames.wide(self._index, self.names, [end.powers for end in self.ends])
 
     @cached_property
     def states(self) -> Any:
         """The state of each device at the begin of each tick, in the unit of its model: (time, phase) by device, float64."""
-        found = frames.pandas().DataFrame([row.states for row in self._rows], index=self._index, columns=list(self.names), dtype="float64")
+        found = data_frames.pandas().DataFrame([row.states for row in self._rows], index=self._index, columns=list(self.names), dtype="float64")
         found.columns.name = "device"
         return found
 
     @cached_property
     def limited_groups(self) -> Any:
         """A row for each tick and group. See `Run.limited_groups`."""
-        return frames.limited_groups(self.times, Cluster(self.basis, self._limited), self.ends, [self.minutes] * len(self))
+        return data_frames.limited_groups(self.times, Cluster(self.basis, self._limited), self.ends, [self.minutes] * len(self))
 
     @property
     def _limited(self) -> list[Node]:
@@ -155,7 +155,7 @@ class Simulation:
     def series(self) -> Any:
         """The power of each device over time, with an index of times that has its frequency: Int64 by device."""
         found = self.powers.droplevel("phase")
-        found.index.freq = frames.pandas().Timedelta(minutes=self.minutes)
+        found.index.freq = data_frames.pandas().Timedelta(minutes=self.minutes)
         return found
 
     def cluster(self) -> Cluster:

@@ -21,7 +21,7 @@ from logged import log_to
 from cogmaula.agent import Agent, agent_settings_of, running
 from cogmaula.agent.modbus import Modbus, ModbusPlace
 from cogmaula.agent.mqtt import BrokerPlace, Client, Mqtt, MqttPlace
-from cogmaula.agent.values import NoReading, NotWritten
+from cogmaula.agent.device_values import NoReading, NotWritten
 
 CAPACITY = 1000
 

@@ -12,11 +12,11 @@ from logged import log_to
 
 from cogmaula.agent import Guard, Limits, agent_settings_of
 from cogmaula.agent.modbus import ModbusPlace
-from cogmaula.agent.plain import Command, CommandPlace, Csv, CsvPlace, Http, HttpPlace
-from cogmaula.agent.values import NoReading, NotWritten, Place, number_in
-from cogmaula.live.errors import BadSettings
+from cogmaula.agent.plain_sources import Command, CommandPlace, Csv, CsvPlace, Http, HttpPlace
+from cogmaula.agent.device_values import NoReading, NotWritten, Place, number_in
+from cogmaula.live.node_errors import BadSettings
 from cogmaula.live.frames import Offer, Points, Stated
-from cogmaula.live.kinds import DeviceKind
+from cogmaula.live.device_kinds import DeviceKind
 from cogmaula.simulation import Battery, HeatPump
 
 # What a device is told.

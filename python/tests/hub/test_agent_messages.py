@@ -10,7 +10,7 @@ from cogmaula.cluster import Basis
 from cogmaula.hub.agent_messages import Cluster, LeaveWord, Login, error_line, update_of, quoted, welcome, word_of
 from cogmaula.live import BadMessage
 from cogmaula.live.frames import Points, Stated
-from cogmaula.live.kinds import DeviceKind
+from cogmaula.live.device_kinds import DeviceKind
 from cogmaula.live.messages import OfferMessage, SetpointMessage, SilentMessage
 
 BASIS = Basis(0, 9, 10)

@@ -10,7 +10,7 @@ from logged import log_to
 
 from cogmaula.cluster import Basis
 from cogmaula.hub import agent_connection as module
-from cogmaula.hub.agent import Agent
+from cogmaula.hub.agent_control import Agent
 from cogmaula.hub.agent_connection import Connection
 from cogmaula.hub.lines import Lines
 from cogmaula.hub.login_refusals import LineTooLong

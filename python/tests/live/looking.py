@@ -35,7 +35,7 @@ class Served:
     """A page of a test's messages, from its start to its end. What it says is in `said`."""
 
     def __init__(self, told=None, own=None, facts=list, **settings):
-        from cogmaula.live.page import Page
+        from cogmaula.live.market_page import Page
 
         self.said = []
         self.board = Board(log_to(self.said.append))

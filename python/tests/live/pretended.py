@@ -15,7 +15,7 @@ from cogmaula.live.service import Came, Ended
 from cogmaula.live.sessions import Session
 from cogmaula.live.node import Node
 from cogmaula.live.price_table import price_for
-from cogmaula.live.settings import Settings
+from cogmaula.live.node_settings import Settings
 from cogmaula.live.store import Store, Stored
 
 BASIS, BASIS_TOPIC = Basis(0, 9, steps=2), "market/basis"

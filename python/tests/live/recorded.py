@@ -18,7 +18,7 @@ from cogmaula.live.broker_link import Arrived, Message
 from cogmaula.live.frames import READS, WRITES, frame_of
 from cogmaula.live.node import Node
 from cogmaula.live.recording import numbered_files
-from cogmaula.live.settings import Settings
+from cogmaula.live.node_settings import Settings
 
 
 def matches(topic, pattern):

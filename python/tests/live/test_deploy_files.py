@@ -18,9 +18,9 @@ from cogmaula.deploy.files import Places
 from cogmaula.deploy.node_files import tables_of
 from cogmaula.deploy.site_plan import SitePlan
 from cogmaula.deploy.toml_text import toml_text
-from cogmaula.deploy.tree import tree_of
+from cogmaula.deploy.market_file import tree_of
 from cogmaula.live import Node, settings_of
-from cogmaula.live.kinds import DeviceKind
+from cogmaula.live.device_kinds import DeviceKind
 from cogmaula.live.rights import Right, united
 from cogmaula.live.site_settings import site_settings_of
 

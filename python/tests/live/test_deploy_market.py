@@ -17,9 +17,9 @@ from cogmaula.agent.links import Basis, NodeLink, Setpoint
 from cogmaula.agent.mqtt import BrokerPlace
 from cogmaula.deploy import Member, add_device
 from cogmaula.live.control_frames import Offer
-from cogmaula.live.given import LimitsMessage
+from cogmaula.live.given_limits import LimitsMessage
 from cogmaula.live.operating import drop, give_limits
-from cogmaula.live.settings import BrokerSettings, read_toml
+from cogmaula.live.node_settings import BrokerSettings, read_toml
 
 
 @pytest.fixture

@@ -22,7 +22,7 @@ from cogmaula.cli import main
 from cogmaula.history import Row, open_database, rows_of
 from cogmaula.history.days import span_of
 from cogmaula.live.broker_link import Message
-from cogmaula.live.errors import BadMessage, BadSettings
+from cogmaula.live.node_errors import BadMessage, BadSettings
 from cogmaula.live.frames import BIDS, Bid, frame_of
 from cogmaula.live.messages import LapseMessage, SilentMessage
 from cogmaula.live.topics import Topics

@@ -15,7 +15,7 @@ from recorded import Lines, RecordedMarket, files_of
 from cogmaula.cli import main
 from cogmaula.judge import NoRecording, judge
 from cogmaula.live.frames import Bid, Offer, Send
-from cogmaula.live.errors import LiveError
+from cogmaula.live.node_errors import LiveError
 
 
 def found(lines, live):

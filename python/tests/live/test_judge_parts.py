@@ -14,7 +14,7 @@ from cogmaula.judge.frame_words import words_of, words_of_bytes
 from cogmaula.judge.reading import Start
 from cogmaula.judge.restarts import Giving, Keeping
 from cogmaula.judge.service_life import Late, Running
-from cogmaula.live.errors import LiveError
+from cogmaula.live.node_errors import LiveError
 from cogmaula.live.frames import (
     Bound,
     Clear,

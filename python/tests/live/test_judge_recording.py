@@ -16,7 +16,7 @@ from recorded import Lines, RecordedMarket, contents_of, files_of
 from cogmaula.judge import judge
 from cogmaula.live import BadSettings, compressing, recording
 from cogmaula.live.frames import Clear, Send
-from cogmaula.live.settings import settings_of
+from cogmaula.live.node_settings import settings_of
 
 FIRST = relay_resume(1, 0, 0, numbers((1, 1)))
 

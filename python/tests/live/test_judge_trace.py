@@ -35,9 +35,9 @@ from cogmaula.judge.merging import Merge
 from cogmaula.judge.reading import recordings_in
 from cogmaula.judge.session_tree import markets_of
 from cogmaula.judge.tracing import trace_of
-from cogmaula.limits import MOST_EVENTS
+from cogmaula.program_limits import MOST_EVENTS
 from cogmaula.live.frames import MOST, Clear, Expire, Leave, Offer, Send
-from cogmaula.live.settings import PriceSettings
+from cogmaula.live.node_settings import PriceSettings
 
 
 class Plain:

@@ -16,7 +16,7 @@ from logged import QUIET, log_to
 from cogmaula.live.broker import Broker
 from cogmaula.live.broker_link import Confirmed, Message, Publication, Settled
 from cogmaula.live.connection import Waiting, words_of, words_of_end
-from cogmaula.live.settings import BrokerSettings
+from cogmaula.live.node_settings import BrokerSettings
 
 STATE, WILL = "market/house/state", Publication("market/house/state", b"down")
 TOPICS = [STATE, "market/house/setpoint", "market/street/price/2"]

@@ -13,7 +13,7 @@ from hypothesis import strategies as st
 
 from cogmaula.live.lapses import Lapses
 from cogmaula.live.silence import Heartbeat, Silence
-from cogmaula.live.times import Times
+from cogmaula.live.market_times import Times
 
 TIMES = Times.of(None, None, None)
 SECONDS = 600

@@ -15,10 +15,10 @@ from pretended import BASIS, MOMENT, SESSION, bid, settings
 
 from cogmaula.cli import main
 from cogmaula.live import fencing
-from cogmaula.live.errors import LiveError
+from cogmaula.live.node_errors import LiveError
 from cogmaula.live.frames import BIDS, Bid, frame_of
 from cogmaula.live.messages import BasisMessage, StateMessage
-from cogmaula.live.settings import BrokerSettings
+from cogmaula.live.node_settings import BrokerSettings
 from cogmaula.live.silence import Heartbeat
 
 TREE = """

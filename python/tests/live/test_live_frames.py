@@ -6,8 +6,8 @@ import pytest
 from hypothesis import given
 from hypothesis import strategies as st
 
-from cogmaula.live.errors import BadFrame
-from cogmaula.live.kinds import DeviceKind
+from cogmaula.live.node_errors import BadFrame
+from cogmaula.live.device_kinds import DeviceKind
 from cogmaula.live.frames import (
     BIDS,
     CHILDREN,

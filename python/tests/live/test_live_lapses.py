@@ -10,8 +10,8 @@ from pretended import BASIS_TOPIC, LATER, MARKED, basis_payload, bid, device_res
 from cogmaula.live import BadSettings
 from cogmaula.live.frames import Expire, Old, Send, TooMuch
 from cogmaula.live.lapses import Lapses
-from cogmaula.live.settings import ChildSettings
-from cogmaula.live.times import Times
+from cogmaula.live.node_settings import ChildSettings
+from cogmaula.live.market_times import Times
 
 TIMES = Times(validity=100, heartbeat=25, grace=125)
 

@@ -47,7 +47,7 @@ from cogmaula.live.frames import (
 from cogmaula.live.messages import SetpointMessage
 from cogmaula.live.page_settings import PageSettings
 from cogmaula.live.price_table import PriceTable
-from cogmaula.live.settings import PriceSettings
+from cogmaula.live.node_settings import PriceSettings
 
 RELAY_RESUME = relay_resume(1, 0, 0, numbers((1, 1), (2, 4)))
 # Prices for all children together, and each by a topic of its own.

@@ -7,7 +7,7 @@ from brokers import SECONDS, Mosquitto, Onlooker, require_broker
 from cogmaula.live.messages import LapseMessage, StateMessage
 from cogmaula.live.operating import drop
 from cogmaula.live.sessions import now_text
-from cogmaula.live.settings import BrokerSettings
+from cogmaula.live.node_settings import BrokerSettings
 
 
 def test_a_device_that_is_back_at_once_was_let_go(tmp_path):

@@ -18,7 +18,7 @@ from pretended import MOMENT, settings
 from told import Told, village
 
 from cogmaula.live import BadSettings, BrokerSettings, PageSettings
-from cogmaula.live import page as page_file
+from cogmaula.live import market_page
 from cogmaula.live.board import Board
 from cogmaula.live.showing import Showing, reading_settings
 
@@ -156,7 +156,7 @@ def test_changes_are_told_at_most_twice_a_second(served):
 
 
 def test_a_view_is_told_again_after_a_silence(served, monkeypatch):
-    monkeypatch.setattr(page_file, "SILENCE", 0.2)
+    monkeypatch.setattr(market_page, "SILENCE", 0.2)
 
     async def two():
         async with served.socket() as one:
@@ -168,7 +168,7 @@ def test_a_view_is_told_again_after_a_silence(served, monkeypatch):
 
 def test_nothing_is_made_while_nobody_looks(served, monkeypatch):
     made = []
-    monkeypatch.setattr(page_file, "view_of", lambda *_: made.append(1) or Told().view())
+    monkeypatch.setattr(market_page, "view_of", lambda *_: made.append(1) or Told().view())
     for index in range(8, 40):
         served.board.take(Told().price("auctioneer", 1, 6, index, 5).messages.values())
         time.sleep(0.01)
@@ -215,7 +215,7 @@ def test_only_so_many_may_look(served):
 
 def test_connections_that_ask_for_nothing_are_ended(served, monkeypatch):
     """Else they would take all the files that a node may open."""
-    monkeypatch.setattr(page_file, "PATIENCE", 1.0)
+    monkeypatch.setattr(market_page, "PATIENCE", 1.0)
     silent = [socket.create_connection(("127.0.0.1", served.page.port)) for _ in range(160)]
     for connection in silent:
         connection.settimeout(5)
@@ -234,7 +234,7 @@ def test_connections_that_ask_for_nothing_are_ended(served, monkeypatch):
 
 def test_a_client_that_never_reads_is_ended_and_holds_nobody_up(monkeypatch):
     """Its view is larger than all that the system keeps for a connection."""
-    monkeypatch.setattr(page_file, "PATIENCE", 8.0)
+    monkeypatch.setattr(market_page, "PATIENCE", 8.0)
     told = village()
     for number in range(400):
         told.state(f"device{number}", "device", "street", 9, why="y" * 30_000)
@@ -278,7 +278,7 @@ def test_a_port_that_is_taken_is_a_line_and_tried_again():
 
 
 def test_a_view_that_fails_is_a_line_and_says_so(served, monkeypatch):
-    monkeypatch.setattr(page_file, "view_of", lambda *_: 1 // 0)
+    monkeypatch.setattr(market_page, "view_of", lambda *_: 1 // 0)
     assert "ZeroDivisionError" in served.view()["fault"]
     served.board.lost()
     time.sleep(0.6)
@@ -287,7 +287,7 @@ def test_a_view_that_fails_is_a_line_and_says_so(served, monkeypatch):
 
 
 def test_a_page_that_fails_leaves_the_node_alone(tmp_path, monkeypatch, caplog):
-    monkeypatch.setattr(page_file.Page, "_serve", lambda _: 1 // 0)
+    monkeypatch.setattr(market_page.Page, "_serve", lambda _: 1 // 0)
     showing = Showing(settings("relay", tmp_path, page=PageSettings("127.0.0.1:0")), QUIET)
     showing.start()
     wait_until(lambda: caplog.messages, "the line")

@@ -13,7 +13,7 @@ from markets import STEPS, Market, falls_at
 
 from cogmaula.live import BrokerSettings, PageSettings
 from cogmaula.live.board import Board
-from cogmaula.live.reader import Reader
+from cogmaula.live.market_reader import Reader
 
 WHOLE, OWN = PageSettings("127.0.0.1:0", whole=True), PageSettings("127.0.0.1:0")
 

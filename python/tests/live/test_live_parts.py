@@ -15,9 +15,9 @@ from pretended import BASIS, LATER, MOMENT, SESSION, device_resume, resume_gone
 
 from cogmaula.live.asking import Asking
 from cogmaula.live.control import StandardControl
-from cogmaula.live.errors import BadMessage
+from cogmaula.live.node_errors import BadMessage
 from cogmaula.live.frames import Leave, Offer, Points, Setpoint, Stated, frames_of
-from cogmaula.live.kinds import DeviceKind
+from cogmaula.live.device_kinds import DeviceKind
 from cogmaula.live.messages import BackMessage, BasisMessage, OfferMessage, SetpointMessage, StateMessage
 from cogmaula.live.offers import Offers
 from cogmaula.live.sessions import Session, new_session, time_of, time_text

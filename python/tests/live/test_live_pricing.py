@@ -9,7 +9,7 @@ from pretended import BASIS, LATER, MARKED, bid, device_resume, gone, numbers, p
 
 from cogmaula.live.frames import Dropped, Old, OtherBasis, Setpoint
 from cogmaula.live.price_table import PriceTable
-from cogmaula.live.settings import PriceSettings
+from cogmaula.live.node_settings import PriceSettings
 
 TOGETHER, SINGLE = PriceSettings(True), PriceSettings(False)
 TABLE = "market/street/prices"

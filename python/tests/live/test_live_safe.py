@@ -27,16 +27,16 @@ from pretended import (
     state_payload,
 )
 
-from cogmaula.live import BadSettings, NodeRefused, bids
+from cogmaula.live import BadSettings, NodeRefused, kept_bids
 from cogmaula.live.board import Board
 from cogmaula.live.broker_link import Message
 from cogmaula.live.children import Heard
 from cogmaula.live.frames import Leave, NotCaughtUp, NotChanged, Offer, Send, Setpoint
 from cogmaula.live.messages import LOST
 from cogmaula.live.page_settings import PageSettings
-from cogmaula.live.reader import Reader
+from cogmaula.live.market_reader import Reader
 from cogmaula.live.sessions import now_text, time_text
-from cogmaula.live.settings import BrokerSettings, ChildSettings
+from cogmaula.live.node_settings import BrokerSettings, ChildSettings
 from cogmaula.live.silence import Heartbeat
 from cogmaula.live.topics import Topics
 
@@ -75,8 +75,8 @@ def with_sum(joined, **more):
 
 def test_the_bids_of_a_sum_are_on_disk_before_its_resume_and_are_fed_after_a_restart(joined, monkeypatch):
     done = []
-    make_safe = bids.BidLog.make_safe
-    monkeypatch.setattr(bids.BidLog, "make_safe", lambda frames, told: (done.append(sorted(told)), make_safe(frames, told)))
+    make_safe = kept_bids.BidLog.make_safe
+    monkeypatch.setattr(kept_bids.BidLog, "make_safe", lambda frames, told: (done.append(sorted(told)), make_safe(frames, told)))
     one = joined("relay")
     save = one.node._store.save
     monkeypatch.setattr(one.node._store, "save", lambda stored: (done.append("resume") if stored.frame else None, save(stored)))
@@ -103,7 +103,7 @@ HEARD = [Heard(bid(1, number, number, 0), "device", "house", 150.0) for number i
 
 @pytest.mark.parametrize("change", [lambda data: data[:-1], lambda data: data[:-9] + b"x" + data[-8:], lambda data: data + b"half a li"])
 def test_a_cut_or_damaged_line_ends_the_file_and_it_goes_on_behind_the_whole_ones(tmp_path, change):
-    log = bids.BidLog(tmp_path, 2)
+    log = kept_bids.BidLog(tmp_path, 2)
     assert log.begin(SESSION) == []
     for heard in HEARD:
         log.make_safe({1: heard})
@@ -120,13 +120,13 @@ def test_a_cut_or_damaged_line_ends_the_file_and_it_goes_on_behind_the_whole_one
 
 
 def test_the_file_of_bids_does_not_grow_without_end(tmp_path, monkeypatch):
-    monkeypatch.setattr(bids, "SPARE", 8)
-    log = bids.BidLog(tmp_path, 2)
+    monkeypatch.setattr(kept_bids, "SPARE", 8)
+    log = kept_bids.BidLog(tmp_path, 2)
     log.begin(SESSION)
     for number in range(2, 80, 2):
         log.make_safe({1: Heard(bid(1, number, 5, 0), "device", "house", 150.0)})
     (path,) = tmp_path.glob("*.bids")
-    assert path.read_bytes().count(b"\n") <= 2 + bids.SPARE
+    assert path.read_bytes().count(b"\n") <= 2 + kept_bids.SPARE
     log.close()
     assert log.begin(SESSION)[0].frame.number == 78
     log.close()

@@ -12,7 +12,7 @@ import pytest
 from brokers import SECONDS
 from pretended import BASIS
 
-from cogmaula.live.errors import LiveError
+from cogmaula.live.node_errors import LiveError
 from cogmaula.live.frames import Dropped, OutOfNumbers, WindowFull
 from cogmaula.live.service import Came, Ended, Service
 

@@ -10,7 +10,7 @@ from pretended import BASIS, settings
 
 from cogmaula.cli import main
 from cogmaula.commands import node as command
-from cogmaula.live.kinds import DeviceKind
+from cogmaula.live.device_kinds import DeviceKind
 from cogmaula.live import BadSettings, BadStore, BrokerSettings, NodeRefused, Settings, make_node, read_toml, settings_of
 from cogmaula.live.topics import Topics
 

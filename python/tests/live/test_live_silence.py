@@ -13,7 +13,7 @@ from cogmaula.live.frames import Setpoint
 from cogmaula.live.messages import BasisMessage
 from cogmaula.live.sessions import time_of, time_text
 from cogmaula.live.silence import Heartbeat, Silence
-from cogmaula.live.times import Times
+from cogmaula.live.market_times import Times
 
 TIMES = Times(validity=100, heartbeat=25, grace=125)
 NOW = datetime(2026, 1, 31, 6, 30, tzinfo=timezone.utc)

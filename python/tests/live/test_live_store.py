@@ -10,7 +10,7 @@ from hypothesis import strategies as st
 from pretended import BASIS, LATER, MOMENT, SESSION
 
 from cogmaula.cluster import Basis
-from cogmaula.live.errors import BadStore
+from cogmaula.live.node_errors import BadStore
 from cogmaula.live.messages import SetpointMessage
 from cogmaula.live.store import Store, Stored
 

@@ -14,7 +14,7 @@ from looking import get, require_page
 from cogmaula import Basis, Battery, Cluster, Concentrator, Limited, Load, Solar, run
 from cogmaula.cli import main
 from cogmaula.live.frames import Offer, Stated
-from cogmaula.live.kinds import DeviceKind
+from cogmaula.live.device_kinds import DeviceKind
 from cogmaula.live.messages import BackMessage, SetpointMessage, SilentMessage
 from cogmaula.live.page_settings import PageSettings
 from cogmaula.simulation import BidMaker

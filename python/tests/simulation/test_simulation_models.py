@@ -27,10 +27,10 @@ from cogmaula.simulation import (
     Solar,
     Stated,
     Vehicle,
-    making,
+    demands,
 )
 from cogmaula.simulation.device import offer_of
-from cogmaula.simulation.kinds import ClusterDevice
+from cogmaula.simulation.kind_models import ClusterDevice
 
 NOON = datetime(2026, 6, 1, 12)
 TEN = Basis(0, 9, 10)
@@ -73,10 +73,10 @@ def test_points_as_the_plain_auction_has_them(live, data):
 def test_a_program_makes_what_is_new_alone_and_a_long_stream_is_followed_by_another(live, monkeypatch):
     """Ten offers are more than an agent keeps. Points at a price of their own, from price 0 on: 10 at price 0, and none from price 5 on."""
     opened, asked = [], []
-    start, ask = making._Agent.start, BidMaker._ask
-    monkeypatch.setattr(making._Agent, "start", lambda self: (opened.append(1), start(self))[1])
+    start, ask = demands._Agent.start, BidMaker._ask
+    monkeypatch.setattr(demands._Agent, "start", lambda self: (opened.append(1), start(self))[1])
     monkeypatch.setattr(BidMaker, "_ask", lambda self, offers: (asked.append(len(offers)), ask(self, offers))[1])
-    monkeypatch.setattr(making, "LONGEST", making.ROOM + 200)
+    monkeypatch.setattr(demands, "LONGEST", demands.ROOM + 200)
     offers = {f"d{at}": offer_of([(0, 10 + at), (5, 0)], TEN, "d") for at in range(10)}
     with BidMaker(TEN, live) as maker:
         assert maker.demands({"load": offer_of(3, TEN, "load")}) == {"load": (3,) * 10} and not opened

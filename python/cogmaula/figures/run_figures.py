@@ -16,9 +16,9 @@ from ..nodes import Battery, Limited
 from ..phases import Tick
 from ..runs import Run
 from ..states import snapshots
-from .plain import WITHOUT_RULE, plain_powers
-from .supply import connection_in, prices_asked
-from .values import BatteryUse, Figures, NoConnection, Peak
+from .plain_rules import WITHOUT_RULE, plain_powers
+from .supplier_tariffs import connection_in, prices_asked
+from .figure_values import BatteryUse, Figures, NoConnection, Peak
 
 
 def figures_of(run: Run, connection: str | None = None, currency: Currency | None = None) -> Figures:

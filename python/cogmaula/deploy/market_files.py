@@ -8,14 +8,14 @@ from __future__ import annotations
 from collections.abc import Mapping
 from pathlib import Path
 
-from ..live.errors import BadSettings
-from ..live.settings import Settings
+from ..live.node_errors import BadSettings
+from ..live.node_settings import Settings
 from . import broker_files, history_files, installing, node_files, site_files
 from .containers import compose_text
 from .files import OPEN, RUN, SECRET, Places, text_of, write_file
 from .keys import make_authority, make_certificate, make_passwords
 from .toml_text import toml_text
-from .tree import Member, Tree, read_tree
+from .market_file import Member, Tree, read_tree
 
 # The file of the market itself, with the number of each node, and the folder of its CA.
 TREE, AUTHORITY = "tree.toml", "authority"

@@ -4,7 +4,7 @@ from __future__ import annotations
 
 from dataclasses import dataclass
 
-from .errors import BadSettings
+from .node_errors import BadSettings
 
 # How much longer than validity grace has to be, at least. Clocks within 1 % of each other take a fiftieth of it.
 MARGIN = 1.25

@@ -6,9 +6,9 @@ import re
 from collections.abc import Iterator
 
 from .. import schema
-from ..limits import MOST_DEPTH, MOST_NAME_BYTES
+from ..program_limits import MOST_DEPTH, MOST_NAME_BYTES
 from ..nodes import AUCTIONEER
-from .finding import File, Finding, Node, close, listed, number
+from .findings import File, Finding, Node, close, listed, number
 
 CONCENTRATORS = ("concentrator", "limited")
 LETTERS = re.compile(r"[A-Za-z0-9_-]")

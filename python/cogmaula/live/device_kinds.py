@@ -6,7 +6,7 @@ from collections.abc import Mapping
 from dataclasses import dataclass
 from typing import Any
 
-from .errors import BadFrame
+from .node_errors import BadFrame
 from .frame import MOST
 
 _TEMPERATURE = 1_000_000

@@ -24,7 +24,7 @@ from .connection import (
     words_of_refusal,
 )
 from .rights import SHOWN
-from .settings import BrokerSettings
+from .node_settings import BrokerSettings
 from .topics import Topics
 
 # The seconds without a retained message after which the broker has told all that it retains of a topic.

@@ -12,11 +12,11 @@ from typing import Any
 
 from ..cluster import Basis
 from ..program import live_command
-from .errors import BadFrame, BadSettings
+from .node_errors import BadFrame, BadSettings
 from .frames import CHILDREN, MOST, Sort, are_limits, is_basis
-from .kinds import DeviceKind
+from .device_kinds import DeviceKind
 from .page_settings import PageSettings
-from .times import Times
+from .market_times import Times
 from .toml_tables import read_tables, table_of, value_of
 from .topics import OF_CHILDREN, Topics, require_name, require_prefix
 

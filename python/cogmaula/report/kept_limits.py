@@ -8,7 +8,7 @@ from dataclasses import dataclass
 from ..nodes import Limited
 from ..runs import Run
 from ..texts import GroupEnd
-from .times import Interval
+from .intervals import Interval
 
 
 @dataclass(frozen=True)

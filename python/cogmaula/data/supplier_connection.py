@@ -10,7 +10,7 @@ from pathlib import Path
 from typing import TYPE_CHECKING, Any
 from zoneinfo import ZoneInfo
 
-from ..frames import pandas
+from ..data_frames import pandas
 from ..tariffs import Hours, Tariff, households
 from .faults import RecipeFault, TableFault
 from .recipe import PRICE_UNITS, PriceTable, Window, at_place, maps_of, refuse_words, text_of, typed, window_of

@@ -12,7 +12,7 @@ from typing import Any, Literal, cast
 from urllib.parse import urlsplit
 
 from ..cluster import Basis
-from ..live.errors import BadSettings
+from ..live.node_errors import BadSettings
 from ..live.frames import CHILDREN, Sort
 from ..live.rights import (
     Place,
@@ -24,7 +24,7 @@ from ..live.rights import (
     rights_of_reader,
     united,
 )
-from ..live.settings import PriceSettings
+from ..live.node_settings import PriceSettings
 from ..live.toml_tables import read_tables, require_types, table_of, value_of
 from ..live.topics import Topics, require_name
 from .site_plan import SitePlan, require_sites, site_plan_of

@@ -14,12 +14,12 @@ import numpy
 
 from ..calls import ask
 from ..cluster import Cluster
-from ..limits import MOST_TARGET
+from ..program_limits import MOST_TARGET
 from ..nodes import AUCTIONEER, Manual
 from ..phases import Events, State, Tick
 from ..program import Program
 from ..states import Bid
-from .values import NoConnection
+from .figure_values import NoConnection
 
 # So many targets are asked for in one call: fewer than the most that the program takes.
 AT_ONCE = 50_000

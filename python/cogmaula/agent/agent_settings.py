@@ -9,8 +9,8 @@ from dataclasses import dataclass
 from pathlib import Path
 from typing import Any
 
-from ..live.errors import BadFrame, BadSettings
-from ..live.kinds import DeviceKind
+from ..live.node_errors import BadFrame, BadSettings
+from ..live.device_kinds import DeviceKind
 from ..live.toml_tables import read_tables, value_of
 from ..live.topics import require_name, require_prefix
 from ..simulation import Battery, Boiler, Cogeneration, Device, HeatPump, Load, Solar, Vehicle
@@ -19,7 +19,7 @@ from .homeassistant import Entities, HomeAssistantPlace
 from .links import HubLink, HubPlace, Link, NodeLink
 from .modbus import Modbus, ModbusPlace
 from .mqtt import BrokerPlace, Mqtt, MqttPlace
-from .plain import Command, CommandPlace, Csv, CsvPlace, Http, HttpPlace
+from .plain_sources import Command, CommandPlace, Csv, CsvPlace, Http, HttpPlace
 from .stated import StatedDevice
 
 TABLES = ("agent", "market", "device", "limits", "state", "setpoint", "homeassistant")

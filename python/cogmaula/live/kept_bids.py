@@ -13,7 +13,7 @@ from collections.abc import Mapping
 from pathlib import Path
 
 from .children import Heard
-from .errors import BadFrame
+from .node_errors import BadFrame
 from .frames import BIDS, Bid, Gone, frame_of
 from .safely import replace_safely, with_path
 from .sessions import Session

@@ -20,12 +20,12 @@ from ..texts import Bill
 from ..whole import whole_run
 from .bills import Currency, Span, bill_with_supplier, bills_of
 from .flexibility import Flexibility, flexibility_of
-from .limits import Group, groups_of
-from .times import Interval, intervals_of
+from .kept_limits import Group, groups_of
+from .intervals import Interval, intervals_of
 
 if TYPE_CHECKING:
-    from ..data.supply import Supply
-    from .course import Course
+    from ..data.supplier_connection import Supply
+    from .long_course import Course
 
 # The minutes of a bill's span if the user names none.
 SPAN = 60
@@ -74,9 +74,9 @@ def findings_of(
 ) -> Findings:
     """Runs a cluster and finds what its report tells. The arguments are those of `report`."""
     # These need numpy, which the command line does without until a page is made.
-    from ..figures.finding import figures_of
-    from ..figures.supply import connection_in
-    from .course import Course
+    from ..figures.run_figures import figures_of
+    from ..figures.supplier_tariffs import connection_in
+    from .long_course import Course
 
     program, data = program or found_program(), bytes_of(source)
     cluster = source if isinstance(source, Cluster) else Cluster.from_json(data)

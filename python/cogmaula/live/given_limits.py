@@ -9,7 +9,7 @@ import json
 from dataclasses import dataclass
 from datetime import datetime, timezone
 
-from .errors import BadMessage
+from .node_errors import BadMessage
 from .frames import RelayResume, are_limits
 from .messages import object_of
 from .sessions import now_text, time_of

@@ -15,7 +15,7 @@ from ..members import Points, whole
 from ..moments import later, moment_of
 from ..nodes import Battery, Load, Manual, Node, Solar
 from ..phases import Event, Events, Phase, State, Tick
-from ..reader import node_of
+from ..cluster_reader import node_of
 from .faults import RecipeFault, TableFault
 from .looks import Look, looks_of
 from .recipe import Recipe, Table, read_recipe

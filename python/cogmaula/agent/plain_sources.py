@@ -11,8 +11,8 @@ import urllib.request
 from dataclasses import dataclass
 from pathlib import Path
 
-from ..live.errors import BadSettings
-from .values import NoReading, NotWritten, Place, number_in, require_pointer, text_with
+from ..live.node_errors import BadSettings
+from .device_values import NoReading, NotWritten, Place, number_in, require_pointer, text_with
 
 # The most bytes of an answer.
 LONGEST = 65_536
