@@ -44,10 +44,10 @@ class Controlling:
         self._told = None
 
     def setpoint(self, keeping: Keeping, setpoint: Setpoint, moment: str, now: float, has_bid: bool) -> None:
-        """Stores a setpoint and then tells it, so that after a restart the control is told none that is older.
+        """Stores a setpoint and then tells it, so that after a restart the control is told no older one.
 
-        One of the same offer and step is only noted: the control takes what it was told before. With the next heartbeat it is told that it
-        is of a later clearing.
+        A setpoint of the same offer and step is only noted: the control keeps what it was told. With the next heartbeat it is told the
+        later clearing.
 
         moment: when the market cleared
         """
@@ -70,7 +70,7 @@ class Controlling:
         keeping.change(setpoint=told, references=references)
 
     def tick(self, now: float, has_bid: bool, setpoint: SetpointMessage | None = None) -> None:
-        """Tells what is news.
+        """Tells the control what is new: silence, that the market is back, or its setpoint.
 
         has_bid:  whether the node has a bid at its parent, which it renews
         setpoint: the stored one, None without one

@@ -1,4 +1,4 @@
-"""The Prices of the parent as a node feeds them to its service: the newest alone, and none that is not new."""
+"""The Prices of the parent as a node feeds them to its service: only the newest, and only if it is new."""
 
 from __future__ import annotations
 
@@ -34,7 +34,7 @@ class PriceFeed:
     def due(self, now: float, heartbeat: float) -> Price | None:
         """The Price that the service has to be fed now, None if there is none. It counts as fed.
 
-        One that gives the same power as the one before is not new, and waits for one heartbeat.
+        A Price that gives the same power as the one before is not new, and waits for one heartbeat.
         """
         price = self._newest
         if price is None or not self._is_due(price, now, heartbeat):

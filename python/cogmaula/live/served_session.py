@@ -1,9 +1,9 @@
-"""What a node has in one session: made complete as the session begins, and let go of as it ends.
+"""What a node has in one session: it is made when the session begins, and let go when it ends.
 
 Here is what the node hears for its service, and what the service writes, frame by frame. A Resume is stored, on disk and then at the
-broker, before a frame behind it is published. A relay's or a device's Resume is not stored before the broker has confirmed the prices or
-the setpoint before it. So a crash between the two gives them again. What is recorded is recorded first: a frame before it is fed or
-handled, and all on disk before a Resume is stored.
+broker, before a frame behind it is published. A relay's or a device's Resume is stored only after the broker has confirmed the prices or
+the setpoint before it. So after a crash between the two they are given again. The recording comes first: it has a frame before that is
+fed or handled, and it is on disk before a Resume is stored.
 """
 
 from __future__ import annotations
@@ -299,8 +299,8 @@ class ServedSession:
     def _keep(self, resume: Resume) -> None:
         """Stores a Resume, before any frame behind it is handled. Raises OSError, and then the node has to end.
 
-        The bids of the children that are in it are safe on disk before. One of a device with another price alone is noted, and stored
-        with the next change: a device may come back with an older price.
+        The bids of the children that are in it are safe on disk before. If a device's Resume differs only in the price, it is noted, and
+        stored with the next change: a device may come back with an older price.
         """
         before, self.resume = self.resume, resume
         noted: dict[str, object] = {"basis": self._settings.basis, "frame": resume.to_bytes(), "time": now_text()}

@@ -61,7 +61,7 @@ class Silence:
         self.begin(Times(), time.monotonic())
 
     def begin(self, times: Times, now: float) -> None:
-        """Begins a session: for a while it counts as if a heartbeat had come now."""
+        """Begins a session, as if a heartbeat had come now."""
         self.times = times
         # The newest heartbeat, when it came, the same by the clock of this machine (RFC 3339), and when the bid was sent that the
         # broker confirmed last.
@@ -75,8 +75,8 @@ class Silence:
     def hear(self, beat: Heartbeat, now: float, retained: bool) -> bool:
         """Takes a heartbeat, and says whether it is newer than the one before.
 
-        One that the broker had kept may have been made long ago. Only its age is taken from the clocks of two machines: it is no younger
-        than now, and no older than the one that this node heard before it.
+        A heartbeat that the broker had kept may be old. Its age alone is taken from the clocks of two machines. It counts as heard no later
+        than now, and no earlier than the one before it.
         """
         if self.newest is not None and beat <= self.newest:
             return False

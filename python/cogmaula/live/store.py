@@ -1,9 +1,13 @@
 """A node's Resume on disk: one file for each session of the auctioneer, replaced as a whole, checked when it is read.
 
 A file has a line that says what it is, the SHA-256 of that and of all behind it, a line of JSON, and the bytes of the Resume or ResumeGone.
-The JSON has the node, its sort, the session and the basis that the Resume is of, the time it was stored, the frame's length in
-bytes, of a device the newest setpoint, the references of its offers and until when the newest offer holds, and of a parent which
-children are relays, which were let go, and the limits that it was given last. Beside them is the count of the node's starts.
+The JSON has
+
+- of each node its name, its sort, the session and the basis of the Resume, when it was stored, and the frame's length in bytes;
+- of a device the newest setpoint, the references of its offers, and until when the newest offer holds;
+- of a parent which children are relays, which were let go, and the limits that it was given last.
+
+Beside these files is the count of the node's starts.
 """
 
 from __future__ import annotations

@@ -32,8 +32,8 @@ class Group:
 
     loads:      the sum of the bids below it over each interval, in watts
     prices:     the price below it over each interval
-    outside:    at how many phases' ends it was outside its limits, with those that last no time
-    violations: when it was outside them, one behind another
+    outside:    at how many phases' ends it was outside its limits, also of phases that last no time
+    violations: when it was outside them, in the order of time
     """
 
     name: str
