@@ -9,6 +9,7 @@ A page is a file in Markdown. The doc comments of crates/ are read for their sen
 finding and ends with 'N passed, M failed'. It refuses
 
 - a link inside the repository to a file that is not there, or to a heading that its page has not;
+- a link that names one file and leads to another, as after a file was renamed;
 - a link that goes over the end of a line, which an installed page cannot have;
 - a README above 8 KB;
 - a mean above 17 words a sentence, over the README and the pages of docs/, and over the doc comments of all crates;
@@ -38,6 +39,7 @@ OTHERS = {"out", "build", "__pycache__"}
 # Words of the field and of the tools that codespell may take for slips.
 IGNORED_WORDS = "antt,crate,crates,kok,omega,setpoint,setpoints"
 
+FILE = re.compile(r"[\w./-]*\.(?:antt|json|md|py|rs|rt|sh|svg|toml|txt)")
 PATH = re.compile(r"(?<![\w/.@:-])(?:\.{0,2}/)?[\w.@-]+(?:/[\w.@-]+)*/?(?![\w@-])")
 REPORT = re.compile(r" {4,}((?:phase \d|member [\w-]+ power -?\d|limited [\w-]+ price -?\d|end phases \d).*)")
 
@@ -101,6 +103,17 @@ def dead_links(page: Path) -> Iterator[str]:
             yield f"{name_of(page)}: the link {link} leads out of the repository: name what is in it"
         elif anchor and (target.suffix != ".md" or anchor not in anchors_of(target)):
             yield f"{name_of(page)}: the link {link} leads to no heading of {name_of(target)}: correct it"
+
+
+def misnamed_links(page: Path) -> Iterator[str]:
+    """The links of a page whose words are the name of a file other than the one that they lead to."""
+    for found in LINK.finditer(prose_of(page.read_text())):
+        words, link = re.sub(r"[`\\]", "", found.group(1)), found.group(2)
+        if not FILE.fullmatch(words) or re.match(r"[a-z]+:", link):
+            continue
+        target = target_of(page, link)
+        if Path(words).name != target.name:
+            yield f"{name_of(page)}: the link {words} leads to {target.name}: name that"
 
 
 def path_named(page: Path, words: str) -> Path | None:
@@ -284,6 +297,7 @@ def check() -> int:
     """Runs all checks, prints the findings and answers the status."""
     checks: list[Callable[[], Iterator[str]]] = [long_readme, long_sentences, names_of_no_source]
     checks += [lambda page=page: dead_links(page) for page in pages()]
+    checks += [lambda page=page: misnamed_links(page) for page in pages()]
     checks += [lambda page=page: broken_lines(page) for page in pages()]
     checks += [lambda page=page: paths_without_a_link(page) for page in pages()]
     checks += [lambda page=page: reports_of_no_example(page) for page in pages()]
