@@ -1,6 +1,7 @@
 """What stands between the market's setpoint and a device: its bounds, its pace, its minimum times, and its fallback in silence.
 
-It looks at no clock of the day: all times are seconds of a clock that only rises, so a jump of the machine's clock changes nothing.
+It looks at no clock of the day: all times are seconds of a clock that only rises, so a jump of the machine's clock changes nothing. The
+fallback does not wait for minimum times.
 """
 
 from __future__ import annotations

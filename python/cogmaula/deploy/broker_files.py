@@ -13,7 +13,8 @@ MIB = 1_048_576
 AUTOSAVE = 10
 # The longest packet that it takes, in bytes.
 MOST_PACKET = 32_768
-# More messages than the bytes that wait can be.
+# More messages than the bytes that wait can be. Without a limit by count, mosquitto 2.0.11 ends the connection of whoever publishes what
+# is refused.
 MOST_MESSAGES = 1_000_000
 # What the limits count for each connection, and what a broker takes without one, in bytes.
 BY_CONNECTION, WITHOUT = 65_536, 64 * MIB

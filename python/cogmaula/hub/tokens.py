@@ -1,7 +1,8 @@
 """The file of tokens: a line an agent, `AGENT CHILD SHA256-OF-TOKEN`. A blank line, or one that begins with #, does not count.
 
 A token is drawn from 256 random bits. The file has its SHA-256 alone, from which nobody gets it back. Only its owner can read it, who
-is the owner of its folder: so a hub that runs as a user of its own can read a file in its own folder, whoever draws the tokens.
+is the owner of its folder: so a hub that runs as a user of its own can read a file in its own folder, whoever draws the tokens. A
+credential of the unit would be a copy from its start, and each new agent would need a new start.
 """
 
 from __future__ import annotations

@@ -1,4 +1,5 @@
-"""What a parent tells its children: the newest Price for each, in one table for all, or each by a topic of its own.
+"""What a parent tells its children: the newest Price for each, in one table for all, or each by a topic of its own. A message for each
+device and clearing was the limit of a market.
 
 What is not new is not told. A Price with the number and the step of the one before gives the child the same power. In a topic of its
 own such a Price waits for one heartbeat. In the table the index moves for all, and the child's node decides what is new for its service.

@@ -1,7 +1,8 @@
 """A site: many nodes of a market in one process, in one loop and over one connection to the broker.
 
 The nodes are those of `cogmaula node`, each with its own process of `live`, its own folder and its own topics. A node has no thread: the
-loop moves the bytes of its service, hands it what came, and lets it look at the clock.
+loop moves the bytes of its service, hands it what came, and lets it look at the clock. It is no loop of asyncio, since a node is driven by
+calls, and paho gives its socket to any loop.
 """
 
 from __future__ import annotations

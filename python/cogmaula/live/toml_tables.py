@@ -1,7 +1,7 @@
 """Reads settings: the tables of a TOML file, and each table as the dataclass that declares its members.
 
 All settings files are read here: of nodes, hubs, agents, trees and the history. A refusal names the place, what was given there, and
-what may be given.
+what may be given. Debian's pydantic (1.10) refuses `min = "2"` without what was given.
 """
 
 from __future__ import annotations

@@ -1,6 +1,7 @@
 """The server's end of one WebSocket, or of one request of HTTP, over asyncio's streams. A page and a hub serve by it.
 
-The package websockets gives the protocol, without input and output. So whoever accepts a connection also bounds it.
+The package websockets gives the protocol, without input and output. So whoever accepts a connection also bounds it. Debian's is 10.4,
+whose server half loads its legacy half by itself: none of our code names it.
 """
 
 from __future__ import annotations

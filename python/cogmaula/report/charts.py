@@ -217,6 +217,7 @@ def draw_heat(hours: Hours, powers: Mapping[str, Any]) -> Figure:
         figure = new_figure(high=high, left=min(0.4, 0.035 + 0.014 * longest), bottom=0.85 / high, top=1 - 0.15 / high, right=0.94)
         axes = figure.add_subplot()
         most = max(1.0, float(numpy.abs(rows).max()))
+        # A house takes hundreds of watts beside a connection of tens of kilowatts.
         norm = SymLogNorm(linthresh=max(1.0, most / 1000), vmin=-most, vmax=most)
         edges = numpy.array(hours.edges)
         even = resampled(rows, edges)
