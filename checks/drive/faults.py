@@ -1,4 +1,5 @@
-"""Standard streams that fail: input that ends or fails at each byte, or comes in small pieces, and output that takes no more.
+"""Standard streams that fail: input that fails, ends, waits or comes in pieces, at each byte; output that is full, closed or without a
+reader; a stop and a continuation.
 
 Everything goes through the system's own edges. A read fails if the other end of a socket was closed with bytes unread; pieces
 of a known size come through a socket that keeps packets apart; a file takes no more at a limit of the process on its files.

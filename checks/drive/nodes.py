@@ -2,8 +2,10 @@
 
     python3 -m checks.drive.nodes LIVE MARKET [all]
 
-The bids of a device's control are compared with those of the program MARKET too. With `all` many more streams are tried, and
-those of a gigabyte.
+The inputs are rows worked by hand (checks/make/nodes.py, with the examples of docs/RELAY.md), and random streams that often begin with a
+stored Resume. Streams end or fail at each byte, and some arguments name no node. Nodes are killed between any two bytes and come back with
+the newest whole Resume: no number is of two bids. What `live device` bids over a day of examples/village.json, by kinds, states and points,
+is what the program MARKET bids (checks/drive/control.py). With `all` many more streams are tried, and those of a gigabyte.
 """
 
 import os

@@ -1,5 +1,5 @@
-"""Hostile schedules: few processors, a loaded machine, threads that cannot be started, little room for addresses. Each run has to
-give the text that it gives anywhere, and a trace that checks/oracle/judge.py finds legal."""
+"""Hostile schedules: one and two processors, low priority, 20 programs at once, 20 busy loops, threads that cannot be started, little
+room for addresses. Each run has to give the text that it gives anywhere, and a trace that checks/oracle/judge.py finds legal."""
 
 import itertools
 import os

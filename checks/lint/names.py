@@ -1,6 +1,6 @@
-"""Whether each concept has one home: one meaning a name, one place a lemma, one name a limit. And whether what is written
-can be read: no line above a limit, no clause above 100 columns, no definition named by a bare participle, a comment on each
-public lemma.
+"""Whether each concept has one home: one meaning a name, one place a lemma (up to the names of its variables), one name a limit.
+And whether what is written can be read: no line above 160 bytes, no clause above 100 columns, no definition named by a bare
+participle, a comment on each public lemma, a first line of each file that says what it is for.
 
 Looks at the sources, definitions and proofs of all crates, tests and comments left out. Prints a line for each finding
 and ends with 'N passed, M failed'.
