@@ -1,6 +1,6 @@
 """What a page shows of a market: the tree with prices, bids, powers and limits, made of the market's newest messages.
 
-Each figure tells the clearing that it is of. What the messages do not tell is None. docs/OPERATE.md has the members.
+Each figure tells the clearing that it is of. What the messages do not tell is None. `GET /view` of a page has these members as JSON.
 """
 
 from __future__ import annotations
