@@ -134,23 +134,44 @@ fn close_all(
         let Some(ends) = places.pop() else {
             unreachable!()
         };
-        logs.push(close_one(link, ends))?;
+        let log = close_one(alloc, link, ends)?;
+        logs.push(log)?;
     }
     logs.reverse();
     Ok(logs)
 }
 
 /// Closes a link, if its two ends came back.
-fn close_one(link: FreeLink, ends: Places) -> Option<LinkLog>
+fn close_one(alloc: Global, link: FreeLink, ends: Places) -> Result<Option<LinkLog>, AllocError>
     requires { IsPlaced link ends }
-    ensures log { IfSome result IsLogOfLink }
-    ensures closed { (nodes : List Node) → (place : ℕ) → IsReturned nodes place ends →
-        IfSome result (ClosedLink nodes place) }
-    ensures both { (child : LinkEnd) (parent : LinkEnd) → ends.up ≡ Some child →
-        ends.down ≡ Some parent → result ≡ None → ⊥ }
+    ensures log { IfOk result (λ log. IfSome log IsLogOfLink) }
+    ensures closed { IfOk result (λ log. (nodes : List Node) → (place : ℕ) →
+        IsReturned nodes place ends → IfSome log (ClosedLink nodes place)) }
+    ensures both { IfOk result (λ log. (child : LinkEnd) (parent : LinkEnd) →
+        ends.up ≡ Some child → ends.down ≡ Some parent → log ≡ None → ⊥) }
 {
     match (ends.up, ends.down) {
-        (Some(child), Some(parent)) => Some(close_link(link, child, parent)),
-        _ => None,
+        (Some(child), Some(parent)) => {
+            let log = close_link(link, child, parent);
+            let kept = without_room(alloc, &log)?;
+            Ok(Some(kept))
+        }
+        _ => Ok(None),
     }
+}
+
+/// The same log in as much memory as it fills: a link has room for more numbers than it takes, and logs are kept for all phases.
+fn without_room(alloc: Global, log: &LinkLog) -> Result<LinkLog, AllocError>
+    ensures bid_puts { IfOk result (λ kept. kept.bid_puts.items ≡ log.now.bid_puts.items) }
+    ensures bid_takes { IfOk result (λ kept. kept.bid_takes.items ≡ log.now.bid_takes.items) }
+    ensures price_puts { IfOk result (λ kept. kept.price_puts.items ≡ log.now.price_puts.items) }
+    ensures price_takes { IfOk result (λ kept.
+        kept.price_takes.items ≡ log.now.price_takes.items) }
+{
+    Ok(LinkLog {
+        bid_puts: log.bid_puts.to_vec(alloc)?,
+        bid_takes: log.bid_takes.to_vec(alloc)?,
+        price_puts: log.price_puts.to_vec(alloc)?,
+        price_takes: log.price_takes.to_vec(alloc)?,
+    })
 }
