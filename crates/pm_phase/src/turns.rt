@@ -33,8 +33,8 @@ pub(crate) struct Phase<'a, G> {
     pub(crate) moved: &'a AtomicU64,
 }
 
-/// A thread ends after so many rounds of its nodes, one after another, during which no thread moved a message. Between two of them
-/// it pauses and does not yield: what it leaves is taken to its end on the caller's thread.
+/// A thread ends after so many rounds of its nodes in a row during which no thread moved a message. Between two such rounds it
+/// pauses and does not yield. The caller's thread ends what it leaves.
 const PATIENCE: u32 = 30;
 
 /// Makes rounds of some nodes, as many as it may, or until nothing moves any more.
@@ -129,8 +129,8 @@ fn turn<G: Gate>(phase: &Phase<'_, G>, links: &[FreeLink], node: &mut FreeNode) 
     }
 }
 
-/// A device makes its next change, puts the bid that waits, and holds the price that came; whether it did any of these. Where
-/// memory is wanting it makes no change.
+/// A device makes its next change, puts the bid that waits, and holds the price that came; whether it did any of these. If
+/// memory runs out, it makes no change.
 fn device_turn<G: Gate>(
     phase: &Phase<'_, G>,
     links: &[FreeLink],
@@ -157,7 +157,7 @@ fn device_turn<G: Gate>(
     made || put || heard
 }
 
-/// A device makes its next change; whether it made one. Where memory is wanting it makes none.
+/// A device makes its next change; whether it made one. If memory runs out, it makes none.
 fn make_next<G: Gate>(phase: &Phase<'_, G>, number: u32, device: &mut DevicePart) -> bool
     ensures keeps { (before : ℕ) → (changes : List Next) → (end : LinkEnd) →
         IfSome (slice_get phase.now.changes.now number) (λ list. list.items ≡ changes) →
@@ -173,8 +173,8 @@ fn make_next<G: Gate>(phase: &Phase<'_, G>, number: u32, device: &mut DevicePart
         .unwrap_or(false)
 }
 
-/// A node with children makes its bid, clears the market, or passes a price on; whether it did any of these. Where memory is
-/// wanting it makes no bid.
+/// A node with children makes its bid, clears the market, or passes a price on; whether it did any of these. If memory
+/// runs out, it makes no bid.
 #[tactic(auto, using(crate::proofs::PartsMove::send_moves))]
 fn send(alloc: Global, parent: &mut ParentPart) -> bool
     ensures moves { PartMovesOn parent.old parent.new }
@@ -185,7 +185,7 @@ fn send(alloc: Global, parent: &mut ParentPart) -> bool
     cleared || made || passed
 }
 
-/// A concentrator makes its next bid; whether it made one. Where memory is wanting it makes none.
+/// A concentrator makes its next bid; whether it made one. If memory runs out, it makes none.
 #[tactic(auto, using(crate::proofs::PartsMove::made_or_not))]
 fn make_next_bid(alloc: Global, parent: &mut ParentPart) -> bool
     ensures moves { PartMovesOn parent.old parent.new }

@@ -5,8 +5,8 @@ use pm_market::Line;
 use pm_nodes::Gate;
 use std::sync::Wait;
 
-/// Makes the turns of the nodes whose threads could not be started, in rotation, until the run is over. Where a phase can be
-/// closed it is closed between two rotations, which the gate is told for node 0.
+/// Makes the turns of the nodes whose threads could not be started, in rotation, until the run is over. If a phase can be
+/// closed, it is closed between two rotations. The gate is told of this as a turn of node 0.
 pub(crate) fn serve_in_rotation<R: Wait, G: Gate>(rt: &R, shared: Shared, gate: &G, nodes: &[u32]) {
     let Some(first) = nodes.first() else {
         return;
@@ -39,14 +39,14 @@ fn serve_once<R: Wait, G: Gate>(rt: &R, shared: Shared, gate: &G, node: u32) -> 
     turn.over
 }
 
-/// Closes the open phase where nothing is pending still. It rings by the worker of a node that this thread serves.
+/// Closes the open phase if still nothing is pending. It rings by the worker of a node that this thread serves.
 fn close<R: Wait, G: Gate>(rt: &R, shared: Shared, gate: &G, served: u32) {
     gate.before(0);
     let line = close_by(rt, shared, served);
     gate.after(0, line);
 }
 
-/// The line of the closing, where the phase was closed.
+/// Closes the open phase if still nothing is pending, and gives the line of that.
 fn close_by<R: Wait>(rt: &R, shared: Shared, served: u32) -> Option<Line> {
     let Some(own) = shared.workers.get(served as usize) else {
         give_up(rt, shared);

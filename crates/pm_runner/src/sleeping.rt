@@ -14,12 +14,12 @@ pub(crate) struct Berth {
 }
 
 impl Pending {
-    /// Where a node without work goes to sleep: a device with those that wait for the same thing.
+    /// Where a node without work goes to sleep. Devices that wait for the same thing share a bell.
     ///
-    /// A device is near its next work if many devices change in the open phase, and it awaits the price of one in which it changes
-    /// itself, or the opening of such a phase. So many sleeps would cost more than all the moves, and a yield lets those go on that
-    /// still move. Where few change, the processors have nobody else to serve, and on a machine that is busy with other work each
-    /// yield waits for all of that.
+    /// A device is near its next work if many devices change in the open phase, and it awaits the price of a phase in which it
+    /// changes itself, or the opening of such a phase. If all of these devices slept, their sleeps would cost more than all the
+    /// moves; a yield lets the nodes go on that still move. If few devices change, a yield serves nobody, and on a machine that is
+    /// busy with other work it waits for all of that.
     ///
     /// A device that only awaits the price of the changes of others has a whole phase to wait. Its yields would keep the processors
     /// from those that move, so it sleeps at once, and so does a parent, which waits for all its children. Before the first phase

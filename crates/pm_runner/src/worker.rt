@@ -174,7 +174,7 @@ pub(crate) fn turn_at_desk<'a, 'p, R: Wait>(
     end_turn(shared, &mut worker.rings, node, desk, line)
 }
 
-/// Makes a node's task where it is none that is worked out without the lock.
+/// Makes a node's task, unless it is a change, which is worked out without the lock.
 fn moved(desk: &mut Desk, node: u32, task: Task) -> Option<Line> {
     match task {
         Task::Move => desk.move_node(node),
@@ -183,7 +183,7 @@ fn moved(desk: &mut Desk, node: u32, task: Task) -> Option<Line> {
     }
 }
 
-/// Works a change of a device out, without the lock, and makes it.
+/// Works out a device's change without the lock, and makes it under the lock.
 fn change<'p, R: Wait>(
     rt: &R,
     shared: Shared<'_, 'p>,
@@ -261,7 +261,7 @@ fn rest_at(shared: Shared, desk: &mut Desk, node: u32) -> Option<Rest> {
     Some(Rest { bell, rung })
 }
 
-/// Frees the lock, and rings the bells of those that the hold gave work.
+/// Frees the lock, and rings the bells of the nodes that got work while it was held.
 pub(crate) fn let_go<'a, 'p>(
     shared: Shared<'a, 'p>,
     rings: &mut Rings,
@@ -281,7 +281,7 @@ pub(crate) fn let_go<'a, 'p>(
     rings.clear();
 }
 
-/// Yields the processor for a while, as long as the bell is not rung.
+/// Yields the processor for a while, at most until the bell is rung.
 fn yield_at(shared: Shared, rest: Rest) {
     let Some(bell) = shared.bells.get(rest.bell as usize) else {
         return;

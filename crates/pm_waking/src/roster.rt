@@ -104,8 +104,7 @@ impl Roster {
         self.totals.changing
     }
 
-    /// Puts what is pending at a node in the place of what was. If the node sleeps and has work now, it is awake, and its bell is
-    /// to be rung.
+    /// Replaces what is pending at a node. If the node slept and has work now, it is awake, and its bell is to be rung.
     pub fn set(&mut self, number: u32, node: NodePending)
         ensures node { number < length self.old.entries →
             pending_at self.new.entries number ≡ Some node }
@@ -168,7 +167,7 @@ impl Roster {
         entry.wake(&mut self.rings);
     }
 
-    /// Hands out the bells that are to be rung, for a list without any.
+    /// Hands out the bells that are to be rung, and takes the caller's list in exchange, which should have none.
     pub fn hand_out(&mut self, rings: &mut Rings)
         ensures given { rings.new ≡ self.old.rings }
         ensures taken { self.new.rings ≡ rings.old }
@@ -179,7 +178,7 @@ impl Roster {
 }
 
 impl Totals {
-    /// Of no node.
+    /// The totals of no node.
     fn none() -> Totals
         ensures { IsKept [] result }
     {

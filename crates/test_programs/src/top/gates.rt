@@ -16,7 +16,7 @@ use std::thread::Threads;
 /// The files that are run.
 const FILES: &[&str] = &[TWO_BIDS, FEEDER, VILLAGE];
 
-/// The commands that are tried. What is due of each is the text of the first; of a trace moves stand behind it.
+/// The commands that are tried. Each has to write the text of the first; a trace has moves behind it.
 const COMMANDS: &[&str] = &["run", "trace", "free"];
 
 /// A command has the text that is due under a gate, which is made anew for it. A trace is valid.
