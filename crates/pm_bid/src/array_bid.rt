@@ -177,7 +177,7 @@ impl ArrayBid {
         self.first_at_most(0, counter)
     }
 
-    /// The first step whose demand is at most the limit, and the last step if there is no such one.
+    /// The first step whose demand is at most the limit, or the last step if no demand is.
     #[tactic(auto, using(crate::proofs::FoundStep::first_at_most_is_first))]
     pub fn first_at_most<L: Ledger>(&self, limit: i64, counter: &mut Steps<L>) -> usize
         ensures step { result ≡ first_at_most limit self.now }
@@ -191,7 +191,7 @@ impl ArrayBid {
         find_at_most(&self.demands, limit, counter)
     }
 
-    /// The last step whose demand is at least the limit, and step 0 if there is no such one.
+    /// The last step whose demand is at least the limit, or step 0 if no demand is.
     #[tactic(auto, using(crate::proofs::FoundStep::last_at_least_is_last))]
     pub fn last_at_least<L: Ledger>(&self, limit: i64, counter: &mut Steps<L>) -> usize
         ensures step { result ≡ last_at_least limit self.now }
@@ -205,10 +205,10 @@ impl ArrayBid {
         find_at_least(&self.demands, limit, counter)
     }
 
-    /// The step of the nodes of a part with limited power, if this is the sum of their bids and the whole clears at
-    /// `step`. If the sum there lies within the limits, it is that step. If the sum is above the ceiling, it is the
-    /// first step at which it is at most the ceiling. If it is below the floor, it is the last step at which it is at
-    /// least the floor. Bounding a part's power in this way is this project's own profile.
+    /// The local step of the nodes below a limited concentrator. This bid is the sum of theirs, and the market clears at
+    /// `step`. If the sum there lies within the limits, the answer is that step. If the sum is above the ceiling, it is the
+    /// first step at which the sum is at most the ceiling. If the sum is below the floor, it is the last step at which the
+    /// sum is at least the floor. Bounding a part's power in this way is this project's own profile.
     pub fn step_within<L: Ledger>(
         &self,
         limits: &Limits,
@@ -264,10 +264,10 @@ impl ArrayBid {
         clamp_each(&self.demands, floor, ceiling, &mut target.demands, counter);
     }
 
-    /// The step that a relay of the market across machines passes down, if this is the sum of its children's bids and the
-    /// market above clears at `step`. It is the nearest of the steps from the first at most the ceiling to the last at least
-    /// the floor. If there are none, it is the first at most the ceiling. To settle for a step in this way is this project's
-    /// own profile.
+    /// The step that a relay of the market across machines passes down. This bid is the sum of its children's, and the market
+    /// above clears at `step`. The least step that it may pass is [`ArrayBid::first_at_most`] the ceiling, the greatest
+    /// [`ArrayBid::last_at_least`] the floor. The answer is the step from the least to the greatest that is nearest to `step`.
+    /// If the greatest is below the least, it is the least. To settle for a step in this way is this project's own profile.
     pub fn settled_step<L: Ledger>(
         &self,
         limits: &Limits,
