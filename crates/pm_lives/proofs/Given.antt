@@ -27,8 +27,6 @@ use Rattle.pm_basis.specs.Prices.{BasisValue}
 use Rattle.pm_services.specs.RelaySetups.{RelaySetup}
 use Rattle.pm_lives.specs.DeviceWrites.{agent_after}
 use Rattle.pm_lives.specs.Lives.{setup_of}
-use Rattle.pm_relay.specs.Numbers.{child_number}
-use Rattle.pm_services.specs.Receipts.{sender_place}
 use Rattle.pm_system.specs.System.{System, with_agent, with_relay, with_root}
 use Rattle.pm_system.specs.Given.{IsDemand, IsTreeMarket}
 use Rattle.pm_lives.specs.Outputs.{Output}
@@ -214,8 +212,6 @@ module _ (tree : Lists) (p : Pricing) (numbering : Numbering) (market : IsTreeMa
         conc = did.conc;
         limited = did.limited;
         relay = did.relay;
-        may = λ giver is some. same_limits world.seen c giver (child_number (world.relay_kept c).numbers (sender_place giver)) (world.relay_kept c).limits
-            (did.may giver is some);
         after = did.after;
         outs = did.outs;
         learns = did.learns;
@@ -235,6 +231,7 @@ module _ (tree : Lists) (p : Pricing) (numbering : Numbering) (market : IsTreeMa
         conc = did.conc;
         runs = did.runs;
         may = relay_may (setup_of numbering world c) world.seen c frame did.may le;
+        passes = did.passes;
         after = did.after;
         outs = did.outs;
         writes = did.writes;

@@ -9,6 +9,8 @@ mod DeviceMoves
 pub mod Handing
 mod Beginning
 mod WorldStands
+mod Learnt
+mod LearntWorlds
 mod Living
 pub mod Answering
 pub mod Carrying

@@ -56,6 +56,7 @@ use Rattle.pm_lives.proofs.RootMoves.{RootExpiringIsTwoCalls, root_answers}
 use Rattle.pm_lives.proofs.DeviceMoves.{device_answers}
 use Rattle.pm_lives.proofs.Handing.{all_in_then, handed_in, handed_values, stored_may}
 use Rattle.pm_lives.proofs.Beginning.{relay_begins, root_begins, device_begins, within_stored}
+use Rattle.pm_lives.proofs.LearntWorlds.{AllGiven, step_given, new_given, may_be_learnt}
 use Rattle.pm_lives.proofs.WorldStands.{WorldStands, relay_ok_as, agent_ok_as, AgreesBut, stands_but, limits_carried, relay_may, root_may, device_may}
 
 -- ---- one step
@@ -81,7 +82,8 @@ record Done (lists : Lists) (p : Pricing) (numbering : Numbering) (sys : System)
   ups : (x : ℕ) → IsLeaf lists x → Ups x → StaysUp x calls
 
 module _ (lists : Lists) (p : Pricing) (numbering : Numbering) (market : IsTreeMarket lists p numbering) (goes : RunsGoOn) (two : ExpiringIsTwoCalls)
-    (root_two : RootExpiringIsTwoCalls) (world : World) (sys : System) (stands : WorldStands lists p numbering world sys) where
+    (root_two : RootExpiringIsTwoCalls) (world : World) (sys : System) (stands : WorldStands lists p numbering world sys)
+    (given : AllGiven lists p numbering world) where
   -- if x begins, no process of it ran before
   abbrev UpsOf : LifeStep → ℕ → Type 0
   UpsOf step x = lives.BeginsProcess x step → world.up x ≡ false
@@ -103,7 +105,7 @@ module _ (lists : Lists) (p : Pricing) (numbering : Numbering) (market : IsTreeM
       began.stands (world.terms c).giver stored did.after did.outs
       (λ giver is some. limits_carried lists p numbering world.seen began.new began_sent c giver
       (child_number stored.numbers (sender_place giver)) stored.limits
-      (did.may giver is some)) did.learns in
+      (may_be_learnt lists p numbering world given c did.conc giver is some)) did.learns in
       let f = l.follows in
       let first : List (Output StoredRelay) = take n did.outs in
       let base : System = with_relay world.seen c did.after.relay in
@@ -563,8 +565,9 @@ module _ (lists : Lists) (p : Pricing) (numbering : Numbering) (market : IsTreeM
   ]
 
   lives_from : (steps : List LifeStep) (world : World) (before : List NodeCall) (sys : System) → SystemRuns lists p numbering start before sys →
-      WorldStands lists p numbering world sys → (new : World) → Live lists p numbering world steps new → RunsFrom before world steps new
-  lives_from [] world before sys runs stands new live = record {
+      WorldStands lists p numbering world sys → AllGiven lists p numbering world → (new : World) → Live lists p numbering world steps new →
+      RunsFrom before world steps new
+  lives_from [] world before sys runs stands given new live = record {
     calls = [];
     sys = sys;
     runs = subst (λ (l : List NodeCall). SystemRuns lists p numbering start l sys) (sym (append-nil before)) runs;
@@ -572,11 +575,11 @@ module _ (lists : Lists) (p : Pricing) (numbering : Numbering) (market : IsTreeM
     stands = subst (λ (w : World). WorldStands lists p numbering w sys) live stands;
     ups = λ d leaf once. tt;
   }
-  lives_from (step ∷ steps) world before sys runs stands new live =
+  lives_from (step ∷ steps) world before sys runs stands given new live =
       let has : RunsTheMarket lists p numbering before sys = run lists p numbering start sys before market started runs in
-      let done = step_done lists p numbering market goes two root_two world sys stands before has step live.0 live.1 in
+      let done = step_done lists p numbering market goes two root_two world sys stands given before has step live.0 live.1 in
       let rest = lives_from steps live.0 (before ++ done.calls) done.new (runs_on lists p numbering before done.calls start sys done.new runs done.runs)
-      done.stands new live.2 in
+      done.stands (step_given lists p numbering world given step live.0 live.1) new live.2 in
       record {
         calls = done.calls ++ rest.calls;
         sys = rest.sys;
@@ -591,7 +594,8 @@ module _ (lists : Lists) (p : Pricing) (numbering : Numbering) (market : IsTreeM
   pub lives_are_calls : (world new : World) (steps : List LifeStep) → IsNewWorld p numbering world → Live lists p numbering world steps new →
       LivesAreCalls lists p numbering start steps new
   lives_are_calls world new steps none live =
-      let all = lives_from steps world [] start refl (new_stands lists p numbering market world start none started) new live in
+      let all = lives_from steps world [] start refl (new_stands lists p numbering market world start none started)
+      (new_given lists p numbering world none) new live in
       record {
         calls = all.calls;
         sys = all.sys;
@@ -633,5 +637,6 @@ module _ (lists : Lists) (p : Pricing) (numbering : Numbering) (market : IsTreeM
   pub lives_stand : (world new : World) (steps : List LifeStep) → IsNewWorld p numbering world → Live lists p numbering world steps new →
       LivesStand steps new
   lives_stand world new steps none live =
-      let all = lives_from steps world [] start refl (new_stands lists p numbering market world start none started) new live in
+      let all = lives_from steps world [] start refl (new_stands lists p numbering market world start none started)
+      (new_given lists p numbering world none) new live in
       record { calls = all.calls; sys = all.sys; runs = all.runs; stands = all.stands; up = λ d leaf once. all.ups d leaf (inr (none.up d, once)) }

@@ -52,6 +52,7 @@ does_13 = record {
   outs = [];
   writes = inl
       (record { learnt = heard w12 0 4 2; looks = inr ((λ h. omega (arith, h.came_back)), refl); waiting_reply = []; tries = (refl, refl); replied = refl });
+  passes = λ giver is same. absurd cc;
   handled = inr refl;
   new_is = refl;
 }
@@ -107,6 +108,7 @@ does_14 = record {
     tries = (refl, refl);
     replied = refl;
   };
+  passes = tt;
   handled = inl (omega arith);
   new_is = refl;
 }
@@ -118,7 +120,6 @@ does_15 = record {
   conc = (omega arith, omega arith, refl);
   limited = refl;
   relay = (relay_back 2 0 0 (w14.relay_kept 1).numbers);
-  may = λ giver is some. absurd cc;
   after = record { relay = (relay_back 2 0 0 (w14.relay_kept 1).numbers); waiting = None };
   outs = [];
   learns = (refl, refl);
@@ -167,6 +168,7 @@ does_16 = record {
             (refl, refl);
         replied = refl;
       });
+  passes = λ giver is same. absurd cc;
   handled = inr refl;
   new_is = refl;
 }
@@ -219,6 +221,7 @@ does_17 = record {
     tries = (refl, refl);
     replied = refl;
   });
+  passes = λ giver is same. absurd cc;
   handled = inl (omega arith);
   new_is = refl;
 }
@@ -315,6 +318,7 @@ does_20 = record {
       replied = refl;
     },
   );
+  passes = tt;
   handled = inl (omega arith);
   new_is = refl;
 }

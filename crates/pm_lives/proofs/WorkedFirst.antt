@@ -34,7 +34,6 @@ does_2 = record {
   conc = (omega arith, omega arith, refl);
   limited = refl;
   relay = (relay_back 0 0 0 (replicate most_nodes 0));
-  may = λ giver is some. absurd cc;
   after = record { relay = (relay_back 0 0 0 (replicate most_nodes 0)); waiting = None };
   outs = [];
   learns = (refl, refl);
@@ -108,6 +107,7 @@ does_7 = record {
   outs = [];
   writes = inl
       (record { learnt = heard w6 0 2 2; looks = inr ((λ h. omega (arith, h.came_back)), refl); waiting_reply = []; tries = (refl, refl); replied = refl });
+  passes = λ giver is same. absurd cc;
   handled = inr refl;
   new_is = refl;
 }
@@ -133,6 +133,7 @@ does_8 = record {
   outs = [];
   writes = inl
       (record { learnt = heard w7 1 2 3; looks = inr ((λ h. omega (arith, h.came_back)), refl); waiting_reply = []; tries = (refl, refl); replied = refl });
+  passes = λ giver is same. absurd cc;
   handled = inr refl;
   new_is = refl;
 }
@@ -187,6 +188,7 @@ does_9 = record {
     tries = (refl, refl);
     replied = refl;
   };
+  passes = tt;
   handled = inl (omega arith);
   new_is = refl;
 }

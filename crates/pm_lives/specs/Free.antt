@@ -24,7 +24,7 @@ use Rattle.pm_services.specs.RelaySetups.{RelaySetup}
 use Rattle.pm_system.specs.System.{System, with_root, with_relay, with_agent}
 use Rattle.pm_system.specs.Given.{IsDemand, IsTreeMarket, IsStarted}
 use Rattle.pm_lives.specs.Outputs.{Output, PriceWasSent}
-use Rattle.pm_lives.specs.RelayLife.{RelayMayRead}
+use Rattle.pm_lives.specs.RelayLife.{RelayMayRead, PassesGiver}
 use Rattle.pm_lives.specs.RelayWrites.{WritesRelay}
 use Rattle.pm_lives.specs.RootLife.{RootMayRead}
 use Rattle.pm_lives.specs.RootWrites.{WritesRoot}
@@ -72,6 +72,7 @@ pub record RelayReadsFree (lists : Lists) (p : Pricing) (numbering : Numbering) 
   pub conc : IsConcentrator lists c
   pub runs : world.up c ≡ true
   pub may : RelayIsFree lists p numbering (setup_of numbering world c) world.seen c frame
+  pub passes : PassesGiver (world.terms c).giver frame
   pub after : WaitingRelay
   pub outs : List (Output StoredRelay)
   pub writes : WritesRelay (setup_of numbering world c) (record { relay = world.seen.relays c; waiting = world.waiting c }) frame after outs

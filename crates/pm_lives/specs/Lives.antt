@@ -33,7 +33,7 @@ use Rattle.pm_services.specs.RelaySetups.{RelaySetup}
 use Rattle.pm_system.specs.System.{System, bid_in_channel, price_in_channel, with_root, with_relay, with_agent, with_setpoints, with_bid_sent, with_prices_sent}
 use Rattle.pm_system.specs.Calls.{NodeCall, SystemRuns, StaysUp, bid_kept}
 use Rattle.pm_lives.specs.Outputs.{Output, Up, Down, Keeps, Tells, Says, BidWasSent, PriceWasSent}
-use Rattle.pm_lives.specs.RelayLife.{CarriesLimits, RelayMayRead, relay_number, no_relay_stored}
+use Rattle.pm_lives.specs.RelayLife.{CarriesLimits, RelayMayRead, PassesGiver, relay_number, no_relay_stored}
 use Rattle.pm_lives.specs.RelayWrites.{WritesRelay, WritesKept}
 use Rattle.pm_lives.specs.RootLife.{RootMayRead, root_number}
 use Rattle.pm_lives.specs.RootWrites.{WritesRoot}
@@ -103,7 +103,8 @@ let_go_at_root lists numbering seen frame let_go' = let_go'
 
 -- ---- one step of a life
 
--- the limits in a Resume, if there is a place in which the relay is given some, are those of a message that was handed out
+-- the limits that are stored of a relay, if there is a place in which it is given some and it was, are those of a message of its giver, which
+-- was handed out
 abbrev pub KeptMayBeLearnt : Lists → Pricing → Numbering → World → ℕ → Type 0
 KeptMayBeLearnt lists p numbering world c =
     (giver : ℕ) → (world.terms c).giver ≡ Some giver → 0 < child_number (world.relay_kept c).numbers (sender_place giver) →
@@ -115,7 +116,6 @@ pub record RelayBegins (lists : Lists) (p : Pricing) (numbering : Numbering) (wo
   pub conc : IsConcentrator lists c
   pub limited : p.limits c no_changes ≡ Some (world.terms c).limits
   pub relay : RelayValue
-  pub may : KeptMayBeLearnt lists p numbering world c
   pub after : WaitingRelay
   pub outs : List (Output StoredRelay)
   pub learns : WritesKept (world.terms c).giver (setup_of numbering world c) (record { relay = relay; waiting = None }) (world.relay_kept c) after outs
@@ -133,6 +133,7 @@ pub record RelayReads (lists : Lists) (p : Pricing) (numbering : Numbering) (wor
   pub conc : IsConcentrator lists c
   pub runs : world.up c ≡ true
   pub may : RelayMayRead lists p numbering (setup_of numbering world c) world.seen c frame
+  pub passes : PassesGiver (world.terms c).giver frame
   pub after : WaitingRelay
   pub outs : List (Output StoredRelay)
   pub writes : WritesRelay (setup_of numbering world c) (record { relay = world.seen.relays c; waiting = world.waiting c }) frame after outs

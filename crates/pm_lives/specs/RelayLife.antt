@@ -19,6 +19,7 @@ use Rattle.pm_frames.specs.declared.relay.RelayFrame.{RelayFrame}
 use Rattle.pm_frames.specs.declared.relay.RelayFrame.TheVariants.{Child, Parent, Send, Expire, Bound, Resume}
 use Rattle.pm_frames.specs.declared.relay.RelayFrame.TheVariants as given
 use Rattle.pm_frames.specs.Terms.{giver_number}
+use Rattle.pm_services.specs.Receipts.{sender_place}
 use Rattle.pm_services.specs.RelayAnswers.{WaitingRelay}
 use Rattle.pm_services.specs.RelaySetups.{RelaySetup}
 use Rattle.pm_system.specs.System.{System, bid_in_channel, price_in_channel}
@@ -132,6 +133,23 @@ RelayMayRead lists p numbering setup sys c (Resume stored) = ⊥
 -- by an Expire the child with that number is let go, under the parent's next number for it; by no other frame is any
 abbrev pub LetsGo : Lists → Numbering → (y sender number d n : ℕ) → Type 0
 LetsGo lists numbering y sender number d n = (parent lists d ≡ y) × (sender ≡ numbering.place d + 1) × (n ≡ number)
+
+-- a child's number is not that of the place in which a relay is given its limits
+abbrev pub IsNoGiver : Option ℕ → ℕ → Type 0
+IsNoGiver giver' sender = (giver : ℕ) → giver' ≡ Some giver → sender_place sender ≡ sender_place giver → ⊥
+
+-- no Bid, Gone or Expire is of that place: such a one is a bad frame
+abbrev pub PassesGiver : Option ℕ → RelayFrame → Type 0
+PassesGiver giver (Child (Hello basis)) = ⊤
+PassesGiver giver (Child (Bid sender number demand)) = IsNoGiver giver sender
+PassesGiver giver (Child (Gone sender number)) = IsNoGiver giver sender
+PassesGiver giver (Child Clear) = ⊤
+PassesGiver giver (Parent frame) = ⊤
+PassesGiver giver Send = ⊤
+PassesGiver giver (Expire sender) = IsNoGiver giver sender
+PassesGiver giver (given.Limits number limits) = ⊤
+PassesGiver giver (Bound sender bound) = ⊤
+PassesGiver giver (Resume stored) = ⊤
 
 -- the number under which a relay lets a child go
 abbrev pub relay_number : System → ℕ → ℕ → ℕ

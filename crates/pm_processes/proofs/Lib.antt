@@ -1,5 +1,6 @@
 mod Runs
 mod Offers
+mod Streams
 pub mod RelayRuns
 pub mod RootRuns
 pub mod DeviceRuns

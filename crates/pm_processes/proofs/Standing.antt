@@ -34,6 +34,7 @@ use Rattle.pm_lives.specs.Lives.{World, LifeStep, setup_of, handed_out, stored_l
 use Rattle.pm_lives.specs.Free.{LivesFree1, LiveFree, DeviceIsFree}
 use Rattle.pm_lives.proofs.Handing.{handed_values}
 use Rattle.pm_processes.proofs.Offers.{AreDemands, newest_fits, stored_fits, after_fits}
+use Rattle.pm_processes.proofs.Streams.{RelayStream, relay_stream, relay_rest, relay_passes}
 use Rattle.pm_processes.specs.RelayProcess.{RelayExchange, RelayExchanges, setup_with}
 use Rattle.pm_processes.specs.RootProcess.{RootExchange, RootExchanges}
 use Rattle.pm_processes.specs.DeviceProcess.{IsAsked, DeviceExchange, DeviceExchanges, AnswersAgent}
@@ -48,7 +49,10 @@ pub record Follows (lists : Lists) (p : Pricing) (numbering : Numbering) (scene 
   -- so it is of each relay
   relays : (c : ℕ) → IsConcentrator lists c → scene.world.up c ≡ true →
       RelayExchanges (setup_of numbering scene.world c) (record { relay = scene.world.seen.relays c; waiting = scene.world.waiting c }) (scene.relay_next c)
-  -- and of each device
+  -- and these stand in its stream
+  relay_streams : (c : ℕ) → IsConcentrator lists c → scene.world.up c ≡ true →
+      RelayStream (scene.world.terms c) scene.world.basis (scene.relay_next c)
+  -- so it is of the auctioneer, and of each device
   root : scene.world.up 0 ≡ true → RootExchanges scene.world.basis scene.world.seen.root scene.root_next
   devices : (d : ℕ) → IsLeaf lists d → scene.world.up d ≡ true →
       DeviceExchanges p scene.world.basis (scene.world.seen.agents d) (scene.device_next d)
@@ -116,7 +120,8 @@ module _ (lists : Lists) (p : Pricing) (numbering : Numbering) (market : IsTreeM
 
     follows_but : (y : ℕ) (new : Scene) → Agrees y new →
         (IsConcentrator lists y → RelayExchanges (setup_of numbering world y)
-        (record { relay = new.world.seen.relays y; waiting = new.world.waiting y }) (new.relay_next y)) →
+        (record { relay = new.world.seen.relays y; waiting = new.world.waiting y }) (new.relay_next y)
+        × RelayStream (world.terms y) world.basis (new.relay_next y)) →
         (0 ≡ y → RootExchanges world.basis new.world.seen.root new.root_next) →
         (IsLeaf lists y → DeviceExchanges p world.basis (new.world.seen.agents y) (new.device_next y)
         × AreDemands p.steps (new.world.seen.agents y)) → Follows lists p numbering new
@@ -126,11 +131,18 @@ module _ (lists : Lists) (p : Pricing) (numbering : Numbering) (market : IsTreeM
           (new.relay_next c)) (sym (setup_as y c new agrees)) (elim (cases_eq c y) [
             | inl e ↦ subst (λ (z : ℕ). RelayExchanges (setup_of numbering world z)
                 (record { relay = new.world.seen.relays z; waiting = new.world.waiting z }) (new.relay_next z)) (sym e)
-                (relay (subst (λ (z : ℕ). IsConcentrator lists z) e conc))
+                (relay (subst (λ (z : ℕ). IsConcentrator lists z) e conc)).0
             | inr ne ↦ relay_as (setup_of numbering world c) (world.seen.relays c) (new.world.seen.relays c) (world.waiting c) (new.world.waiting c)
                 (old.relay_next c) (new.relay_next c) (agrees.relays c ne) (agrees.waiting c ne) (agrees.relay_next c ne)
                 (is.relays c conc (sym (agrees.up c ne) ∙ up))
           ]);
+      relay_streams = λ c conc up. subst (λ (b : BasisValue). RelayStream (new.world.terms c) b (new.relay_next c)) (sym agrees.basis)
+          (subst (λ (t : ℕ → RelayTerms). RelayStream (t c) world.basis (new.relay_next c)) (sym agrees.terms) (elim (cases_eq c y) [
+            | inl e ↦ subst (λ (z : ℕ). RelayStream (world.terms z) world.basis (new.relay_next z)) (sym e)
+                (relay (subst (λ (z : ℕ). IsConcentrator lists z) e conc)).1
+            | inr ne ↦ subst (λ (l : List RelayExchange). RelayStream (world.terms c) world.basis l) (sym (agrees.relay_next c ne))
+                (is.relay_streams c conc (sym (agrees.up c ne) ∙ up))
+          ]));
       root = λ up. subst (λ (b : BasisValue). RootExchanges b new.world.seen.root new.root_next) (sym agrees.basis) (elim (cases_eq 0 y) [
         | inl e ↦ root e
         | inr ne ↦ subst (λ (r : RootValue). RootExchanges world.basis r new.root_next) (sym (agrees.root ne))
@@ -195,7 +207,6 @@ module _ (lists : Lists) (p : Pricing) (numbering : Numbering) (market : IsTreeM
             conc = did.conc;
             limited = did.limited;
             relay = made.relay;
-            may = did.may;
             after = made.held;
             outs = made.outs;
             learns = subst (λ (b : BasisValue). WritesKept terms.giver (setup_with child terms b) (record { relay = made.relay; waiting = None })
@@ -209,10 +220,15 @@ module _ (lists : Lists) (p : Pricing) (numbering : Numbering) (market : IsTreeM
             new_is = ap (λ (s : Scene). s.world) did.new_is;
           };
           follows = subst (Follows lists p numbering) (sym did.new_is) (follows_but c after agrees
-              (λ conc. relay_as (setup_of numbering world c) made.held.relay (after.world.seen.relays c) made.held.waiting (after.world.waiting c)
-              made.exchanges (after.relay_next c) (ap (λ f. f c) values.0 ∙ updated_same world.seen.relays c made.held.relay)
-              (updated_same world.waiting c made.held.waiting) (updated_same old.relay_next c made.exchanges)
-              (subst (λ (b : BasisValue). RelayExchanges (setup_with child terms b) made.held made.exchanges) hello made.answers))
+              (λ conc. (
+                relay_as (setup_of numbering world c) made.held.relay (after.world.seen.relays c) made.held.waiting (after.world.waiting c)
+                    made.exchanges (after.relay_next c) (ap (λ f. f c) values.0 ∙ updated_same world.seen.relays c made.held.relay)
+                    (updated_same world.waiting c made.held.waiting) (updated_same old.relay_next c made.exchanges)
+                    (subst (λ (b : BasisValue). RelayExchanges (setup_with child terms b) made.held made.exchanges) hello made.answers),
+                subst (λ (l : List RelayExchange). RelayStream terms world.basis l) (sym (updated_same old.relay_next c made.exchanges))
+                    (subst (λ (b : BasisValue). RelayStream terms b made.exchanges) hello
+                    (relay_stream child terms made.basis made.resume made.exchanges did.gives made.begins.stand)),
+              ))
               (λ e. absurd (relay_no_root lists c did.conc (sym e)))
               (λ leaf. absurd (relay_no_leaf lists c c did.conc leaf refl)));
         }
@@ -248,12 +264,14 @@ module _ (lists : Lists) (p : Pricing) (numbering : Numbering) (market : IsTreeM
         } in
         let now = subst (λ (l : List RelayExchange). RelayExchanges (setup_of numbering world c)
         (record { relay = world.seen.relays c; waiting = world.waiting c }) l) did.next (is.relays c did.conc did.runs) in
+        let stream = subst (λ (l : List RelayExchange). RelayStream (world.terms c) world.basis l) did.next (is.relay_streams c did.conc did.runs) in
         record {
           step = lives.Relay c e.frame n;
           live = record {
             conc = did.conc;
             runs = did.runs;
             may = did.promised.handed_out;
+            passes = relay_passes (world.terms c) world.basis e did.exchanges stream;
             after = e.after;
             outs = e.outs;
             writes = now.0;
@@ -261,9 +279,13 @@ module _ (lists : Lists) (p : Pricing) (numbering : Numbering) (market : IsTreeM
             new_is = ap (λ (s : Scene). s.world) did.new_is;
           };
           follows = subst (Follows lists p numbering) (sym did.new_is) (follows_but c after agrees
-              (λ conc. relay_as (setup_of numbering world c) e.after.relay (after.world.seen.relays c) e.after.waiting (after.world.waiting c)
-              did.exchanges (after.relay_next c) (ap (λ f. f c) values.0 ∙ updated_same world.seen.relays c e.after.relay)
-              (updated_same world.waiting c e.after.waiting) (updated_same old.relay_next c did.exchanges) now.1)
+              (λ conc. (
+                relay_as (setup_of numbering world c) e.after.relay (after.world.seen.relays c) e.after.waiting (after.world.waiting c)
+                    did.exchanges (after.relay_next c) (ap (λ f. f c) values.0 ∙ updated_same world.seen.relays c e.after.relay)
+                    (updated_same world.waiting c e.after.waiting) (updated_same old.relay_next c did.exchanges) now.1,
+                subst (λ (l : List RelayExchange). RelayStream (world.terms c) world.basis l) (sym (updated_same old.relay_next c did.exchanges))
+                    (relay_rest (world.terms c) world.basis e did.exchanges stream),
+              ))
               (λ e. absurd (relay_no_root lists c did.conc (sym e)))
               (λ leaf. absurd (relay_no_leaf lists c c did.conc leaf refl)));
         }
@@ -497,6 +519,7 @@ module _ (lists : Lists) (p : Pricing) (numbering : Numbering) (market : IsTreeM
   follows_new scene steps none = record {
     steps = steps;
     relays = λ c conc up. absurd (both_ways (scene.world.up c) (none c) up);
+    relay_streams = λ c conc up. absurd (both_ways (scene.world.up c) (none c) up);
     root = λ up. absurd (both_ways (scene.world.up 0) (none 0) up);
     devices = λ d leaf up. absurd (both_ways (scene.world.up d) (none d) up);
     offers = λ d leaf up. absurd (both_ways (scene.world.up d) (none d) up);

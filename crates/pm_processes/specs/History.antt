@@ -7,13 +7,14 @@ use Rattle.pm_net.specs.Messages.{price_message}
 use Rattle.pm_net_plan.specs.Places.{Numbering}
 use Rattle.pm_control.specs.Control.{agent_stored}
 use Rattle.pm_basis.specs.Prices.{BasisValue}
+use Rattle.pm_frames.specs.Terms.{MayGive}
 use Rattle.pm_frames.specs.declared.parent.ParentFrame.TheVariants.{Price}
 use Rattle.pm_frames.specs.declared.device.DeviceFrame.{DeviceFrame}
 use Rattle.pm_frames.specs.declared.device.DeviceFrame.TheVariants.{Parent}
 use Rattle.pm_services.specs.DeviceAnswers.{same_basis}
 use Rattle.pm_system.specs.System.{System, with_relay, with_root, with_agent}
 use Rattle.pm_lives.specs.Lives.{World, setup_of, handed_out, stored_last, HandledSome, let_go_at_relay, let_go_at_root, restart_outs}
-use Rattle.pm_lives.specs.Lives.{KeptMayBeLearnt, IsNewWorld}
+use Rattle.pm_lives.specs.Lives.{IsNewWorld}
 use Rattle.pm_lives.specs.Outputs.{PriceWasSent}
 use Rattle.pm_lives.specs.Free.{RelayIsFree, RootIsFree}
 use Rattle.pm_processes.specs.RelayProcess.{RelayProcess, RelayExchange, setup_with, relay_resumed}
@@ -66,12 +67,12 @@ DeviceIsGiven own seen d frame = ⊤
 pub record RelayProcessBegins (lists : Lists) (p : Pricing) (numbering : Numbering) (old : Scene) (c : ℕ) (took wrote : List ℕ) (new : Scene) :
     Type 0 where
   pub conc : IsConcentrator lists c
-  -- (2) the same arguments, among them the limits of its first start
+  -- (2) the same arguments, among them the limits of its first start; a place in which it is given others is one of a child
   pub limited : p.limits c no_changes ≡ Some (old.world.terms c).limits
+  pub gives : MayGive (old.world.terms c).giver
   pub process : RelayProcess (numbering.place c + 1) (old.world.terms c) took wrote
   pub promised : BeginsAsPromised process.basis old.world.basis
       (relay_resumed (setup_with (numbering.place c + 1) (old.world.terms c) process.basis) process.resume) (old.world.relay_kept c)
-  pub may : KeptMayBeLearnt lists p numbering old.world c
   pub new_is : new ≡ record old {
     world = record old.world {
       seen = handed_out lists numbering (with_relay old.world.seen c process.held.relay) c (take process.written.cut.n process.outs);

@@ -4,7 +4,7 @@ use Rattle.std.specs.List.{AllPairs}
 use Rattle.pm_base.specs.Cuts.{Cut}
 use Rattle.pm_base.specs.Limits.{AreLimits}
 use Rattle.pm_base.specs.declared.limits.Limits.{Limits}
-use Rattle.pm_market.specs.Lists.{Lists, IsLeaf}
+use Rattle.pm_market.specs.Lists.{Lists, IsLeaf, IsConcentrator}
 use Rattle.pm_net.specs.Pricing.{Pricing}
 use Rattle.pm_net.specs.Agents.{Setpoint}
 use Rattle.pm_net_plan.specs.Places.{Numbering}
@@ -12,7 +12,7 @@ use Rattle.pm_system.specs.System.{System}
 use Rattle.pm_system.specs.Given.{IsTreeMarket, IsStarted}
 use Rattle.pm_system.specs.Flow.{FlowsIn, TakeWhatWasTold}
 use Rattle.pm_system.specs.Settled.{numbers_counted}
-use Rattle.pm_lives.specs.Lives.{World, LifeStep, LivesKeepTheLaw, BeginsOnce}
+use Rattle.pm_lives.specs.Lives.{World, LifeStep, LivesKeepTheLaw, BeginsOnce, KeptMayBeLearnt}
 use Rattle.pm_lives.specs.Settled.{IsSettledWorld, IsTakenWorld, IsCurrentWorld}
 use Rattle.pm_lives.specs.Free.{HasLists}
 use Rattle.pm_processes.specs.History.{Scene, HistoryEvent, Happen, IsNewScene}
@@ -22,6 +22,7 @@ use Rattle.pm_processes.specs.History.{Scene, HistoryEvent, Happen, IsNewScene}
 -- handed out is the power of the device's own offer of its number at that step. If the world is settled, or taken by the numbers and
 -- indices in its newest messages alone, it is current. All below a
 -- relay that take what they were told take together what it announced. The setpoints of a device of one process have rising indices.
+-- The limits that are stored of a relay are those of a message of its giver.
 pub record HistoryKeepsTheLaw (tree : Lists) (p : Pricing) (numbering : Numbering) (first last : World) : Type 0 where
   pub steps : List LifeStep
   pub has : HasLists tree p numbering first steps last
@@ -31,6 +32,7 @@ pub record HistoryKeepsTheLaw (tree : Lists) (p : Pricing) (numbering : Numberin
   pub flows : FlowsIn has.lists has.pricing (numbers_counted has.lists numbering last.seen)
       (TakeWhatWasTold has.lists has.pricing (numbers_counted has.lists numbering last.seen) last.seen)
   pub rising : (d : ℕ) → IsLeaf has.lists d → BeginsOnce d steps → AllPairs (λ (a b : Setpoint). a.index < b.index) (last.seen.setpoints d)
+  pub learnt : (c : ℕ) → IsConcentrator has.lists c → KeptMayBeLearnt has.lists has.pricing numbering last c
 
 -- Over any market on a tree: processes of its nodes that begin when nothing runs or is stored, and carriers that keep their promises,
 -- keep the law; however controls offer, leave and are let go, wherever a process is ended, and whatever is lost, repeated or reordered.

@@ -1,4 +1,5 @@
 -- Of `lives_keep_the_law`: its clauses.
+use Rattle.pm_lives.proofs.LearntWorlds.{new_given, lives_given, may_be_learnt}
 use Rattle.pm_lives.proofs.Living.{lives_are_calls, lives_keep_the_law}
 use Rattle.pm_lives.proofs.lives_keep_the_law.Goals as goal
 
@@ -11,3 +12,7 @@ pub returns-clause-law : goal.returns-clause-law
 returns-clause-law c lists p numbering start world new steps market started none live =
     lives_keep_the_law lists p numbering market c.systems_run_the_market.ensures.goes_on c.expiring_is_two_calls.ensures.relay
     c.expiring_is_two_calls.ensures.root c.systems_run_the_market.ensures.run start started c.systems_run_the_market.ensures.named world new steps none live
+
+pub returns-clause-learnt : goal.returns-clause-learnt
+returns-clause-learnt c lists p numbering world new steps none live relay conc =
+    may_be_learnt lists p numbering new (lives_given lists p numbering steps world new (new_given lists p numbering world none) live) relay conc

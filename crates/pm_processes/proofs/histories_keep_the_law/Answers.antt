@@ -34,4 +34,6 @@ returns c tree p numbering market around start started first last events none ha
       flows = c.settled_lives_are_current.ensures.flows has.lists has.pricing numbering last.world has.market;
       rising = λ d leaf once. c.settled_lives_are_current.ensures.rising has.lists has.pricing numbering start first.world last.world lived.steps d
           has.market from new has.live leaf once;
+      learnt = λ relay conc. c.lives_keep_the_law.ensures.learnt has.lists has.pricing numbering first.world last.world lived.steps new has.live
+          relay conc;
     }
