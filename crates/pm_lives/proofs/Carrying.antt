@@ -38,6 +38,9 @@ use Rattle.pm_services.specs.Receipts.{sender_place}
 use Rattle.pm_services.specs.RelaySetups.{RelaySetup}
 use Rattle.pm_services.specs.RelayAnswers.{WaitingRelay, OpenRelay, RelayServiceValue, RelayComesUp, with_held, AnswersKeptIn, AnswersGivenIn}
 use Rattle.pm_services.specs.RelayAnswers.{AnswersRelay, AnswersNow}
+use Rattle.pm_wire.specs.Answers.{answer_bytes}
+use Rattle.pm_wire.specs.declared.answer.Reply as Reply
+use Rattle.pm_frames.specs.declared.parent.ParentFrame.TheVariants.{Old}
 use Rattle.pm_lives.specs.RelayWrites.{WritesLimits, WritesKept}
 use Rattle.pm_lives.specs.Outputs.{Output}
 use Rattle.pm_lives.specs.Carrying.{setup_for}
@@ -166,6 +169,14 @@ module _ (lists : Lists) (p : Pricing) (numbering : Numbering) (sys : System) (x
       let other : DeviceFrame = device_frame.Parent (price_frame basis (numbering.place x + 1) price) in
       let one = device_framing_sound.one_frame place frame other more behind formed fits same in
       (subst (λ (f : DeviceFrame). DeviceMayRead lists p basis sys x f) (sym one.0) (itself basis, sent), one.1)
+
+-- a device that reads the bytes of an Old reads that Old
+pub device_reads_old : (child kept : ℕ) (place : NodePlace) (frame : DeviceFrame) (more behind : List ℕ) → IsDeviceFormed place frame →
+    IsDeviceFormed place (device_frame.Parent (Old child kept)) →
+    device_frame_bytes frame ++ more ≡ answer_bytes (Reply.TheVariants.Old child kept) ++ behind →
+    (frame ≡ device_frame.Parent (Old child kept)) × (more ≡ behind)
+device_reads_old child kept place frame more behind formed fits same =
+    device_framing_sound.one_frame place frame (device_frame.Parent (Old child kept)) more behind formed fits same
 
 -- ---- the start of a life
 

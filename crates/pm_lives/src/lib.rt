@@ -48,6 +48,9 @@ ghost use Rattle.pm_frames.specs.RelayFrames.{relay_frame_bytes, IsRelayFormed};
 ghost use Rattle.pm_frames.specs.RootFrames.{root_frame_bytes, IsRootFormed};
 ghost use Rattle.pm_frames.specs.DeviceFrames.{device_frame_bytes, IsDeviceFormed};
 ghost use Rattle.pm_frames.specs.declared.place.NodePlace.{NodePlace};
+ghost use Rattle.pm_frames.specs.declared.parent.ParentFrame.{ParentFrame};
+ghost use Rattle.pm_wire.specs.declared.answer.Reply.{Reply};
+ghost use Rattle.pm_wire.specs.Answers.{answer_bytes};
 ghost use Rattle.pm_frames.specs.declared.place.Stage.{Stage};
 ghost use Rattle.pm_services.specs.RelayAnswers.{RelayServiceValue};
 ghost use Rattle.pm_lives.specs.Outputs.{PriceWasSent, BidWasSent, up_bytes, down_frame_bytes};
@@ -220,7 +223,7 @@ pub fn answers_are_frames()
 {}
 
 /// A law: a frame that is carried unchanged is the message that was sent. If the bytes of a bid or a price that was sent come to
-/// its receiver, the frame that they begin with is that message and no other, so the receiver may read it.
+/// its receiver, the frame that they begin with is that message and no other, so the receiver may read it. So it is of an Old.
 pub fn frames_are_carried()
     ensures relay_bids { (lists : Lists) (p : Pricing) (numbering : Numbering) (sys : System)
         (x : ℕ) → IsNode lists x → (bid : BidMessage) → BidWasSent p sys x bid → (c : ℕ) →
@@ -262,6 +265,11 @@ pub fn frames_are_carried()
         device_frame_bytes frame ++ more
         ≡ down_frame_bytes basis (numbering.place x) price ++ behind →
         DeviceMayRead lists p basis sys x frame × (more ≡ behind) }
+    ensures device_olds { (child kept : ℕ) (place : NodePlace) (frame : DeviceFrame)
+        (more behind : List ℕ) → IsDeviceFormed place frame →
+        IsDeviceFormed place (DeviceFrame.Parent (ParentFrame.Old child kept)) →
+        device_frame_bytes frame ++ more ≡ answer_bytes (Reply.Old child kept) ++ behind →
+        (frame ≡ DeviceFrame.Parent (ParentFrame.Old child kept)) × (more ≡ behind) }
 {}
 
 /// A law: a service that was given Hello, and then a Resume with what is stored, is a node that comes back with what is stored; so

@@ -4,4 +4,5 @@ mod Streams
 pub mod RelayRuns
 pub mod RootRuns
 pub mod DeviceRuns
+mod Following
 mod Standing

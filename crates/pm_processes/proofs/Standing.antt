@@ -1,27 +1,24 @@
 -- A history of processes is lives.
-use Rattle.std.proofs.Common.{◌≡◌, ◌∙◌, sym, ap, subst, ℕ, ◌+◌, ◌-◌, true, false, List, [], ◌∷◌, length, take, Option, None, IfSome}
+use Rattle.std.proofs.Common.{◌≡◌, ◌∙◌, sym, ap, subst, ℕ, ◌+◌, ◌-◌, true, false, List, [], ◌∷◌, length, take, None, IfSome}
 use Rattle.std.proofs.Common.{refl, inl, inr, arith}
-use Rattle.std.proofs.lemmas.Bool.{cases_eq, both_ways}
+use Rattle.std.proofs.lemmas.Bool.{both_ways}
 use Rattle.pm_market.specs.Lists.{Lists, IsLeaf, IsConcentrator}
 use Rattle.pm_market.specs.State.{update}
 use Rattle.pm_market.proofs.Cuts.{updated_same, updated_other}
 use Rattle.pm_market.proofs.Tree.{leaf_node}
-use Rattle.pm_session.specs.declared.price.PriceUpdate.{PriceUpdate}
 use Rattle.pm_net.specs.Pricing.{Pricing}
 use Rattle.pm_net.specs.Agents.{DeviceAgent}
 use Rattle.pm_net_plan.specs.Places.{Numbering}
 use Rattle.pm_control.specs.Control.{agent_stored}
-use Rattle.pm_relay.specs.Relays.{RelayValue, RelayComesBack}
+use Rattle.pm_relay.specs.Relays.{RelayComesBack}
 use Rattle.pm_relay.specs.Roots.{RootValue, RootComesBack}
 use Rattle.pm_basis.specs.Prices.{BasisValue}
 use Rattle.pm_frames.specs.Stored.{StoredRelay, StoredRoot}
 use Rattle.pm_frames.specs.declared.stored.StoredAgent.{StoredAgent}
-use Rattle.pm_frames.specs.declared.terms.RelayTerms.{RelayTerms}
 use Rattle.pm_frames.specs.declared.parent.ParentFrame.TheVariants.{Price, Old}
 use Rattle.pm_frames.specs.declared.device.DeviceFrame.{DeviceFrame}
 use Rattle.pm_frames.specs.declared.device.DeviceFrame.TheVariants as device_frame
 use Rattle.pm_services.specs.DeviceAnswers.{same_basis}
-use Rattle.pm_services.specs.RelaySetups.{RelaySetup}
 use Rattle.pm_system.specs.System.{System, with_relay, with_root, with_agent}
 use Rattle.pm_system.specs.Given.{IsTreeMarket, IsDemand}
 use Rattle.pm_system.proofs.Moving.{relay_no_leaf, relay_no_root}
@@ -34,45 +31,16 @@ use Rattle.pm_lives.specs.Lives.{World, LifeStep, setup_of, handed_out, stored_l
 use Rattle.pm_lives.specs.Free.{LivesFree1, LiveFree, DeviceIsFree}
 use Rattle.pm_lives.proofs.Handing.{handed_values}
 use Rattle.pm_processes.proofs.Offers.{AreDemands, newest_fits, stored_fits, after_fits}
-use Rattle.pm_processes.proofs.Streams.{RelayStream, relay_stream, relay_rest, relay_passes}
+use Rattle.pm_processes.proofs.Streams.{RelayStream, relay_stream, relay_rest, relay_passes, relay_free, RootStream, root_stream, root_rest, root_free}
+use Rattle.pm_processes.proofs.Streams.{DeviceStream, device_stream, device_rest, DeviceIsGiven, device_given}
 use Rattle.pm_processes.specs.RelayProcess.{RelayExchange, RelayExchanges, setup_with}
 use Rattle.pm_processes.specs.RootProcess.{RootExchange, RootExchanges}
 use Rattle.pm_processes.specs.DeviceProcess.{IsAsked, DeviceExchange, DeviceExchanges, AnswersAgent}
 use Rattle.pm_processes.specs.History.{Scene, HistoryEvent, RelayBegins, RelayGoesOn, RootBegins}
-use Rattle.pm_processes.specs.History.{RootGoesOn, DeviceBegins, DeviceGoesOn, Happens1, Happen, DeviceIsGiven}
+use Rattle.pm_processes.specs.History.{RootGoesOn, DeviceBegins, DeviceGoesOn, Happens1, Happen}
 use Rattle.pm_processes.specs.History.{RelayProcessBegins, RelayProcessGoesOn, RootProcessBegins, RootProcessGoesOn, DeviceProcessBegins}
 use Rattle.pm_processes.specs.History.{DeviceProcessGoesOn}
-
--- what is still to come of each process that runs is what its node makes of the frames
-pub record Follows (lists : Lists) (p : Pricing) (numbering : Numbering) (scene : Scene) : Type 0 where
-  steps : scene.world.basis.steps ≡ p.steps
-  -- so it is of each relay
-  relays : (c : ℕ) → IsConcentrator lists c → scene.world.up c ≡ true →
-      RelayExchanges (setup_of numbering scene.world c) (record { relay = scene.world.seen.relays c; waiting = scene.world.waiting c }) (scene.relay_next c)
-  -- and these stand in its stream
-  relay_streams : (c : ℕ) → IsConcentrator lists c → scene.world.up c ≡ true →
-      RelayStream (scene.world.terms c) scene.world.basis (scene.relay_next c)
-  -- so it is of the auctioneer, and of each device
-  root : scene.world.up 0 ≡ true → RootExchanges scene.world.basis scene.world.seen.root scene.root_next
-  devices : (d : ℕ) → IsLeaf lists d → scene.world.up d ≡ true →
-      DeviceExchanges p scene.world.basis (scene.world.seen.agents d) (scene.device_next d)
-  -- the offers of a device are demands
-  offers : (d : ℕ) → IsLeaf lists d → scene.world.up d ≡ true → AreDemands p.steps (scene.world.seen.agents d)
-
--- ---- the same values
-
-relay_as : (own : RelaySetup) (r r' : RelayValue) (w w' : Option PriceUpdate) (es es' : List RelayExchange) → r' ≡ r → w' ≡ w → es' ≡ es →
-    RelayExchanges own (record { relay = r; waiting = w }) es → RelayExchanges own (record { relay = r'; waiting = w' }) es'
-relay_as own r r' w w' es es' e1 e2 e3 is =
-    subst (λ (x : RelayValue). RelayExchanges own (record { relay = x; waiting = w' }) es') (sym e1)
-    (subst (λ (x : Option PriceUpdate). RelayExchanges own (record { relay = r; waiting = x }) es') (sym e2)
-    (subst (λ (x : List RelayExchange). RelayExchanges own (record { relay = r; waiting = w }) x) (sym e3) is))
-
-device_as : (p : Pricing) (basis : BasisValue) (a a' : DeviceAgent) (es es' : List DeviceExchange) → a' ≡ a → es' ≡ es →
-    DeviceExchanges p basis a es → DeviceExchanges p basis a' es'
-device_as p basis a a' es es' e1 e2 is =
-    subst (λ (x : DeviceAgent). DeviceExchanges p basis x es') (sym e1)
-    (subst (λ (x : List DeviceExchange). DeviceExchanges p basis a x) (sym e2) is)
+use Rattle.pm_processes.proofs.Following.{Follows, relay_as, device_as, Agrees, follows_but}
 
 -- a price that was handed out is of the basis of all
 no_other : (own : BasisValue) (sys : System) (d : ℕ) (frame : DeviceFrame) → DeviceIsGiven own sys d frame → IsOfOtherBasis own frame → ⊥
@@ -100,68 +68,6 @@ module _ (lists : Lists) (p : Pricing) (numbering : Numbering) (market : IsTreeM
     abbrev world : World
     world = old.world
 
-    -- two scenes are the same but for node y
-    record Agrees (y : ℕ) (new : Scene) : Type 0 where
-      basis : new.world.basis ≡ world.basis
-      terms : new.world.terms ≡ world.terms
-      up : (z : ℕ) → (z ≡ y → ⊥) → new.world.up z ≡ world.up z
-      relays : (z : ℕ) → (z ≡ y → ⊥) → new.world.seen.relays z ≡ world.seen.relays z
-      waiting : (z : ℕ) → (z ≡ y → ⊥) → new.world.waiting z ≡ world.waiting z
-      agents : (z : ℕ) → (z ≡ y → ⊥) → new.world.seen.agents z ≡ world.seen.agents z
-      root : (0 ≡ y → ⊥) → new.world.seen.root ≡ world.seen.root
-      relay_next : (z : ℕ) → (z ≡ y → ⊥) → new.relay_next z ≡ old.relay_next z
-      device_next : (z : ℕ) → (z ≡ y → ⊥) → new.device_next z ≡ old.device_next z
-      root_next : (0 ≡ y → ⊥) → new.root_next ≡ old.root_next
-
-    setup_as : (y c : ℕ) (new : Scene) → Agrees y new → setup_of numbering new.world c ≡ setup_of numbering world c
-    setup_as y c new agrees =
-        ap (λ (b : BasisValue). setup_with (numbering.place c + 1) (new.world.terms c) b) agrees.basis
-        ∙ ap (λ (t : ℕ → RelayTerms). setup_with (numbering.place c + 1) (t c) world.basis) agrees.terms
-
-    follows_but : (y : ℕ) (new : Scene) → Agrees y new →
-        (IsConcentrator lists y → RelayExchanges (setup_of numbering world y)
-        (record { relay = new.world.seen.relays y; waiting = new.world.waiting y }) (new.relay_next y)
-        × RelayStream (world.terms y) world.basis (new.relay_next y)) →
-        (0 ≡ y → RootExchanges world.basis new.world.seen.root new.root_next) →
-        (IsLeaf lists y → DeviceExchanges p world.basis (new.world.seen.agents y) (new.device_next y)
-        × AreDemands p.steps (new.world.seen.agents y)) → Follows lists p numbering new
-    follows_but y new agrees relay root device = record {
-      steps = ap (λ (b : BasisValue). b.steps) agrees.basis ∙ is.steps;
-      relays = λ c conc up. subst (λ (s : RelaySetup). RelayExchanges s (record { relay = new.world.seen.relays c; waiting = new.world.waiting c })
-          (new.relay_next c)) (sym (setup_as y c new agrees)) (elim (cases_eq c y) [
-            | inl e ↦ subst (λ (z : ℕ). RelayExchanges (setup_of numbering world z)
-                (record { relay = new.world.seen.relays z; waiting = new.world.waiting z }) (new.relay_next z)) (sym e)
-                (relay (subst (λ (z : ℕ). IsConcentrator lists z) e conc)).0
-            | inr ne ↦ relay_as (setup_of numbering world c) (world.seen.relays c) (new.world.seen.relays c) (world.waiting c) (new.world.waiting c)
-                (old.relay_next c) (new.relay_next c) (agrees.relays c ne) (agrees.waiting c ne) (agrees.relay_next c ne)
-                (is.relays c conc (sym (agrees.up c ne) ∙ up))
-          ]);
-      relay_streams = λ c conc up. subst (λ (b : BasisValue). RelayStream (new.world.terms c) b (new.relay_next c)) (sym agrees.basis)
-          (subst (λ (t : ℕ → RelayTerms). RelayStream (t c) world.basis (new.relay_next c)) (sym agrees.terms) (elim (cases_eq c y) [
-            | inl e ↦ subst (λ (z : ℕ). RelayStream (world.terms z) world.basis (new.relay_next z)) (sym e)
-                (relay (subst (λ (z : ℕ). IsConcentrator lists z) e conc)).1
-            | inr ne ↦ subst (λ (l : List RelayExchange). RelayStream (world.terms c) world.basis l) (sym (agrees.relay_next c ne))
-                (is.relay_streams c conc (sym (agrees.up c ne) ∙ up))
-          ]));
-      root = λ up. subst (λ (b : BasisValue). RootExchanges b new.world.seen.root new.root_next) (sym agrees.basis) (elim (cases_eq 0 y) [
-        | inl e ↦ root e
-        | inr ne ↦ subst (λ (r : RootValue). RootExchanges world.basis r new.root_next) (sym (agrees.root ne))
-            (subst (λ (l : List RootExchange). RootExchanges world.basis world.seen.root l) (sym (agrees.root_next ne))
-            (is.root (sym (agrees.up 0 ne) ∙ up)))
-      ]);
-      devices = λ d leaf up. subst (λ (b : BasisValue). DeviceExchanges p b (new.world.seen.agents d) (new.device_next d)) (sym agrees.basis)
-          (elim (cases_eq d y) [
-            | inl e ↦ subst (λ (z : ℕ). DeviceExchanges p world.basis (new.world.seen.agents z) (new.device_next z)) (sym e)
-                (device (subst (λ (z : ℕ). IsLeaf lists z) e leaf)).0
-            | inr ne ↦ device_as p world.basis (world.seen.agents d) (new.world.seen.agents d) (old.device_next d) (new.device_next d) (agrees.agents d ne)
-                (agrees.device_next d ne) (is.devices d leaf (sym (agrees.up d ne) ∙ up))
-          ]);
-      offers = λ d leaf up. elim (cases_eq d y) [
-        | inl e ↦ subst (λ (z : ℕ). AreDemands p.steps (new.world.seen.agents z)) (sym e) (device (subst (λ (z : ℕ). IsLeaf lists z) e leaf)).1
-        | inr ne ↦ subst (AreDemands p.steps) (sym (agrees.agents d ne)) (is.offers d leaf (sym (agrees.up d ne) ∙ up))
-      ];
-    }
-
     no_conc : IsConcentrator lists 0 → ⊥
     no_conc conc = omega (arith, conc.0)
 
@@ -187,7 +93,7 @@ module _ (lists : Lists) (p : Pricing) (numbering : Numbering) (market : IsTreeM
           relay_next = update old.relay_next c made.exchanges;
           left = update old.left c (n - length made.outs);
         } in
-        let agrees : Agrees c after = record {
+        let agrees : Agrees lists p numbering old c after = record {
           basis = refl;
           terms = refl;
           up = λ z ne. updated_other world.up c true z ne;
@@ -219,7 +125,7 @@ module _ (lists : Lists) (p : Pricing) (numbering : Numbering) (market : IsTreeM
                 made.back);
             new_is = ap (λ (s : Scene). s.world) did.new_is;
           };
-          follows = subst (Follows lists p numbering) (sym did.new_is) (follows_but c after agrees
+          follows = subst (Follows lists p numbering) (sym did.new_is) (follows_but lists p numbering old is c after agrees
               (λ conc. (
                 relay_as (setup_of numbering world c) made.held.relay (after.world.seen.relays c) made.held.waiting (after.world.waiting c)
                     made.exchanges (after.relay_next c) (ap (λ f. f c) values.0 ∙ updated_same world.seen.relays c made.held.relay)
@@ -250,7 +156,7 @@ module _ (lists : Lists) (p : Pricing) (numbering : Numbering) (market : IsTreeM
           relay_next = update old.relay_next c did.exchanges;
           left = update old.left c (old.left c - length e.outs);
         } in
-        let agrees : Agrees c after = record {
+        let agrees : Agrees lists p numbering old c after = record {
           basis = refl;
           terms = refl;
           up = λ z ne. refl;
@@ -270,7 +176,7 @@ module _ (lists : Lists) (p : Pricing) (numbering : Numbering) (market : IsTreeM
           live = record {
             conc = did.conc;
             runs = did.runs;
-            may = did.promised.handed_out;
+            may = relay_free lists p numbering world.seen (setup_of numbering world c) c did.conc e did.exchanges stream did.promised.handed_on;
             passes = relay_passes (world.terms c) world.basis e did.exchanges stream;
             after = e.after;
             outs = e.outs;
@@ -278,7 +184,7 @@ module _ (lists : Lists) (p : Pricing) (numbering : Numbering) (market : IsTreeM
             handled = did.promised.in_order;
             new_is = ap (λ (s : Scene). s.world) did.new_is;
           };
-          follows = subst (Follows lists p numbering) (sym did.new_is) (follows_but c after agrees
+          follows = subst (Follows lists p numbering) (sym did.new_is) (follows_but lists p numbering old is c after agrees
               (λ conc. (
                 relay_as (setup_of numbering world c) e.after.relay (after.world.seen.relays c) e.after.waiting (after.world.waiting c)
                     did.exchanges (after.relay_next c) (ap (λ f. f c) values.0 ∙ updated_same world.seen.relays c e.after.relay)
@@ -300,7 +206,7 @@ module _ (lists : Lists) (p : Pricing) (numbering : Numbering) (market : IsTreeM
           root_next = made.exchanges;
           left = update old.left 0 made.written.cut.n;
         } in
-        let agrees : Agrees 0 after = record {
+        let agrees : Agrees lists p numbering old 0 after = record {
           basis = refl;
           terms = refl;
           up = λ z ne. updated_other world.up 0 true z ne;
@@ -322,8 +228,11 @@ module _ (lists : Lists) (p : Pricing) (numbering : Numbering) (market : IsTreeM
                 (subst (λ (k : StoredRoot). RootComesBack made.basis.steps k.last k.numbers made.root) did.promised.stored_last made.back);
             new_is = ap (λ (s : Scene). s.world) did.new_is;
           };
-          follows = subst (Follows lists p numbering) (sym did.new_is) (follows_but 0 after agrees (λ conc. absurd (no_conc conc))
-              (λ e. subst (λ (b : BasisValue). RootExchanges b made.root made.exchanges) hello made.answers)
+          follows = subst (Follows lists p numbering) (sym did.new_is) (follows_but lists p numbering old is 0 after agrees (λ conc. absurd (no_conc conc))
+              (λ e. (
+                subst (λ (b : BasisValue). RootExchanges b made.root made.exchanges) hello made.answers,
+                subst (λ (b : BasisValue). RootStream b made.exchanges) hello (root_stream made.basis made.resume made.exchanges made.begins.stand),
+              ))
               (λ leaf. absurd (no_leaf leaf)));
         }
 
@@ -342,7 +251,7 @@ module _ (lists : Lists) (p : Pricing) (numbering : Numbering) (market : IsTreeM
           root_next = did.exchanges;
           left = update old.left 0 (old.left 0 - length e.outs);
         } in
-        let agrees : Agrees 0 after = record {
+        let agrees : Agrees lists p numbering old 0 after = record {
           basis = refl;
           terms = refl;
           up = λ z ne. refl;
@@ -355,19 +264,23 @@ module _ (lists : Lists) (p : Pricing) (numbering : Numbering) (market : IsTreeM
           root_next = λ ne. absurd (ne refl);
         } in
         let now = subst (λ (l : List RootExchange). RootExchanges world.basis world.seen.root l) did.next (is.root did.runs) in
+        let stream = subst (λ (l : List RootExchange). RootStream world.basis l) did.next (is.root_stream did.runs) in
         record {
           step = lives.Root e.frame n;
           live = record {
             runs = did.runs;
-            may = did.promised.handed_out;
+            may = root_free lists p numbering world.seen world.basis e did.exchanges stream did.promised.handed_on;
             after = e.after;
             outs = e.outs;
             writes = now.0;
             handled = did.promised.in_order;
             new_is = ap (λ (s : Scene). s.world) did.new_is;
           };
-          follows = subst (Follows lists p numbering) (sym did.new_is) (follows_but 0 after agrees (λ conc. absurd (no_conc conc))
-              (λ same. subst (λ (r : RootValue). RootExchanges world.basis r did.exchanges) (sym values.1) now.1)
+          follows = subst (Follows lists p numbering) (sym did.new_is) (follows_but lists p numbering old is 0 after agrees (λ conc. absurd (no_conc conc))
+              (λ same. (
+                subst (λ (r : RootValue). RootExchanges world.basis r did.exchanges) (sym values.1) now.1,
+                root_rest world.basis e did.exchanges stream,
+              ))
               (λ leaf. absurd (no_leaf leaf)));
         }
 
@@ -393,7 +306,7 @@ module _ (lists : Lists) (p : Pricing) (numbering : Numbering) (market : IsTreeM
           device_next = update old.device_next d made.exchanges;
           left = update old.left d (n - length outs);
         } in
-        let agrees : Agrees d after = record {
+        let agrees : Agrees lists p numbering old d after = record {
           basis = refl;
           terms = refl;
           up = λ z ne. updated_other world.up d true z ne;
@@ -412,7 +325,7 @@ module _ (lists : Lists) (p : Pricing) (numbering : Numbering) (market : IsTreeM
         record {
           step = lives.DeviceUp d n;
           live = record { leaf = did.leaf; new_is = ap (λ (s : Scene). s.world) did.new_is };
-          follows = subst (Follows lists p numbering) (sym did.new_is) (follows_but d after agrees
+          follows = subst (Follows lists p numbering) (sym did.new_is) (follows_but lists p numbering old is d after agrees
               (λ conc. absurd (not_conc d did.leaf conc))
               (λ e. absurd (not_root d did.leaf e))
               (λ leaf. (
@@ -422,6 +335,9 @@ module _ (lists : Lists) (p : Pricing) (numbering : Numbering) (market : IsTreeM
                     (subst (λ (k : StoredAgent). DeviceExchanges p made.basis (agent_stored k.number k.newest k.index) made.exchanges)
                     did.promised.stored_last made.answers)),
                 subst (AreDemands p.steps) (sym here) (stored_fits p.steps stored.number stored.newest stored.index newest),
+                subst (λ (l : List DeviceExchange). DeviceStream world.basis l) (sym (updated_same old.device_next d made.exchanges))
+                    (subst (λ (b : BasisValue). DeviceStream b made.exchanges) did.promised.same_hello
+                    (device_stream (numbering.place d + 1) made.basis made.resume made.exchanges made.begins.stand)),
               )));
         }
 
@@ -450,7 +366,7 @@ module _ (lists : Lists) (p : Pricing) (numbering : Numbering) (market : IsTreeM
           device_next = update old.device_next d did.exchanges;
           left = update old.left d (old.left d - length e.outs);
         } in
-        let agrees : Agrees d after = record {
+        let agrees : Agrees lists p numbering old d after = record {
           basis = refl;
           terms = refl;
           up = λ z ne. refl;
@@ -463,7 +379,9 @@ module _ (lists : Lists) (p : Pricing) (numbering : Numbering) (market : IsTreeM
           root_next = λ ne. refl;
         } in
         let now = subst (λ (l : List DeviceExchange). DeviceExchanges p world.basis (world.seen.agents d) l) did.next (is.devices d did.leaf did.runs) in
-        let own = of_own_basis d e did.promised.handed_out now.0 in
+        let stream = subst (λ (l : List DeviceExchange). DeviceStream world.basis l) did.next (is.device_streams d did.leaf did.runs) in
+        let given = device_given lists p numbering world.seen world.basis d e did.exchanges stream did.promised.handed_on in
+        let own = of_own_basis d e given now.0 in
         let asked = subst (λ (i : ℕ). IsAsked i e.frame) is.steps own.asked in
         let are = is.offers d did.leaf did.runs in
         let here : after.world.seen.agents d ≡ e.after = ap (λ f. f d) values.2 ∙ updated_same world.seen.agents d e.after in
@@ -476,18 +394,20 @@ module _ (lists : Lists) (p : Pricing) (numbering : Numbering) (market : IsTreeM
           live = record {
             leaf = did.leaf;
             runs = did.runs;
-            may = is_free p world.basis world.seen d e.frame did.promised.handed_out asked are;
+            may = is_free p world.basis world.seen d e.frame given asked are;
             handled = subst (λ (l : List (Output StoredAgent)). HandledSome n l) own.outs did.promised.in_order;
             new_is = ap (λ (s : Scene). s.world) did.new_is ∙ ap (λ (a : DeviceAgent). world_with a e.outs) own.after
                 ∙ ap (λ (l : List (Output StoredAgent)). world_with (agent_after (world.seen.agents d) e.frame) l) own.outs;
           };
-          follows = subst (Follows lists p numbering) (sym did.new_is) (follows_but d after agrees
+          follows = subst (Follows lists p numbering) (sym did.new_is) (follows_but lists p numbering old is d after agrees
               (λ conc. absurd (not_conc d did.leaf conc))
               (λ same. absurd (not_root d did.leaf same))
               (λ leaf. (
                 device_as p world.basis e.after (after.world.seen.agents d) did.exchanges (after.device_next d) here
                     (updated_same old.device_next d did.exchanges) now.1,
                 subst (AreDemands p.steps) (sym (here ∙ own.after)) (after_fits p.steps (world.seen.agents d) e.frame asked are),
+                subst (λ (l : List DeviceExchange). DeviceStream world.basis l) (sym (updated_same old.device_next d did.exchanges))
+                    (device_rest world.basis e did.exchanges stream),
               )));
         }
 
@@ -521,6 +441,8 @@ module _ (lists : Lists) (p : Pricing) (numbering : Numbering) (market : IsTreeM
     relays = λ c conc up. absurd (both_ways (scene.world.up c) (none c) up);
     relay_streams = λ c conc up. absurd (both_ways (scene.world.up c) (none c) up);
     root = λ up. absurd (both_ways (scene.world.up 0) (none 0) up);
+    root_stream = λ up. absurd (both_ways (scene.world.up 0) (none 0) up);
     devices = λ d leaf up. absurd (both_ways (scene.world.up d) (none d) up);
+    device_streams = λ d leaf up. absurd (both_ways (scene.world.up d) (none d) up);
     offers = λ d leaf up. absurd (both_ways (scene.world.up d) (none d) up);
   }

@@ -1,22 +1,16 @@
 -- A history of a market by the bytes of its processes, and what its carriers promise.
-use Rattle.std.specs.Prelude.{◌≡◌, ℕ, ◌+◌, ◌-◌, ◌≤◌, true, List, [], ◌∷◌, length, take, Some, ⊤}
+use Rattle.std.specs.Prelude.{◌≡◌, ℕ, ◌+◌, ◌-◌, ◌≤◌, true, List, [], ◌∷◌, length, take, Some}
 use Rattle.pm_market.specs.Lists.{Lists, IsLeaf, IsConcentrator}
 use Rattle.pm_market.specs.State.{update, no_changes}
 use Rattle.pm_net.specs.Pricing.{Pricing}
-use Rattle.pm_net.specs.Messages.{price_message}
 use Rattle.pm_net_plan.specs.Places.{Numbering}
 use Rattle.pm_control.specs.Control.{agent_stored}
 use Rattle.pm_basis.specs.Prices.{BasisValue}
 use Rattle.pm_frames.specs.Terms.{MayGive}
-use Rattle.pm_frames.specs.declared.parent.ParentFrame.TheVariants.{Price}
-use Rattle.pm_frames.specs.declared.device.DeviceFrame.{DeviceFrame}
-use Rattle.pm_frames.specs.declared.device.DeviceFrame.TheVariants.{Parent}
-use Rattle.pm_services.specs.DeviceAnswers.{same_basis}
-use Rattle.pm_system.specs.System.{System, with_relay, with_root, with_agent}
+use Rattle.pm_system.specs.System.{with_relay, with_root, with_agent}
 use Rattle.pm_lives.specs.Lives.{World, setup_of, handed_out, stored_last, HandledSome, let_go_at_relay, let_go_at_root, restart_outs}
 use Rattle.pm_lives.specs.Lives.{IsNewWorld}
-use Rattle.pm_lives.specs.Outputs.{PriceWasSent}
-use Rattle.pm_lives.specs.Free.{RelayIsFree, RootIsFree}
+use Rattle.pm_processes.specs.HandedOn.{RelayIsHanded, RootIsHanded, DeviceIsHanded}
 use Rattle.pm_processes.specs.RelayProcess.{RelayProcess, RelayExchange, setup_with, relay_resumed}
 use Rattle.pm_processes.specs.RootProcess.{RootProcess, RootExchange, root_resumed}
 use Rattle.pm_processes.specs.DeviceProcess.{DeviceProcess, DeviceExchange, agent_resumed}
@@ -49,18 +43,11 @@ pub record BeginsAsPromised {K : Type 0} (hello market : BasisValue) (resumed st
 
 -- (4) What is handled of an answer is a first part of it, of what was written; the rest is lost. Its first frame is handled before the
 -- frame that comes next is read by anybody, so that a Resume which stands first is stored before anything is handed out.
--- (5, 8, 9) The frame that is read was handed out by the node that
--- it names, unchanged, to this one; limits are those of a message of the giver; and none is let go but a device.
-pub record GoesOnAsPromised (WasHandedOut : Type 0) (Handled : Type 0) : Type 0 where
-  pub handed_out : WasHandedOut
+-- (5, 8, 9) The bytes that are read were handed out, by the node that
+-- they name, and are handed on unchanged; limits are those of a message of the giver; and none is let go but a device.
+pub record GoesOnAsPromised (IsHandedOn : Type 0) (Handled : Type 0) : Type 0 where
+  pub handed_on : IsHandedOn
   pub in_order : Handled
-
--- (5) A price that a device reads was handed out to it, and is of the basis of all. Of what its control asks, and of an Old, nothing is
--- asked.
-abbrev pub DeviceIsGiven : BasisValue → System → ℕ → DeviceFrame → Type 0
-DeviceIsGiven own seen d (Parent (Price child number index step basis)) =
-    (same_basis basis own ≡ true) × PriceWasSent seen d (price_message number index step)
-DeviceIsGiven own seen d frame = ⊤
 
 -- ---- the events of a relay
 
@@ -91,7 +78,7 @@ pub record RelayProcessGoesOn (lists : Lists) (p : Pricing) (numbering : Numberi
   pub next : old.relay_next c ≡ exchange ∷ exchanges
   pub handled : ℕ
   pub was_written : handled ≤ old.left c
-  pub promised : GoesOnAsPromised (RelayIsFree lists p numbering (setup_of numbering old.world c) old.world.seen c exchange.frame)
+  pub promised : GoesOnAsPromised (RelayIsHanded lists p numbering (setup_of numbering old.world c) old.world.seen c exchange.frame)
       (HandledSome handled exchange.outs)
   pub new_is : new ≡ record old {
     world = record old.world {
@@ -122,7 +109,7 @@ pub record RootProcessGoesOn (lists : Lists) (p : Pricing) (numbering : Numberin
   pub next : old.root_next ≡ exchange ∷ exchanges
   pub handled : ℕ
   pub was_written : handled ≤ old.left 0
-  pub promised : GoesOnAsPromised (RootIsFree lists p numbering old.world.seen exchange.frame) (HandledSome handled exchange.outs)
+  pub promised : GoesOnAsPromised (RootIsHanded lists p numbering old.world.basis old.world.seen exchange.frame) (HandledSome handled exchange.outs)
   pub new_is : new ≡ record old {
     world = record old.world {
       seen = handed_out lists numbering (with_root old.world.seen exchange.after) 0 (take handled exchange.outs);
@@ -158,7 +145,7 @@ pub record DeviceProcessGoesOn (lists : Lists) (p : Pricing) (numbering : Number
   pub next : old.device_next d ≡ exchange ∷ exchanges
   pub handled : ℕ
   pub was_written : handled ≤ old.left d
-  pub promised : GoesOnAsPromised (DeviceIsGiven old.world.basis old.world.seen d exchange.frame) (HandledSome handled exchange.outs)
+  pub promised : GoesOnAsPromised (DeviceIsHanded numbering old.world.basis old.world.seen d exchange.frame) (HandledSome handled exchange.outs)
   pub new_is : new ≡ record old {
     world = record old.world {
       seen = handed_out lists numbering (with_agent old.world.seen d exchange.after) d (take handled exchange.outs);

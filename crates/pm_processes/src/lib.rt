@@ -5,7 +5,8 @@
 //! are ended at any byte and whatever is lost, repeated or reordered (`histories_keep_the_law`).
 //!
 //! The definitions stand in `specs/`: `Processes` (a process by its bytes), `RelayProcess`, `RootProcess` and `DeviceProcess` (the
-//! same frame by frame), `History` (processes of all nodes, and what the carriers promise), `Kept` (what holds then).
+//! same frame by frame), `HandedOn` (frames that are handed on unchanged, by their bytes), `History` (processes of all nodes, and
+//! what the carriers promise), `Kept` (what holds then).
 #![tactic(auto)]
 
 ghost use Rattle.std.specs.Prelude.{◌⊎◌, ℕ, List};
