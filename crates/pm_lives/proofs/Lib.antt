@@ -11,6 +11,7 @@ mod Beginning
 mod WorldStands
 mod Learnt
 mod LearntWorlds
+mod LettingGo
 mod Living
 pub mod Answering
 pub mod Carrying

@@ -229,6 +229,16 @@ pub record IsNewWorld (p : Pricing) (numbering : Numbering) (world : World) : Ty
   pub setpoints : (d : ℕ) → world.seen.setpoints d ≡ []
   pub let_go : (d : ℕ) → world.let_go d ≡ 0
 
+-- no frame of these lets a child go
+abbrev pub LetsNone : LifeStep → Type 0
+LetsNone (Relay c (relay_frame.Expire sender) n) = ⊥
+LetsNone (Root (root_frame.Expire sender) n) = ⊥
+LetsNone step = ⊤
+
+abbrev pub LetNone : List LifeStep → Type 0
+LetNone [] = ⊤
+LetNone (step ∷ steps) = LetsNone step × LetNone steps
+
 -- ---- what holds
 
 -- each message that was handed out was sent

@@ -29,7 +29,7 @@ ghost use Rattle.pm_lives.specs.RootWrites.{WritesRoot};
 ghost use Rattle.pm_lives.specs.DeviceLife.{AgentStands, DeviceMayRead, told_of, DeviceFollows};
 ghost use Rattle.pm_lives.specs.DeviceWrites.{device_outs, agent_after};
 ghost use Rattle.pm_system.specs.Given.{IsStarted};
-ghost use Rattle.pm_lives.specs.Lives.{World, LifeStep, Live, IsNewWorld, LivesAreCalls, LivesKeepTheLaw, KeptMayBeLearnt};
+ghost use Rattle.pm_lives.specs.Lives.{World, LifeStep, Live, IsNewWorld, LivesAreCalls, LivesKeepTheLaw, KeptMayBeLearnt, LetNone};
 ghost use Rattle.std.specs.Prelude.{◌≤◌, Option, true};
 ghost use Rattle.pm_market.specs.State.{no_changes};
 ghost use Rattle.pm_relay_net.specs.RelayIs.{LimitsPassBy, GivesLimits};
@@ -125,7 +125,7 @@ pub fn device_frames_are_calls()
 /// in order: they store each Resume before they hand out what stands behind it, and hand out bids, prices and setpoints. It ends
 /// at any byte. Whatever was lost, repeated or reordered between the nodes, all that was handed out was sent in one run of a
 /// system; so all prices and setpoints are of one legal journal. The limits that are stored of a relay are at each moment those of
-/// a message of its giver, so it may come back with them.
+/// a message of its giver, so it may come back with them. Nobody is let go but by an Expire.
 pub fn lives_keep_the_law()
     ensures run { (lists : Lists) (p : Pricing) (numbering : Numbering) (start : System)
         (world new : World) (steps : List LifeStep) → IsTreeMarket lists p numbering →
@@ -141,6 +141,9 @@ pub fn lives_keep_the_law()
         (steps : List LifeStep) → IsNewWorld p numbering world →
         Live lists p numbering world steps new → (c : ℕ) → IsConcentrator lists c →
         KeptMayBeLearnt lists p numbering new c }
+    ensures let_go { (lists : Lists) (p : Pricing) (numbering : Numbering) (world new : World)
+        (steps : List LifeStep) → IsNewWorld p numbering world →
+        Live lists p numbering world steps new → LetNone steps → (d : ℕ) → new.let_go d ≡ 0 }
 {
     // The calls tell facts: what runs of a system are, and that to let a child go is two calls of it.
     expiring_is_two_calls();

@@ -5,4 +5,5 @@ pub mod RelayRuns
 pub mod RootRuns
 pub mod DeviceRuns
 mod Following
+mod Handled
 mod Standing

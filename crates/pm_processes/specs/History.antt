@@ -171,6 +171,15 @@ Happen lists p numbering old [] new = old ≡ new
 Happen lists p numbering old (event ∷ events) new =
     (mid : Scene) × Happens1 lists p numbering old event mid × Happen lists p numbering mid events new
 
+-- nothing was handed out or stored between these moments
+pub record HandlesNothing (old new : Scene) : Type 0 where
+  pub bids : (x : ℕ) → new.world.seen.bids_sent x ≡ old.world.seen.bids_sent x
+  pub prices : (x : ℕ) → new.world.seen.prices_sent x ≡ old.world.seen.prices_sent x
+  pub setpoints : (d : ℕ) → new.world.seen.setpoints d ≡ old.world.seen.setpoints d
+  pub relays : (c : ℕ) → new.world.relay_kept c ≡ old.world.relay_kept c
+  pub root : new.world.root_kept ≡ old.world.root_kept
+  pub devices : (d : ℕ) → new.world.agent_kept d ≡ old.world.agent_kept d
+
 -- no process runs, nothing is stored, nothing was handed out, and the basis of all has the steps of the market
 pub record IsNewScene (p : Pricing) (numbering : Numbering) (scene : Scene) : Type 0 where
   pub new_world : IsNewWorld p numbering scene.world

@@ -9,8 +9,10 @@
 //! what the carriers promise), `Kept` (what holds then).
 #![tactic(auto)]
 
-ghost use Rattle.std.specs.Prelude.{◌⊎◌, ℕ, List};
+ghost use Rattle.std.specs.Prelude.{◌≡◌, ◌⊎◌, ℕ, List};
+ghost use Rattle.pm_market.specs.Lists.{Lists};
 ghost use Rattle.pm_net.specs.Pricing.{Pricing};
+ghost use Rattle.pm_net_plan.specs.Places.{Numbering};
 ghost use Rattle.pm_frames.specs.declared.terms.RelayTerms.{RelayTerms};
 ghost use Rattle.pm_frames.specs.declared.place.Stage.TheVariants.{Start};
 ghost use Rattle.pm_frames.specs.RelayFrames.{relay_framing};
@@ -20,6 +22,7 @@ ghost use Rattle.pm_processes.specs.Processes.{IsRelayProcess, IsRootProcess, Is
 ghost use Rattle.pm_processes.specs.RelayProcess.{RelayProcess};
 ghost use Rattle.pm_processes.specs.RootProcess.{RootProcess};
 ghost use Rattle.pm_processes.specs.DeviceProcess.{DeviceProcess};
+ghost use Rattle.pm_processes.specs.History.{Scene, RelayProcessGoesOn, RootProcessGoesOn, DeviceProcessGoesOn, HandlesNothing};
 ghost use Rattle.pm_processes.specs.Kept.{HistoriesKeepTheLaw};
 
 use pm_lives::{lists_are_there, lives_keep_the_law, settled_lives_are_current};
@@ -48,3 +51,16 @@ pub fn histories_keep_the_law()
     lives_keep_the_law();
     settled_lives_are_current();
 }
+
+/// A law: what is handled of a process was written by it. If none is left of the frames that it wrote whole, nothing of it is
+/// handed out or stored, however it goes on.
+pub fn what_is_handled_was_written()
+    ensures relay { (lists : Lists) (p : Pricing) (numbering : Numbering) (old new : Scene)
+        (c : ℕ) → old.left c ≡ 0 → RelayProcessGoesOn lists p numbering old c new →
+        HandlesNothing old new }
+    ensures root { (lists : Lists) (p : Pricing) (numbering : Numbering) (old new : Scene) →
+        old.left 0 ≡ 0 → RootProcessGoesOn lists p numbering old new → HandlesNothing old new }
+    ensures device { (lists : Lists) (p : Pricing) (numbering : Numbering) (old new : Scene)
+        (d : ℕ) → old.left d ≡ 0 → DeviceProcessGoesOn lists p numbering old d new →
+        HandlesNothing old new }
+{}

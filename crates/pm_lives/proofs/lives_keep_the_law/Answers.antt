@@ -1,4 +1,6 @@
 -- Of `lives_keep_the_law`: its clauses.
+use Rattle.std.proofs.Common.{◌∙◌}
+use Rattle.pm_lives.proofs.LettingGo.{none_let_go}
 use Rattle.pm_lives.proofs.LearntWorlds.{new_given, lives_given, may_be_learnt}
 use Rattle.pm_lives.proofs.Living.{lives_are_calls, lives_keep_the_law}
 use Rattle.pm_lives.proofs.lives_keep_the_law.Goals as goal
@@ -16,3 +18,6 @@ returns-clause-law c lists p numbering start world new steps market started none
 pub returns-clause-learnt : goal.returns-clause-learnt
 returns-clause-learnt c lists p numbering world new steps none live relay conc =
     may_be_learnt lists p numbering new (lives_given lists p numbering steps world new (new_given lists p numbering world none) live) relay conc
+
+pub returns-clause-let_go : goal.returns-clause-let_go
+returns-clause-let_go c lists p numbering world new steps none live lets d = none_let_go lists p numbering steps world new lets live d ∙ none.let_go d
