@@ -19,8 +19,11 @@ from typing import Any, Protocol
 from ..cluster import Basis
 from ..live.node_errors import BadMessage
 from ..live.frames import AnyOffer, Leave, Offer, Points, Stated
-from ..live.messages import StateMessage, members_of, object_of
+from ..live.broker_link import Message
+from ..live.messages import members_of, object_of
+from ..live.node_states import NodeStates
 from ..live.sessions import time_of
+from ..live.topics import Topics
 from ..logs import NodeLog
 from .mqtt import BrokerPlace, Client
 
@@ -240,7 +243,8 @@ class NodeLink:
         """Takes the broker, the prefix of the market's topics, and the name of the device's node."""
         self._place = place
         kinds = {"basis": "basis", **{kind: f"{node}/{kind}" for kind in ("setpoint", "offer", "state")}}
-        self._topics = {kind: f"{prefix}/{name}" for kind, name in kinds.items()}
+        self._node, self._topics = node, {kind: f"{prefix}/{name}" for kind, name in kinds.items()}
+        self._states = NodeStates(Topics(prefix), lambda topic: self._client.also_read(topic))
         self._newest: queue.Queue[str | None] = queue.Queue()
         self._sending: threading.Thread | None = None
 
@@ -263,9 +267,10 @@ class NodeLink:
 
     def _hear(self, topic: str, payload: bytes, retained: bool) -> None:
         try:
-            if topic == self._topics["state"]:
-                state = StateMessage.of(payload)
-                self._take(Standing(state.state, state.why))
+            if topic == self._topics["state"] or topic.endswith("/site"):
+                state = self._states.take(Message(topic, payload)).get(self._node)
+                if state is not None:
+                    self._take(Standing(state.state, state.why))
                 return
             told = object_of(payload, "the message")
             if topic == self._topics["basis"]:

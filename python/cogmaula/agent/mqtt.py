@@ -123,6 +123,12 @@ class Client:
             if self._greet is not None:
                 self._greet()
 
+    def also_read(self, topic: str) -> None:
+        """Reads one more topic, now and after each connection."""
+        self._topics = [*self._topics, topic]
+        if self.is_connected:
+            self._client.subscribe(topic, 1)
+
     def _disconnected(self, _client: Any, _data: object, _code: int) -> None:
         self.is_connected = False
 

@@ -5,7 +5,7 @@ from __future__ import annotations
 import os
 import re
 import shutil
-from collections.abc import Mapping
+from collections.abc import Iterable, Mapping
 from dataclasses import dataclass, field, replace
 from functools import cached_property
 from typing import Any, Literal, cast
@@ -22,6 +22,7 @@ from ..live.rights import (
     rights_of_node,
     rights_of_operator,
     rights_of_reader,
+    rights_of_site,
     united,
 )
 from ..live.node_settings import PriceSettings
@@ -203,6 +204,10 @@ class Tree:
         site = self.site_of(member.name)
         return member.host if site is None or site.host is None else site.host
 
+    def _sites_of(self, nodes: Iterable[str]) -> frozenset[str]:
+        """The sites in which some nodes run."""
+        return frozenset(site.name for node in nodes if (site := self.site_of(node)) is not None)
+
     @cached_property
     def _sites(self) -> dict[str, SitePlan]:
         return {node: site for site in self.sites for node in site.nodes}
@@ -219,14 +224,15 @@ class Tree:
         places = [(member.parent, member.child) for member in self.members if member.parent is not None and member.child is not None]
         for member in self.members:
             children = {below.child: below.name for below in self.children(member.name) if below.child is not None}
-            place = Place(member.sort, member.name, member.parent, member.child, children, bool(member.more.get("limits_from")))
+            near = self._sites_of([*children.values(), *([] if member.parent is None else [member.parent])])
+            place = Place(member.sort, member.name, member.parent, member.child, children, bool(member.more.get("limits_from")), near)
             found.setdefault(self.folder_of(member.name), []).extend(rights_of_node(topics, place))
             if member.control:
-                found[member.name + CONTROL] = rights_of_control(topics, member.name)
+                found[member.name + CONTROL] = rights_of_control(topics, member.name, self._sites_of([member.name]))
             if member.page is not None and member.page.get("whole"):
                 found[member.name + PAGE] = rights_of_reader(topics)
         for site in self.sites:
-            found[site.name] = united(found[site.name])
+            found[site.name] = united([*found[site.name], *rights_of_site(topics, site.name)])
         for login in self.logins:
             match login.role:
                 case "operator":
@@ -234,7 +240,7 @@ class Tree:
                 case "reader":
                     found[login.name] = rights_of_reader(topics)
                 case _:
-                    found[login.name] = rights_of_grid_operator(topics, login.relays)
+                    found[login.name] = rights_of_grid_operator(topics, login.relays, self._sites_of(login.relays))
         return found
 
     def with_device(self, device: Member, site: str | None = None) -> Tree:

@@ -3,6 +3,7 @@
 from __future__ import annotations
 
 import sqlite3
+import time
 from collections.abc import Iterable, Sequence
 from importlib.resources import files
 from pathlib import Path
@@ -11,7 +12,7 @@ from urllib.parse import urlsplit
 
 from ..errors import NoPackage
 from ..live.node_errors import BadSettings, LiveError
-from .rows import Row
+from .rows import Row, SiteDown
 
 # The version of the tables.
 VERSION = 1
@@ -30,7 +31,7 @@ class Database(Protocol):
         Raises DatabaseLost, and BadSettings if the tables are of another version.
         """
 
-    def put(self, rows: Iterable[Row]) -> None:
+    def put(self, rows: Iterable[Row | SiteDown]) -> None:
         """Keeps rows, all or none, and leaves a row whose key is there as it is. Raises DatabaseLost."""
 
     def read(self, query: str, values: Sequence[Any] = ()) -> list[tuple[Any, ...]]:
@@ -68,9 +69,21 @@ def _statements() -> list[str]:
     return [statement for statement in "\n".join(lines).split(";") if statement.strip()]
 
 
-def _insert(row: Row, sign: str) -> str:
+# The rows of the nodes of a site that is down: each as its newest, but for when, what and why.
+_DOWN = """
+INSERT INTO states (node, run, at, state, sort, parent, child, floor, ceiling, alarm, silent, why, session)
+SELECT node, run, {0}, 'down', sort, parent, child, floor, ceiling, alarm, silent, {0}, session FROM states AS told
+WHERE run = {0} AND state = 'up' AND at = (SELECT max(at) FROM states WHERE node = told.node AND run = told.run) ON CONFLICT DO NOTHING
+"""
+
+
+def _insert(row: Row | SiteDown, sign: str) -> tuple[str, tuple[Any, ...]]:
+    """A statement, and its values."""
+    if isinstance(row, SiteDown):
+        return _DOWN.format(sign), (time.time() if row.at is None else row.at, row.why, row.run)
     names = ", ".join(row.values)
-    return f"INSERT INTO {row.table} ({names}) VALUES ({', '.join([sign] * len(row.values))}) ON CONFLICT DO NOTHING"
+    statement = f"INSERT INTO {row.table} ({names}) VALUES ({', '.join([sign] * len(row.values))}) ON CONFLICT DO NOTHING"
+    return statement, tuple(row.values.values())
 
 
 def _require_version(found: list[tuple[Any, ...]]) -> None:
@@ -115,14 +128,14 @@ class SqliteDatabase:
         name = Path(self._path).absolute().as_uri() + "?mode=ro" if self._is_reader else self._path
         return sqlite3.connect(name, timeout=30, isolation_level=None, check_same_thread=False, uri=self._is_reader)
 
-    def put(self, rows: Iterable[Row]) -> None:
+    def put(self, rows: Iterable[Row | SiteDown]) -> None:
         """See Database."""
         connection = self._required()
         try:
             connection.execute("BEGIN IMMEDIATE")
             try:
                 for row in rows:
-                    connection.execute(_insert(row, "?"), tuple(row.values.values()))
+                    connection.execute(*_insert(row, "?"))
                 connection.execute("COMMIT")
             except BaseException:
                 connection.execute("ROLLBACK")
@@ -190,12 +203,12 @@ class PostgresDatabase:
             if not self._connection.execute("SELECT version FROM history").fetchall():
                 self._connection.execute("INSERT INTO history VALUES (%s)", (VERSION,))
 
-    def put(self, rows: Iterable[Row]) -> None:
+    def put(self, rows: Iterable[Row | SiteDown]) -> None:
         """See Database."""
         try:
             with self._required().transaction():
                 for row in rows:
-                    self._connection.execute(_insert(row, "%s"), tuple(row.values.values()))
+                    self._connection.execute(*_insert(row, "%s"))
         except self._psycopg.Error as error:
             raise self._lost(error) from None
 

@@ -11,7 +11,7 @@ from ..live.broker_link import Message
 from ..live.children import SESSION, TIME
 from ..live.node_errors import BadFrame, BadMessage
 from ..live.frames import BIDS, PRICES, Bid, Gone, Price, frame_of
-from ..live.messages import BasisMessage, LapseMessage, SetpointMessage, SilentMessage, StateMessage, object_of
+from ..live.messages import BasisMessage, LapseMessage, SetpointMessage, SilentMessage, SiteMessage, StateMessage, object_of
 from ..live.price_table import PriceTable
 from ..live.sessions import time_of
 from ..live.topics import Topics
@@ -30,7 +30,19 @@ class Row:
     values: dict[str, Any] = field(default_factory=dict)
 
 
-def rows_of(topics: Topics, message: Message) -> list[Row]:
+@dataclass(frozen=True)
+class SiteDown:
+    """That the process of a site is down: a row of `states` for each node that has told one of this run, like its newest one.
+
+    at: when that was told, in seconds since 1970; None by the last will, whose time is that of the connection: then it is when this is kept
+    """
+
+    run: str
+    at: float | None
+    why: str
+
+
+def rows_of(topics: Topics, message: Message) -> list[Row | SiteDown]:
     """The rows that a message tells; none if it clears its topic or is of no table. Raises BadMessage if it is not what its topic holds."""
     if not message.payload:
         return []
@@ -40,7 +52,7 @@ def rows_of(topics: Topics, message: Message) -> list[Row]:
         raise BadMessage(str(error)) from None
 
 
-def _rows_of(topics: Topics, message: Message) -> list[Row]:
+def _rows_of(topics: Topics, message: Message) -> list[Row | SiteDown]:
     session = message.properties.get(SESSION, "")
     if message.topic == topics.basis:
         told = BasisMessage.of(message.payload)
@@ -58,11 +70,14 @@ def _rows_of(topics: Topics, message: Message) -> list[Row]:
     if word == "prices":
         at = _seconds_or_none(message.properties.get(TIME))
         return [_price(session, node, price, at) for price in PriceTable.of(message.payload).prices()]
+    if word == "site":
+        site = SiteMessage.of(message.payload)
+        return [] if site.state == "up" else [SiteDown(site.run, None if site.lost else _seconds(site.time), f"the site {node} is down: {site.why}")]
     read = _OF_NODE.get(word)
     return [] if read is None else [read(session, node, message)]
 
 
-def _of_child(session: str, parent: str, word: str, child: int, message: Message) -> list[Row]:
+def _of_child(session: str, parent: str, word: str, child: int, message: Message) -> list[Row | SiteDown]:
     key: dict[str, Any] = {"session": session, "parent": parent, "child": child}
     at = _seconds_or_none(message.properties.get(TIME))
     if word == "lapsed":

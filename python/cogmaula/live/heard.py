@@ -10,7 +10,7 @@ from .broker_link import Message
 from .children import SESSION, TIME
 from .node_errors import BadFrame, BadMessage
 from .frames import BIDS, PRICES, Bid, Gone, Kinds, Old, Price, frame_of
-from .messages import BasisMessage, LapseMessage, SetpointMessage, SilentMessage, StateMessage, control_message_of
+from .messages import BasisMessage, LapseMessage, SetpointMessage, SilentMessage, SiteMessage, StateMessage, control_message_of
 from .price_table import PriceTable
 from .sessions import time_of
 from .topics import Topics
@@ -41,7 +41,7 @@ class Heard:
     """The messages of a market.
 
     basis:     the basis and the session, None before they are told; then no bid, price or setpoint is read
-    states:    by the name of a node; None if its message is no state
+    states:    by the name of a node, as that of its site tells it too; None if its message is no state
     bids:      by its place, the newest Bid or Gone of a child, and when it was sent
     prices:    by its place, the newest Price for a child, and when the market cleared
     setpoints: by the name of a device
@@ -59,6 +59,7 @@ class Heard:
         self._topics = Topics(prefix)
         self.basis: BasisMessage | None = None
         self.states: dict[str, StateMessage | None] = {}
+        self._sites: dict[str, SiteMessage] = {}
         self.bids: dict[Place, tuple[Bid | Gone, str | None]] = {}
         self.prices: dict[Place, tuple[Price, str | None]] = {}
         self.setpoints: dict[str, SetpointMessage] = {}
@@ -70,6 +71,9 @@ class Heard:
         for topic in sorted(messages):
             if messages[topic].payload:
                 self._read(messages[topic])
+        for name, told in self.states.items():
+            if told is not None and told.site is not None and (site := self._sites.get(told.site)) is not None:
+                self.states[name] = site.state_of(told)
         state = None if own is None else self.states.get(own)
         if state is not None and state.parent is not None:
             self.prices = {place: told for place, told in self.prices.items() if place[0] != state.parent or place[1] == state.child}
@@ -102,6 +106,10 @@ class Heard:
             self._read_table(message, node)
         elif word == "state":
             self.states[node] = self._read_as(message, StateMessage.of)
+        elif word == "site":
+            site = self._read_as(message, SiteMessage.of)
+            if site is not None:
+                self._sites[node] = site
         elif word == "setpoint" and self._is_of_session(message):
             setpoint = self._read_as(message, control_message_of)
             if isinstance(setpoint, SilentMessage):

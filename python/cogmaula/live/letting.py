@@ -12,8 +12,9 @@ from .node_errors import BadMessage, BadSettings
 from .frames import AuctioneerResume, Bound, Expire, Gone, Old, RelayResume, TooMuch
 from .keeping import Keeping
 from .lapses import Lapses
-from .messages import LapseMessage, StateMessage
+from .messages import LapseMessage
 from .node_parts import NodeParts
+from .node_states import NodeStates
 from .pricing import Pricing
 from .sessions import now_text
 from .market_times import Times
@@ -47,6 +48,7 @@ class Letting:
         self._waiting: dict[int, Message] = {}
         self._not_before: dict[int, float] = {}
         self._names = parts.names
+        self._states = NodeStates(settings.topics, parts.link.also_read)
 
     def begin(self, resume: RelayResume | AuctioneerResume | None, kept: Iterable[Heard], now: float) -> None:
         """Begins with the Resume, and the bids that the disk has of the children: they count as if they were heard now."""
@@ -166,14 +168,15 @@ class Letting:
     # Letting go.
 
     def take_state(self, message: Message, now: float) -> None:
-        """Takes the state of a child's node."""
+        """Takes the state of a child's node, or of the site of some."""
         try:
-            told = StateMessage.of(message.payload) if message.payload else None
+            found = self._states.take(message)
         except BadMessage as error:
             self._log.warning(f"{message.topic} is not taken: {error}")
             return
-        if told is not None and told.parent == self._settings.name and told.child is not None:
-            self.lapses.state(message.topic.split("/")[-2], told.child, told.state == "up", now)
+        for name, told in found.items():
+            if told is not None and told.parent == self._settings.name and told.child is not None:
+                self.lapses.state(name, told.child, told.state == "up", now)
 
     def drop(self, child: int) -> None:
         """Lets a child go by the word of an operator, if it is a device that bids."""

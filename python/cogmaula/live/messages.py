@@ -118,6 +118,7 @@ class StateMessage:
     silent:  since when the node hears no heartbeat (RFC 3339), None if it does
     version: of the form of what the node writes
     lost:    whether the broker told it by the last will: only the connection was lost, and the process may live
+    site:    the site in whose process the node runs, whose `run` is the node's; None of a process of its own
     """
 
     state: Literal["up", "down"]
@@ -136,6 +137,7 @@ class StateMessage:
     starts: int = 0
     version: int = VERSION
     lost: bool = False
+    site: str | None = None
 
     @property
     def may_live(self) -> bool:
@@ -166,8 +168,52 @@ class StateMessage:
         alarm = _text(told, "alarm", what) if "alarm" in told else ""
         silent = None if told.get("silent") is None else _text(told, "silent", what)
         starts = _whole(told, "starts", what) if "starts" in told else 0
-        more = (sort, parent, child, floor, ceiling, alarm, silent, starts, version_of(told), told.get("lost") is True)
+        site = None if told.get("site") is None else _text(told, "site", what)
+        more = (sort, parent, child, floor, ceiling, alarm, silent, starts, version_of(told), told.get("lost") is True, site)
         return StateMessage(told["state"], run, started, session, time, why, *more)
+
+
+@dataclass(frozen=True)
+class SiteMessage:
+    """Whether the process of a site is up, and so each of its nodes: its one connection has one last will.
+
+    run:     16 hexadecimal digits that each start of the process draws anew, and that the states of its nodes have too
+    started: when the process started (RFC 3339, UTC)
+    time:    when this was told; of a last will, when the connection was made
+    why:     in words, "" if there is nothing to say
+    lost:    whether the broker told it by the last will: only the connection was lost, and the process may live
+    """
+
+    state: Literal["up", "down"]
+    run: str
+    started: str
+    time: str
+    why: str = ""
+    lost: bool = False
+
+    def to_bytes(self) -> bytes:
+        """The message."""
+        return json.dumps(dict(self.__dict__)).encode()
+
+    @staticmethod
+    def of(data: bytes) -> SiteMessage:
+        """What a message tells of a site. Raises BadMessage."""
+        what = "the state of the site"
+        told = object_of(data, what)
+        if told.get("state") not in ("up", "down"):
+            raise BadMessage(f"{what} is neither up nor down")
+        run, started, time, why = (_text(told, word, what) for word in ("run", "started", "time", "why"))
+        for moment in (started, time):
+            time_of(moment)
+        return SiteMessage(told["state"], run, started, time, why, told.get("lost") is True)
+
+    def state_of(self, node: StateMessage) -> StateMessage:
+        """The state of a node of the site: it is down if the process in which it told its own is."""
+        if node.state == "down" or (self.state, self.run) == ("up", node.run):
+            return node
+        if self.run != node.run:
+            return replace(node, state="down", why=f"the site {node.site} has started anew, and the node not yet", time=self.time)
+        return replace(node, state="down", why=f"the site {node.site} is down: {self.why}", time=self.time, lost=self.lost)
 
 
 @dataclass(frozen=True)

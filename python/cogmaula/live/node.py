@@ -30,6 +30,7 @@ from .serving import LAST_SECONDS, Serving
 from .sessions import Session, now_text
 from .node_settings import Settings
 from .showing import Showing
+from .site_life import SiteLife
 from .store import Store
 
 # The seconds between looks at the clock, if nothing else happens.
@@ -67,6 +68,7 @@ class Node:
         turns: Callable[[], None] = lambda: None,
         make_service: MakeService | None = None,
         wake: Callable[[], None] = lambda: None,
+        site: SiteLife | None = None,
     ) -> None:
         """Takes the node's place on disk. `make_node` has the arguments.
 
@@ -74,6 +76,7 @@ class Node:
         tick:         the seconds between looks at the clock, if nothing else happens
         make_service: starts another service than one whose bytes two threads move
         wake:         is called once there is something for `turn` to take, from any thread
+        site:         the process of the site that it runs in, None if it has one of its own
         """
         self.settings = settings
         self._tick = tick
@@ -82,7 +85,8 @@ class Node:
         self._log = log or NodeLog(logging.getLogger(__name__), settings.name)
         self._log_of_changes = self._log.of_changes()
         self._events: queue.SimpleQueue[Event | Came | Ended | _Offered | _Stop] = queue.SimpleQueue()
-        self._run_id, self._started = secrets.token_hex(8), now_text()
+        self._site = None if site is None else site.name
+        self._run_id, self._started = secrets.token_hex(8) if site is None else site.run, now_text()
         self._seen: dict[str, Message] = {}
         self._state_told: tuple[object, ...] = ()
         self._begun = ""
@@ -102,7 +106,8 @@ class Node:
         self.serving = Serving(settings, self._store, self._link, control, self._log, self._put, make_service)
         self._parent: Parent | None = None
         if settings.parent is not None and settings.child is not None:
-            self._parent = Parent(settings, settings.parent, settings.child, self.serving.beating, self._log, self._log_of_changes)
+            place = (settings.parent, settings.child)
+            self._parent = Parent(settings, *place, self.serving.beating, self._also_read, self._log, self._log_of_changes)
 
     @property
     def session(self) -> Session | None:
@@ -112,6 +117,9 @@ class Node:
     def _broker(self, notify: Callable[[Event], None], log: NodeLog) -> Link:
         client_id = f"cogmaula.{self.settings.broker.prefix.replace('/', '.')}.{self.settings.name}"
         return Broker(self.settings.broker, client_id, notify, log)
+
+    def _also_read(self, topic: str) -> None:
+        self._link.also_read(topic)
 
     # The work, and its end.
 
@@ -265,7 +273,7 @@ class Node:
         limits = (floor if floor > -MOST else None, ceiling if ceiling < MOST else None)
         life = (self.serving.alarm, self.serving.silent_since(time.monotonic()))
         more = (settings.sort, settings.parent, settings.child, *limits, *life)
-        message = StateMessage(state, self._run_id, self._started, session, now_text(), why, *more, starts=self._starts, lost=lost)
+        message = StateMessage(state, self._run_id, self._started, session, now_text(), why, *more, starts=self._starts, lost=lost, site=self._site)
         return Publication(settings.own_topic("state"), message.to_bytes())
 
     def _marker(self) -> Publication:
@@ -325,8 +333,17 @@ class Node:
             session.limiting.take(message.payload)
         elif settings.sort != "device" and topic.endswith("/state") and topic != settings.own_topic("state"):
             session.letting.take_state(message, time.monotonic())
+        elif topic.endswith("/site"):
+            self._take_site(session, message)
         elif topic in [settings.own_topic(kind) for kind in ("state", "resume")] or topic == self._bid_topic:
             self._require_alone(session)
+
+    def _take_site(self, session: ServedSession, message: Message) -> None:
+        """Takes the state of a site, in which the parent or children may run."""
+        if self._parent is not None:
+            self._parent.take_site(message)
+        if self.settings.sort != "device":
+            session.letting.take_state(message, time.monotonic())
 
     @property
     def _bid_topic(self) -> str:

@@ -8,11 +8,13 @@ import time
 from collections.abc import Callable
 from typing import Any
 
+from .broker_link import Message
 from .children import SORT
 from .connection import REFUSED, connect, new_client, paho, user_properties_of, words_of, words_of_refusal
 from .node_errors import BadMessage, LiveError
 from .given_limits import LimitsMessage
 from .messages import LapseMessage, StateMessage, object_of
+from .node_states import NodeStates
 from .node_settings import BrokerSettings
 from .topics import Topics
 
@@ -75,6 +77,12 @@ class Words:
                 self._told[message.topic] = bytes(message.payload)
         self._came = time.monotonic()
 
+    def also_read(self, topic: str) -> None:
+        """Reads one more topic, and waits for what the broker retains of it."""
+        self._client.subscribe([(topic, paho().SubscribeOptions(qos=1))])
+        self._came = time.monotonic()
+        self.wait(lambda: time.monotonic() > self._came + QUIET, "the broker does not answer")
+
     def newest(self, topic: str) -> tuple[bytes, dict[str, str], bool]:
         """The newest message of a topic: its payload, its user properties, and whether the broker had kept it."""
         with self._lock:
@@ -97,11 +105,25 @@ class Words:
             time.sleep(TICK)
 
 
+def _state_of(words: Words, topics: Topics, node: str) -> StateMessage | None:
+    """The state of a node, as that of its site tells it too, None if none is seen. Raises BadMessage, and LiveError."""
+    read: list[str] = []
+
+    def also_read(topic: str) -> None:
+        words.also_read(topic)
+        read.append(topic)
+
+    states, topic = NodeStates(topics, also_read), topics.of(node, "state")
+    state = states.take(Message(topic, words.newest(topic)[0]))[node]
+    for topic in read:
+        state = states.take(Message(topic, words.newest(topic)[0])).get(node, state)
+    return state
+
+
 def _require_up(words: Words, topics: Topics, node: str, sorts: tuple[str, ...]) -> None:
     """Raises LiveError unless a node is one of these sorts, and up."""
-    payload = words.newest(topics.of(node, "state"))[0]
     try:
-        state = StateMessage.of(payload) if payload else None
+        state = _state_of(words, topics, node)
     except BadMessage as error:
         raise LiveError(f"the state of {node} cannot be read: {error}") from None
     if state is None:

@@ -11,7 +11,8 @@ from .broker_link import Message
 from .children import SESSION, TIME
 from .node_errors import BadFrame, BadMessage
 from .frames import PRICES, Old, Price, frame_of
-from .messages import VERSION, StateMessage, object_of
+from .messages import VERSION, object_of
+from .node_states import NodeStates
 from .price_table import price_for
 from .served_session import ServedSession
 from .node_settings import Settings
@@ -20,9 +21,12 @@ from .node_settings import Settings
 class Parent:
     """The parent of one node. All calls are of the node's one thread."""
 
-    def __init__(self, settings: Settings, name: str, child: int, beating: Beating, log: NodeLog, of_changes: NodeLog) -> None:
+    def __init__(
+        self, settings: Settings, name: str, child: int, beating: Beating, also_read: Callable[[str], None], log: NodeLog, of_changes: NodeLog
+    ) -> None:
         """Takes the settings of the node, the parent's name, the node's own number there, and the node's heartbeats.
 
+        also_read:  reads one more topic, the state of the parent's site
         of_changes: takes a line that is said again only if another one came between
         """
         self._settings = settings
@@ -34,6 +38,7 @@ class Parent:
         # Its state as it was told last, "" if it was not.
         self._state = ""
         topics = settings.topics
+        self._states = NodeStates(topics, also_read)
         self._topic_of_state = topics.of(name, "state")
         # How each message of a session is taken, by its topic.
         self._takes: dict[str, Callable[[ServedSession, Message], None]] = {
@@ -90,9 +95,19 @@ class Parent:
         number, why = _word_of(message)
         self._log.warning(f"{self._name} does not take bid {number}: it is {why}. The one before counts")
 
+    def take_site(self, message: Message) -> None:
+        """Takes the state of a site, which may be the parent's."""
+        try:
+            self._take_state(message)
+        except BadMessage as error:
+            self._log.warning(f"{message.topic} is not taken: {error}")
+
     def _take_state(self, message: Message) -> None:
         """Says what changed of the parent's state. Raises BadMessage."""
-        told = StateMessage.of(message.payload) if message.payload else None
+        found = self._states.take(message)
+        if self._name not in found:
+            return
+        told = found[self._name]
         if told is not None and told.version != VERSION:
             self._of_changes.error(f"{self._name} is of version {told.version}, and this node of {VERSION}: install this version there")
         if told is not None and told.state != (self._state or "up"):

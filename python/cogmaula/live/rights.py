@@ -40,6 +40,7 @@ class Place:
     parent:      the name of the node above, and `child` the number there; None of the auctioneer
     children:    the nodes directly below: the name of each number
     limits_from: whether a relay takes limits while the market lives
+    sites:       the sites in which its parent and its children run
     """
 
     sort: Sort
@@ -48,6 +49,7 @@ class Place:
     child: int | None = None
     children: Mapping[int, str] = field(default_factory=dict)
     limits_from: bool = False
+    sites: frozenset[str] = frozenset()
 
 
 # What nodes may do with the topics below their own name.
@@ -63,7 +65,8 @@ _OF_NUMBER: Words = (("readwrite", "bid"), ("read", "price"), ("read", "refused"
 _OF_DEVICE_NUMBER: Words = (("read", "lapsed"),)
 
 # What a page of a whole market reads, and what a history does, below the prefix: neither offers nor Resumes.
-SHOWN = ("basis", "+/state", "+/bid/+", "+/price/+", "+/prices", "+/setpoint", "+/lapsed/+")
+# The state of a site comes behind those of its nodes, which it changes.
+SHOWN = ("basis", "+/state", "+/site", "+/bid/+", "+/price/+", "+/prices", "+/setpoint", "+/lapsed/+")
 KEPT = (*SHOWN, "+/limits/state", "+/measured")
 
 
@@ -86,7 +89,17 @@ def rights_of_node(topics: Topics, place: Place) -> list[Right]:
         found += [Right(access, topics.at(place.name, what, child)) for access, what in _OF_EACH_CHILD]
         # A parent sees which of its children are down.
         found.append(Right("read", topics.of(name, "state")))
-    return found
+    return found + _reads_of_sites(topics, place.sites)
+
+
+def _reads_of_sites(topics: Topics, sites: Iterable[str]) -> list[Right]:
+    """That the states of these sites may be read."""
+    return [Right("read", topics.site(site)) for site in sorted(sites)]
+
+
+def rights_of_site(topics: Topics, name: str) -> list[Right]:
+    """What the login of a site may do beside what its nodes may."""
+    return [Right("readwrite", topics.site(name))]
 
 
 def united(rights: Iterable[Right]) -> list[Right]:
@@ -98,9 +111,9 @@ def united(rights: Iterable[Right]) -> list[Right]:
     return [Right(access, topic) for topic, access in found.items()]
 
 
-def rights_of_control(topics: Topics, device: str) -> list[Right]:
-    """What the login of a device's own control may do."""
-    return [Right("read", topics.basis), *_below(topics, device, _OF_CONTROL)]
+def rights_of_control(topics: Topics, device: str, sites: Iterable[str] = ()) -> list[Right]:
+    """What the login of a device's own control may do. `sites` has the one in which the device's node runs, if there is one."""
+    return [Right("read", topics.basis), *_below(topics, device, _OF_CONTROL), *_reads_of_sites(topics, sites)]
 
 
 def rights_of_reader(topics: Topics) -> list[Right]:
@@ -113,7 +126,7 @@ def rights_of_operator(topics: Topics, children: Iterable[tuple[str, int]]) -> l
     return [Right("read", f"{topics.prefix}/#"), *(Right("write", topics.at(parent, "drop", child)) for parent, child in children)]
 
 
-def rights_of_grid_operator(topics: Topics, relays: Iterable[str]) -> list[Right]:
-    """What a grid operator may do, who limits these relays for a while."""
+def rights_of_grid_operator(topics: Topics, relays: Iterable[str], sites: Iterable[str] = ()) -> list[Right]:
+    """What a grid operator may do, who limits these relays for a while. `sites` are those in which they run."""
     words: Words = (("write", "limits"), ("read", "limits/state"), ("read", "state"))
-    return [right for relay in relays for right in _below(topics, relay, words)]
+    return [*(right for relay in relays for right in _below(topics, relay, words)), *_reads_of_sites(topics, sites)]

@@ -29,6 +29,7 @@ from .connection import (
 )
 from .loop import READ, WRITE, Loop
 from .node_settings import BrokerSettings
+from .site_life import SiteLife
 from .topics import Topics
 
 # The most nodes that settle at once: a broker keeps few messages for a connection that has not taken them.
@@ -72,7 +73,7 @@ class SharedLink(Broker):
     def start(
         self, topics: Sequence[str], will: Callable[[], Publication], marker: Callable[[], Publication], written: Sequence[str] = ()
     ) -> None:
-        """See Link. A connection has one last will, which is not that of a node: its parent goes by the age of its bid."""
+        """See Link. A connection has one last will: that of the site, which is the state of each node of it."""
         self._prepare(topics, will, marker, written)
         self._shared.join(self)
 
@@ -105,9 +106,15 @@ class SharedConnection:
     """The connection of a site. All calls are of the loop's thread."""
 
     def __init__(
-        self, settings: BrokerSettings, client_id: str, loop: Loop, log: NodeLog, pauses: tuple[float, float] = (FIRST_PAUSE, LONGEST_PAUSE)
+        self,
+        settings: BrokerSettings,
+        client_id: str,
+        loop: Loop,
+        log: NodeLog,
+        life: SiteLife,
+        pauses: tuple[float, float] = (FIRST_PAUSE, LONGEST_PAUSE),
     ) -> None:
-        """Takes the settings of the broker, the name of the connection, the loop, the log, and the pauses between tries.
+        """Takes the settings of the broker, the name of the connection, the loop, the log, what the site says of itself, and the pauses between tries.
 
         pauses: in seconds, the first and the longest; each is twice the one before
 
@@ -118,6 +125,7 @@ class SharedConnection:
         self.client_id = client_id
         self._loop = loop
         self._log = log
+        self._life = life
         self._pauses = pauses
         self._topics_of_market = Topics(settings.prefix)
         self._links: dict[SharedLink, Share | None] = {}
@@ -127,8 +135,8 @@ class SharedConnection:
         self._readers: dict[str, dict[SharedLink, None]] = {}
         self._newest: dict[str, Message] = {}
         self._subscribed: set[str] = set()
-        # Whose publication a number is, and of which topics a subscription.
-        self._owners: dict[int, Share] = {}
+        # Whose publication a number is, None of the site itself, and of which topics a subscription.
+        self._owners: dict[int, Share | None] = {}
         self._asked: dict[int, list[str]] = {}
         self._client: Any = None
         self._connecting: threading.Thread | None = None
@@ -157,6 +165,11 @@ class SharedConnection:
             self._starting.remove(link)
         if share is not None and self._client is not None:
             self.unsubscribe(share, self._client, list(share.topics))
+
+    def say_down(self, why: str) -> None:
+        """Tells the broker that the site ends, if the connection is there."""
+        if self._client is not None and self._is_there:
+            self._say(self._client, self._life.ends(why))
 
     @property
     def is_there(self) -> bool:
@@ -228,6 +241,7 @@ class SharedConnection:
         if now >= self._looked + LOOK:
             self._looked = now
             self._client.loop_misc()
+        self._life.tick(now)
         if self._is_there:
             self._settling = {link for link in self._settling if not link.is_settled}
             while self._starting and len(self._settling) < SETTLING:
@@ -242,6 +256,8 @@ class SharedConnection:
         """Makes a client and connects it, in a thread of its own: the nodes go on meanwhile."""
         try:
             client = new_client(self.settings, self.client_id, threading.Event(), [])
+            will = self._life.will()
+            client.will_set(will.topic, will.payload, 1, True)
             connect(client, self.settings)
             self._made = client, ""
         except (OSError, ValueError) as error:
@@ -334,6 +350,14 @@ class SharedConnection:
         self._is_there = True
         self._log.info(f"{self.settings.address}: connected{' again' if self._was_there else ''}")
         self._was_there = True
+        # The site is up before each of its nodes.
+        self._client.subscribe([(self._life.topic, self._mqtt.SubscribeOptions(qos=1))])
+        self._say(self._client, self._life.begins(time.monotonic()))
+
+    def _say(self, client: Any, told: Publication) -> None:
+        """Publishes for the site itself."""
+        self._owners[client.publish(told.topic, told.payload, 1, True).mid] = None
+        self._watch()
 
     def _on_subscribe(self, number: int, codes: Any) -> None:
         for topic, code in zip(self._asked.pop(number, []), codes, strict=False):
@@ -346,6 +370,8 @@ class SharedConnection:
             self._log.warning(f"{message.topic[:200]}: a message of {len(message.payload)} bytes is not taken: at most {longest} are")
             return
         found = message_of(message)
+        if found.topic == self._life.topic:
+            self._life.hear(found)
         if found.payload and found.topic in self._subscribed:
             self._newest[found.topic] = found
         else:

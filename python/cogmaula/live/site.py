@@ -25,6 +25,7 @@ from .node import TICK, Node
 from .service import PolledService
 from .node_settings import Settings
 from .shared import SharedConnection
+from .site_life import SiteLife
 from .site_settings import SiteSettings
 
 # A device looks at the clock so often within a heartbeat, and not more seldom than each so many seconds.
@@ -63,7 +64,8 @@ class Site:
         self._log = NodeLog(logging.getLogger(__name__))
         self._loop = Loop()
         client_id = f"cogmaula.{settings.broker.prefix.replace('/', '.')}.{settings.name}"
-        self._connection = SharedConnection(settings.broker, client_id, self._loop, self._log)
+        self._life = SiteLife(settings.name, settings.broker, self._log)
+        self._connection = SharedConnection(settings.broker, client_id, self._loop, self._log, self._life)
         self._is_stopped = False
         # The nodes that have something to take, each once, and when each looks at the clock next.
         self._ready: deque[str] = deque()
@@ -79,6 +81,7 @@ class Site:
                 tick=MOST_SECONDS,
                 make_service=partial(PolledService, self._loop),
                 wake=partial(self._wake, one.name),
+                site=self._life,
             )
 
     def _wake(self, name: str) -> None:
@@ -94,6 +97,7 @@ class Site:
 
     def run(self) -> None:
         """Works until `stop` is called. A node that fails ends by itself, with a line. Raises LiveError once all have failed."""
+        why = "it failed"
         try:
             now = time.monotonic()
             for at, (name, node) in enumerate(self.nodes.items()):
@@ -103,9 +107,11 @@ class Site:
             while self.nodes and not self._is_stopped:
                 self._turn()
             if not self.nodes:
+                why = "no node of it is left"
                 raise LiveError("no node of the site is left: the lines above say why")
+            why = "stopped"
         finally:
-            self._end()
+            self._end(why)
 
     def _turn(self) -> None:
         """Waits for something to do, and does it."""
@@ -151,10 +157,11 @@ class Site:
         except (LiveError, OSError) as error:
             self._log.of_node(node.settings.name).error(str(error))
 
-    def _end(self) -> None:
-        """Ends all nodes, and waits until the broker has what they said last."""
+    def _end(self, why: str) -> None:
+        """Ends all nodes and the site, and waits until the broker has what they said last."""
         for node in self.nodes.values():
             self._end_node(node, "stopped")
+        self._connection.say_down(why)
         end = time.monotonic() + LAST_SECONDS
         while self._connection.is_there and self._connection.unconfirmed and time.monotonic() < end:
             self._loop.turn(TICK)

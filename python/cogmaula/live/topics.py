@@ -18,6 +18,7 @@ _TAKEN = {"basis"}
 # The most bytes of a message, by the word of its topic: a bid has 1,000 steps at most, and an offer tells each of them in JSON.
 _LONGEST = {
     "state": 4_096,
+    "site": 1_024,
     "resume": 4_096,
     "heartbeat": 256,
     "limits": 2_048,
@@ -64,6 +65,10 @@ class Topics:
     def of(self, node: str, what: str) -> str:
         """A topic of one node, such as its `state`, `resume` or `heartbeat`."""
         return f"{self.prefix}/{node}/{what}"
+
+    def site(self, name: str) -> str:
+        """The state of a site, which is that of each of its nodes. Its word is another one than that of a node's: both may have one name."""
+        return self.of(name, "site")
 
     def at(self, parent: str, what: str, child: int | str) -> str:
         """A topic of one child at its parent: `bid`, `price`, `lapsed`, `refused` or `drop`. The child + stands for all."""

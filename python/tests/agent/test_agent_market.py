@@ -19,9 +19,11 @@ from hubs import HubInThread
 from logged import log_to
 
 from cogmaula.agent import Agent, agent_settings_of, running
+from cogmaula.agent.links import NodeLink, Standing
 from cogmaula.agent.modbus import Modbus, ModbusPlace
 from cogmaula.agent.mqtt import BrokerPlace, Client, Mqtt, MqttPlace
 from cogmaula.agent.device_values import NoReading, NotWritten
+from cogmaula.live.messages import SiteMessage, StateMessage
 
 CAPACITY = 1000
 
@@ -254,6 +256,27 @@ def test_an_agent_is_the_control_of_a_node_over_topics(tmp_path):
     with pytest.raises(NotWritten, match="topic store/set"):
         nobody.write(1)
     nobody.close()
+
+
+def test_an_agent_sees_that_the_site_of_its_node_is_down(tmp_path):
+    """A broker alone: the test plays the site."""
+    require_broker()
+    with Mosquitto(tmp_path / "broker") as broker:
+        place, heard = BrokerPlace(port=broker.port), []
+        node = Client(place, [], lambda *_: None)
+        wait_until(lambda: node.is_connected, "the test is connected")
+        now = "2026-01-31T06:30:00.000Z"
+        state = StateMessage("up", "a" * 16, now, "", now, sort="device", parent="street", child=1, site="block")
+        assert node.publish("market/store/state", state.to_bytes().decode(), True)
+        link = NodeLink(place, "market", "store")
+        link.start(heard.append, log_to([].append))
+        wait_until(lambda: heard == [Standing("up", "")], f"its state: {heard}")
+        for told in (SiteMessage("down", "a" * 16, now, now, "the connection was lost", lost=True), SiteMessage("up", "a" * 16, now, now)):
+            assert node.publish("market/block/site", told.to_bytes().decode(), True)
+        down = Standing("down", "the site block is down: the connection was lost")
+        wait_until(lambda: heard == [Standing("up", ""), down, Standing("up", "")], f"that of its site: {heard}")
+        link.close()
+        node.close()
 
 
 def test_a_device_of_a_kind_says_its_state_to_a_hub(live, tmp_path):

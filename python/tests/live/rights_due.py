@@ -15,6 +15,7 @@ street/lapsed/1 street/lapsed/2 street/refused/1 street/refused/2 street/drop/1 
 street/price/3 street/price/x street/drop/3 house/answer store/answer
 house/state house/resume house/setpoint house/offer house/measured house/heartbeat house/bid/1 house/other house/other/other
 store/state store/resume store/setpoint store/offer store/measured
+block/site block/state house/site
 """.split()
 PARENT = ["state", "resume", "heartbeat", "prices", "price/1", "lapsed/1", "refused/1"]
 # What each login writes and reads, by hand from docs/LIVE.md. Each of these is allowed, and nothing else.
@@ -45,12 +46,14 @@ READS = {
     "operator": TOPICS,
     "gridoperator": ["street/limits/state", "street/state"],
     "history": [
-        "basis", *(topic for topic in TOPICS if topic.partition("/")[2].partition("/")[0] in ("state", "bid", "price", "prices", "lapsed", "setpoint", "measured")),
+        "basis", *(topic for topic in TOPICS if topic.partition("/")[2].partition("/")[0] in ("state", "site", "bid", "price", "prices", "lapsed", "setpoint", "measured")),
         "street/limits/state",
     ],
 }
 # A node reads what it writes.
 READS |= {login: [*READS[login], *WRITES[login]] for login in ("auctioneer", "street", "house", "store")}
+# What somebody may read and nobody writes: all else that is read is tried.
+UNWRITTEN = {"auctioneer/bid/2", "house/bid/1", "house/prices", "street/price/3", "street/price/x", "block/site", "block/state", "house/site"}
 
 
 def publish_all(clients):
@@ -60,7 +63,7 @@ def publish_all(clients):
         publication.wait_for_publish(30)
 
 
-def require_rights(made, writes, reads):
+def require_rights(made, writes, reads, without=UNWRITTEN):
     """Each login writes each topic and reads all. The operator, who reads the whole market, sees what was let through."""
     clients = {login: made.client(login) for login in writes}
     publish_all(clients)
@@ -73,4 +76,4 @@ def require_rights(made, writes, reads):
         wait_until(lambda: {topic.removeprefix("market/") for topic, _ in client.read} >= written & set(reads[login]), f"what {login} reads")
         assert {topic.removeprefix("market/") for topic, _ in client.read} == written & set(reads[login]), login
     unwritten = {topic for login, them in reads.items() for topic in them if login != "operator"} - written
-    assert unwritten == {"auctioneer/bid/2", "house/bid/1", "house/prices", "street/price/3", "street/price/x"}, "these have no writer: the others were tried"
+    assert unwritten == without, "these have no writer: the others were tried"

@@ -12,7 +12,7 @@ import pytest
 from brokers import live_program, require_broker, wait_until
 from made import TREE, MadeMarket
 from markets import STEPS, falls_at
-from rights_due import READS, WRITES, require_rights
+from rights_due import READS, UNWRITTEN, WRITES, require_rights
 
 from cogmaula.deploy import Member, add_device
 from cogmaula.live.site import Site
@@ -23,10 +23,14 @@ BLOCK = '\n[sites.block]\nhost = "attic"\nnodes = ["street", "house"]\n'
 TOGETHER = ("street", "house")
 
 
-def of_site(due):
-    """What each login may do, by hand: the site has what its nodes would have, and these have no login."""
-    others = {login: topics for login, topics in due.items() if login not in TOGETHER}
-    return {**others, "block": [topic for name in TOGETHER for topic in due[name]]}
+# Who reads whether the site is up: the parent of the street, the other child of the street, the control of the house, and who limits the street.
+NEAR = ("auctioneer", "store", "house.control", "gridoperator")
+
+
+def of_site(due, near=()):
+    """What each login may do, by hand: the site has what its nodes would have and its own state, and these nodes have no login."""
+    others = {login: [*topics, *(["block/site"] if login in near else [])] for login, topics in due.items() if login not in TOGETHER}
+    return {**others, "block": ["block/site", *(topic for name in TOGETHER for topic in due[name])]}
 
 
 @pytest.fixture
@@ -39,7 +43,7 @@ def made(tmp_path):
 
 
 def test_a_site_has_the_rights_of_its_nodes_and_no_other(made):
-    require_rights(made, of_site(WRITES), of_site(READS))
+    require_rights(made, of_site(WRITES), of_site(READS, NEAR), UNWRITTEN - {"block/site"})
 
 
 class StartedSite:

@@ -87,11 +87,43 @@ def test_what_other_messages_become(told, due):
     assert rows_of(TOPICS, told) == due
 
 
+def test_a_site_that_is_down_is_a_row_of_each_of_its_nodes(url):
+    """Each is like the newest of the node in that run. What is told again changes nothing, and neither does a site that is up."""
+    database = open_database(url)
+    told = village().state("street", "relay", "auctioneer", 1, None, 50, site="block").state("house", "device", "street", 1, site="block")
+    told.messages["market/mill/state"] = Told().state("mill", "device", "auctioneer", 2, run="1" * 16).messages["market/mill/state"]
+    names = ("street", "house", "mill")
+    database.put(row for name in names for row in rows_of(TOPICS, told.messages[f"market/{name}/state"]))
+
+    def downs():
+        return database.read("SELECT node, at, why, sort, parent, child, ceiling FROM states WHERE state = 'down' ORDER BY node")
+
+    database.put(rows_of(TOPICS, told.site("block").messages["market/block/site"]))
+    assert downs() == []
+    message = told.site("block", "down", why="stopped").messages["market/block/site"]
+    for _ in range(2):
+        database.put(rows_of(TOPICS, message))
+        why = "the site block is down: stopped"
+        assert downs() == [("house", AT + 900, why, "device", "street", 1, None), ("street", AT + 900, why, "relay", "auctioneer", 1, 50)]
+    database.close()
+
+
+def test_a_last_will_of_a_site_is_kept_once_with_the_time_at_which_it_came(url):
+    database, began = open_database(url), time.time()
+    told = Told().state("house", "device", "street", 1, site="block").site("block", "down", why="the connection was lost", lost=True)
+    for name in ("house/state", "block/site", "block/site", "house/state"):
+        database.put(rows_of(TOPICS, told.messages[f"market/{name}"]))
+    ((at, why),) = database.read("SELECT at, why FROM states WHERE state = 'down'")
+    assert began <= at <= time.time()
+    assert why == "the site block is down: the connection was lost"
+    database.close()
+
+
 @pytest.mark.parametrize(
     "told",
     [
         message("b/measured", {"power": 1.5, "time": MOMENT}), message("b/measured", {"power": True, "time": MOMENT}),
-        message("b/measured", {"power": 1}), message("b/measured", {"power": 10**13, "time": MOMENT}), message("a/state", b"x"),
+        message("b/measured", {"power": 1}), message("b/measured", {"power": 10**13, "time": MOMENT}), message("a/state", b"x"), message("a/site", b"x"),
         message("a/bid/1", b"\2\0"), message("a/bid/2", village().messages["market/street/bid/1"].payload), message("a/price/1", b"\x17"), message("a/prices", b"\x1f"),
         message("a/limits/state", {**LIMITS, "floor": "x"}), message("a/limits/state", {**LIMITS, "time": "x"}), message("b/setpoint", {}),
     ],

@@ -10,6 +10,7 @@ from pretended import BASIS_TOPIC, LATER, MARKED, basis_payload, bid, device_res
 from cogmaula.live import BadSettings
 from cogmaula.live.frames import Expire, Old, Send, TooMuch
 from cogmaula.live.lapses import Lapses
+from cogmaula.live.messages import SiteMessage
 from cogmaula.live.node_settings import ChildSettings
 from cogmaula.live.market_times import Times
 
@@ -170,6 +171,64 @@ def test_the_last_will_of_a_childs_node_counts(joined):
         one.turned()
         passes(one, 76)
     assert "its node house has been down for 150 s" in lapsed(one, 1)["why"]
+
+
+def site_payload(state, run="a" * 16, **more):
+    return SiteMessage(state, run, "2026-01-31T06:30:00.000Z", "2026-01-31T06:30:00.000Z", **more).to_bytes()
+
+
+@pytest.mark.parametrize("down", [site_payload("down", lost=True, why="the connection was lost"), site_payload("up", "b" * 16)])
+def test_the_last_will_of_the_site_of_a_childs_node_counts_as_the_nodes_own(joined, down):
+    """So does another life of the site, in which the node did not yet tell its state."""
+    one = with_children(joined)
+    up = state_payload("a" * 16, "2026-01-31T06:30:00.000Z", parent="street", child=1, site="block")
+    one.link.comes("market/house/state", up)
+    one.turned()
+    assert "market/block/site" in one.link.topics
+    one.link.comes("market/block/site", down)
+    one.turned()
+    assert list(one.node.serving.session.letting.lapses._down) == [("house", 1)]
+    for _ in range(2):
+        one.link.comes("market/street/bid/1", bid(1, 4, 5, -3).to_bytes(), of("device", "house"))
+        one.turned()
+        passes(one, 76)
+    assert "its node house has been down for 150 s" in lapsed(one, 1)["why"]
+
+
+def test_a_site_that_is_up_again_in_time_keeps_its_devices(joined):
+    one = with_children(joined)
+    up = {"parent": "street", "child": 1, "site": "block"}
+    one.link.comes("market/house/state", state_payload("a" * 16, "2026-01-31T06:30:00.000Z", **up))
+    one.link.comes("market/block/site", site_payload("down", lost=True))
+    one.turned()
+    one.link.comes("market/block/site", site_payload("up", "b" * 16))
+    one.turned()
+    assert list(one.node.serving.session.letting.lapses._down) == [("house", 1)]
+    one.link.comes("market/house/state", state_payload("b" * 16, "2026-01-31T06:31:00.000Z", **up))
+    one.turned()
+    assert one.node.serving.session.letting.lapses._down == {}
+
+
+def test_a_child_that_names_site_after_site_is_read_four(joined):
+    one = with_children(joined)
+    before = len(one.link.topics)
+    for number in [*range(10), "a/b"]:
+        one.link.comes("market/house/state", state_payload("a" * 16, "2026-01-31T06:30:00.000Z", parent="street", child=1, site=f"s{number}"))
+        one.turned()
+    assert one.link.topics[before:] == [f"market/s{number}/site" for number in range(4)]
+
+
+def test_a_child_hears_that_the_site_of_its_parent_is_down(joined):
+    one = joined("device").begun()
+    one.link.comes("market/street/state", state_payload("a" * 16, "2026-01-31T06:30:00.000Z", site="block"))
+    one.turned()
+    for message, line in ((site_payload("down", why="stopped"), "street is down: the site block is down: stopped"), (site_payload("up"), "street is up again")):
+        one.link.comes("market/block/site", message)
+        one.turned()
+        assert one.said[-1] == line
+    one.link.comes("market/block/site", b"x")
+    one.turned()
+    assert one.said[-1] == "market/block/site is not taken: the state of the site is no JSON"
 
 
 def test_the_state_of_a_node_elsewhere_does_not_count(joined):

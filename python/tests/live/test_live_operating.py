@@ -2,9 +2,11 @@
 
 from __future__ import annotations
 
+import pytest
 from brokers import SECONDS, Mosquitto, Onlooker, require_broker
 
-from cogmaula.live.messages import LapseMessage, StateMessage
+from cogmaula.live import LiveError
+from cogmaula.live.messages import LapseMessage, SiteMessage, StateMessage
 from cogmaula.live.operating import drop
 from cogmaula.live.sessions import now_text
 from cogmaula.live.node_settings import BrokerSettings
@@ -20,3 +22,16 @@ def test_a_device_that_is_back_at_once_was_let_go(tmp_path):
         street.client.on_message = lambda client, *_: [client.publish("market/street/lapsed/1", payload, 1, True) for payload in (lapse, b"")]
         told = drop(BrokerSettings(port=broker.port), "street", 1, SECONDS)
     assert told == "child 1 of street is let go as of number 3: by the word of an operator"
+
+
+def test_a_parent_whose_site_is_down_is_down(tmp_path):
+    """Its own state, which it told before its process died, says that it is up."""
+    require_broker()
+    state = StateMessage("up", "run", now_text(), "session", now_text(), "", "relay", "auctioneer", 1, starts=1, site="block")
+    down = SiteMessage("down", "run", now_text(), now_text(), "the connection was lost", lost=True)
+    with Mosquitto(tmp_path) as broker, Onlooker(broker.port, "market/street/drop/1") as street:
+        street.publish("market/street/state", state.to_bytes())
+        street.publish("market/block/site", down.to_bytes())
+        with pytest.raises(LiveError, match=r"street is down \(the site block is down: the connection was lost\): start it first"):
+            drop(BrokerSettings(port=broker.port), "street", 1, SECONDS)
+        assert street.all == [], "nothing was said to it"

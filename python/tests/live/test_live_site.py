@@ -5,19 +5,24 @@ from __future__ import annotations
 import json
 import os
 import signal
+import subprocess
+import sys
 import threading
 import time
 
 import pytest
-from brokers import SECONDS, Mosquitto, Onlooker, require_broker, wait_until
-from markets import BASIS, PLACES, STEPS, Market, falls_at
+from brokers import SECONDS, TOP, Mosquitto, Onlooker, require_broker, wait_until
+from markets import BASIS, PLACES, STEPS, Market, Process, falls_at
 
 from cogmaula.cli import main
 from cogmaula.deploy.toml_text import toml_text
-from cogmaula.live import BadSettings
+from cogmaula.live import BadSettings, site_life
+from cogmaula.live.broker_link import Message
+from cogmaula.live.metrics import metrics_bytes
 from cogmaula.live.service import PolledService
 from cogmaula.live.site import Site
 from cogmaula.live.site_settings import site_settings_of
+from cogmaula.live.view import view_of
 
 CONSTANT = [100] * STEPS
 
@@ -140,6 +145,139 @@ def test_a_site_and_nodes_of_their_own_are_one_market(broker, onlooker, live, tm
                 one.offers(house=falls_at(8, 200, 100) if turn else CONSTANT, store=falls_at(4, 0, -150))
                 one.settles_at(step, house=100, store=-150)
                 assert one.setpoint("house")["bid"] == 2 * (turn + 1), "numbers go on"
+
+
+# Times within which a test sees a device let go: the parent's, in seconds.
+TIMES = {"validity": 2, "heartbeat": 0.5, "grace": 2.5}
+BELOW = ("house", "store")
+
+
+class SiteProcess:
+    """A site in a process of its own, which the test may kill."""
+
+    def __init__(self, tables, folder):
+        self.path, self.log, self.process = folder / "north.toml", folder / "north.err", None
+        self.path.write_text(toml_text(tables))
+
+    def start(self):
+        environment = {**os.environ, "PYTHONPATH": str(TOP / "python"), "PYTHONDONTWRITEBYTECODE": "1"}
+        with open(self.log, "ab") as log:
+            self.process = subprocess.Popen([sys.executable, "-m", "cogmaula", "site", str(self.path)], stderr=log, env=environment)
+
+    def kill(self):
+        self.process.kill()
+        self.process.wait()
+
+    def stop(self):
+        self.process.terminate()
+        return self.process.wait(SECONDS)
+
+
+class OwnProcesses:
+    """The same nodes, each in a process of its own."""
+
+    def __init__(self, port, live, folder):
+        self.nodes = [Process(port, live, folder, name) for name in BELOW]
+
+    def start(self):
+        for node in self.nodes:
+            node.start()
+
+    def kill(self):
+        for node in self.nodes:
+            node.kill()
+
+    def stop(self):
+        return max(node.stop()[0] for node in self.nodes)
+
+
+def below_of(sort, port, live, folder):
+    """The street's two devices: in a site, or each by itself."""
+    tables = tables_of(folder, port, live, *BELOW)
+    tables["broker"]["keepalive"] = 2
+    return SiteProcess(tables, folder) if sort == "site" else OwnProcesses(port, live, folder)
+
+
+def shown(onlooker):
+    """Of each device what a page of the whole market shows: its state, why it is down, and the metric of that."""
+    messages = {topic: Message(topic, payload, properties) for topic, (payload, properties) in list(onlooker.newest.items())}
+    view = view_of("market", messages)
+    found = {node.name: node for node in view.nodes if node.name in BELOW}
+    metrics = metrics_bytes(view, True, []).decode()
+    lines = {line.partition('node="')[2].partition('"')[0]: float(line.split()[-1]) for line in metrics.splitlines() if line.startswith("market_node_up{")}
+    return {name: (node.state, node.why, lines.get(name)) for name, node in found.items()}
+
+
+@pytest.mark.parametrize("sort", ["site", "processes"])
+def test_a_site_that_is_killed_is_to_parents_and_page_as_nodes_of_their_own(sort, broker, onlooker, live, tmp_path):
+    """SIGKILL: the page shows its nodes down at once, the street lets its devices go, and they are back after a new start. A clean stop says so."""
+    pytest.importorskip("prometheus_client")
+    north = "the site north is down: " if sort == "site" else ""
+
+    def require(state, why):
+        due = dict.fromkeys(BELOW, (state, why, float(state == "up")))
+        wait_until(lambda: shown(onlooker) == due, f"{due}: {shown(onlooker)}")
+
+    def offer(step):
+        for name, powers in (("house", CONSTANT), ("store", falls_at(step, 0, -150))):
+            onlooker.publish(f"market/{name}/offer", json.dumps({"power": powers}).encode())
+        wait_until(lambda: [json.loads(onlooker.payload(f"market/{name}/setpoint") or b"{}").get("step") for name in BELOW] == [step] * 2, f"step {step}")
+
+    with Market(broker.port, live, tmp_path) as market:
+        market.start("auctioneer", **TIMES)
+        market.start("street")
+        below = below_of(sort, broker.port, live, tmp_path)
+        below.start()
+        try:
+            require("up", "")
+            offer(4)
+            below.kill()
+            require("down", f"{north}the connection was lost")
+            letting = market.nodes["street"].serving.session.letting
+            wait_until(lambda: len(letting.lapses._down) == 2, "their parent hears it as of each of them")
+            wait_until(lambda: all(onlooker.payload(f"market/street/lapsed/{child}") for child in (1, 2)), "both are let go")
+            below.start()
+            require("up", "")
+            wait_until(lambda: not letting.lapses._down, "their parent hears it")
+            offer(6)
+            wait_until(lambda: not any(onlooker.payload(f"market/street/lapsed/{child}") for child in (1, 2)), "both are back")
+            assert below.stop() == 0
+            require("down", "stopped")
+        finally:
+            below.kill()
+    lines = [line for line in market.said["street"] if "is let go" in line or "is back" in line]
+    assert sorted(line.split(",")[0] for line in lines) == ["child 1 is back", "child 1 is let go", "child 2 is back", "child 2 is let go"]
+
+
+def test_what_a_site_says_of_itself(whole, onlooker, broker):
+    """It is up before its nodes, in the same run. After a lost connection it says so again, and at a clean stop that it has stopped."""
+    told = json.loads(onlooker.payload("market/north/site"))
+    assert (told["state"], told["why"], told["lost"]) == ("up", "", False)
+    states = [json.loads(onlooker.payload(f"market/{name}/state")) for name in whole.nodes]
+    assert {(state["run"], state["site"]) for state in states} == {(told["run"], "north")}
+    order = [topic for topic, _, _ in onlooker.all if topic.endswith(("/site", "/state"))]
+    assert order[0] == "market/north/site"
+    broker.kill()
+    wait_until(lambda: not whole.site._connection.is_there, "the loss is noticed")
+    onlooker.newest.clear()
+    broker.start()
+    wait_until(lambda: json.loads(onlooker.payload("market/north/site") or b"{}").get("run") == told["run"], "it says so again")
+    whole.stop()
+    wait_until(lambda: json.loads(onlooker.payload("market/north/site"))["state"] == "down", "it says that it ends")
+    last = json.loads(onlooker.payload("market/north/site"))
+    assert (last["run"], last["why"], last["lost"]) == (told["run"], "stopped", False)
+
+
+def test_a_site_that_may_not_write_its_own_state_says_so(live, tmp_path, monkeypatch, caplog):
+    """The rights of before: nodes work, and a line says what lacks."""
+    require_broker()
+    monkeypatch.setattr(site_life, "PATIENCE", 0.5)
+    (tmp_path / "acl").write_text("topic read #\n" + "".join(f"topic write market/{name}\n" for name in ("basis", *(f"auctioneer/{word}" for word in ("state", "resume", "heartbeat", "prices")))))
+    with Mosquitto(tmp_path / "broker", "allow_anonymous true", f"acl_file {tmp_path}/acl") as broker, Onlooker(broker.port) as onlooker:
+        with RunningSite(tables_of(tmp_path, broker.port, live, "auctioneer"), onlooker):
+            wait_until(lambda: onlooker.payload("market/auctioneer/state"), "the auctioneer is up")
+            wait_until(lambda: any("does not give market/north/site back" in record.getMessage() for record in caplog.records), "a line")
+            assert onlooker.payload("market/north/site") == b""
 
 
 def test_a_node_that_is_refused_ends_alone(broker, onlooker, live, tmp_path, caplog):

@@ -75,6 +75,36 @@ def test_the_members_of_a_relay():
     assert (street.is_within, street.notes) == (True, ())
 
 
+def of_block():
+    """The village with the street and the house in the site `block`."""
+    return village().state("street", "relay", "auctioneer", 1, None, 50, site="block").state("house", "device", "street", 1, site="block")
+
+
+def states(told):
+    return {node.name: (node.state, node.why) for node in told.view().nodes}
+
+
+def test_the_nodes_of_a_site_are_down_as_their_site_is():
+    alive = dict.fromkeys(("auctioneer", "street", "house", "store", "mill"), ("up", ""))
+    assert states(of_block()) == alive, "a site of which nothing is told says nothing of its nodes"
+    assert states(of_block().site("block")) == alive
+    told = of_block().site("block", "down", why="the connection was lost", lost=True)
+    lost = ("down", "the site block is down: the connection was lost")
+    assert states(told) == {**alive, "street": lost, "house": lost}
+    assert told.node("house").since == "2026-01-31T06:45:00.000Z"
+    anew = ("down", "the site block has started anew, and the node not yet")
+    assert states(of_block().site("block", run="1" * 16)) == {**alive, "street": anew, "house": anew}
+    ended = of_block().state("house", "device", "street", 1, state="down", why="it is refused", site="block").site("block")
+    assert states(ended) == {**alive, "house": ("down", "it is refused")}
+    assert states(of_block().site("other", "down")) == alive
+
+
+def test_a_state_of_a_site_that_is_none_is_listed_and_says_nothing():
+    view = of_block().put("block/site", b'{"state": "away"}').view()
+    assert [(told.topic, told.why) for told in view.not_taken] == [("market/block/site", "the state of the site is neither up nor down")]
+    assert {node.state for node in view.nodes} == {"up"}
+
+
 def test_a_price_is_that_of_its_step():
     told = village()
     told.messages |= Told(basis=Basis(-20, 70, 10)).messages

@@ -7,7 +7,7 @@ from pretended import MOMENT, SESSION
 from cogmaula.cluster import Basis
 from cogmaula.live.broker_link import Message
 from cogmaula.live.frames import Bid, Gone, Price, Setpoint
-from cogmaula.live.messages import BasisMessage, SetpointMessage, StateMessage
+from cogmaula.live.messages import BasisMessage, SetpointMessage, SiteMessage, StateMessage
 from cogmaula.live.price_table import PriceTable
 from cogmaula.live.view import view_of
 
@@ -27,9 +27,12 @@ class Told:
         self.messages[topic] = Message(topic, payload, {"time": time, "session": session})
         return self
 
-    def state(self, name, sort=None, parent=None, child=None, floor=None, ceiling=None, state="up", why="", session=SESSION.id, **more):
-        told = StateMessage(state, "0" * 16, MOMENT, session, MOMENT, why, sort, parent, child, floor, ceiling, **more)
+    def state(self, name, sort=None, parent=None, child=None, floor=None, ceiling=None, state="up", why="", session=SESSION.id, run="0" * 16, **more):
+        told = StateMessage(state, run, MOMENT, session, MOMENT, why, sort, parent, child, floor, ceiling, **more)
         return self.put(f"{name}/state", told.to_bytes())
+
+    def site(self, name, state="up", run="0" * 16, why="", **more):
+        return self.put(f"{name}/site", SiteMessage(state, run, MOMENT, "2026-01-31T06:45:00.000Z", why, **more).to_bytes())
 
     def bid(self, parent, child, number, *demands, **more):
         return self.put(f"{parent}/bid/{child}", Bid(child, number, demands).to_bytes(), **more)
