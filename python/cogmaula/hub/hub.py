@@ -14,7 +14,6 @@ from typing import Any
 
 from ..live.counting import NodeFacts
 from ..live.node_errors import LiveError
-from ..live.messages import BasisMessage
 from ..live.node import Node
 from ..live.market_page import MOST_CONNECTIONS as CONNECTIONS_OF_PAGE
 from ..live.market_page import PATIENCE_OF_LOOP
@@ -124,12 +123,12 @@ class Hub:
     async def _begin(self, auctioneer: Running, stopping: asyncio.Event) -> None:
         """Starts what stands on the auctioneer's session, once that has begun."""
         loop = asyncio.get_running_loop()
-        while (basis := self.exchange.message(self.settings.topics.basis)) is None:
+        while (session := auctioneer.node.session) is None:
             await _wait(stopping, 0.01)
             if stopping.is_set():
                 return
-        self._session = BasisMessage.of(basis.payload).session
-        self._agents = Agents(self.settings, self.exchange, self._session, loop, self._log)
+        self._session = session
+        self._agents = Agents(self.settings, self.exchange, session, loop, self._log)
         self._agents.begin()
         lacking = self._admission.files_lacking(self._agents.allowed)
         if lacking:

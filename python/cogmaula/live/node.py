@@ -111,8 +111,9 @@ class Node:
 
     @property
     def session(self) -> Session | None:
-        """The session that the node is in, None between sessions."""
-        return None if self.serving.session is None else self.serving.session.stored.session
+        """The session that the node is in, None between sessions. It may be asked from any thread."""
+        served = self.serving.session
+        return None if served is None else served.stored.session
 
     def _broker(self, notify: Callable[[Event], None], log: NodeLog) -> Link:
         client_id = f"cogmaula.{self.settings.broker.prefix.replace('/', '.')}.{self.settings.name}"

@@ -49,6 +49,8 @@ class Offers:
         self._made: Wanted | None = None
         self._not_before = 0.0
         self._until: float | None = None
+        # The end that is stored, as it was read last: it is looked at often, and is seldom another one.
+        self._stored_end: tuple[str, datetime] | None = None
         self._last = 0
         # The control's own number of what is wanted, and of what was asked.
         self._reference: int | None = None
@@ -96,7 +98,9 @@ class Offers:
         """Whether the newest offer holds for much longer than is stored."""
         if self._until is None or self._validity is None or self.current is None or not stored:
             return False
-        left = (time_of(stored) - datetime.now(timezone.utc)).total_seconds()
+        if self._stored_end is None or self._stored_end[0] != stored:
+            self._stored_end = stored, time_of(stored)
+        left = (self._stored_end[1] - datetime.now(timezone.utc)).total_seconds()
         return self._until - now - left > self._validity / 4
 
     def forget(self) -> None:

@@ -13,6 +13,7 @@ from brokers import SECONDS
 from logged import log_to
 from pretended import BASIS, LATER, MOMENT, SESSION, device_resume, resume_gone
 
+from cogmaula.live import offers as offers_module
 from cogmaula.live.asking import Asking
 from cogmaula.live.control import StandardControl
 from cogmaula.live.node_errors import BadMessage
@@ -158,6 +159,25 @@ def test_a_silent_control_lets_its_device_leave_once():
     assert one.is_out
     one.take(power(5, -3), 40)
     assert one.due(40) == Offer((5, -3))
+
+
+def test_the_end_that_is_stored_is_read_once_and_not_at_each_look(monkeypatch):
+    """A node looks some twenty times a second, and what it stored changes every quarter of the validity at most."""
+    read = []
+    monkeypatch.setattr(offers_module, "time_of", lambda text: read.append(text) or time_of(text))
+    one, _ = offers(validity=100)
+    one.take(b'{"power": [500, -300]}', 0.0)
+    one.due(0.0)
+    one.resumed(device_resume(2, 0, (500, -300)))
+    first = one.ends_at(0.0)
+    one.take(b'{"power": [500, -300]}', 24.0)
+    assert [one.has_later_end(first, 0.0) for _ in range(5)] == [False] * 5
+    one.take(b'{"power": [500, -300]}', 26.0)
+    # The clock of the day stands, and that which only rises went on by 26 s: the newest offer ends 26 s later than the one that is stored.
+    later = one.ends_at(0.0)
+    assert [one.has_later_end(first, 0.0) for _ in range(5)] == [True] * 5
+    assert [one.has_later_end(later, 0.0), one.has_later_end(first, 0.0)] == [False, True]
+    assert read == [first, later, first]
 
 
 def test_an_agent_that_comes_back_has_the_validity_anew():
