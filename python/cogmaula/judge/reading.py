@@ -25,7 +25,8 @@ from .recording_faults import Fault, Faulty, NoRecording
 
 _NAME = re.compile(r"([A-Za-z0-9_-]{1,64})\.([0-9a-f]{16})\.([0-9]{6,})\.frames(\.gz)?")
 _HEX = re.compile(r"(?:[0-9a-f]{2})+")
-# The members of each line behind `at` and `what`, in their order.
+# The members of an `out` of several frames, and of each other line, behind `at` and `what` in their order.
+SEVERAL = ["frames"]
 MEMBERS: dict[str, list[str]] = {
     START: ["node", "sort", "arguments", "parent", "child", "min", "max", "steps", "session", "begun", "resume"],
     IN: ["frame"],
@@ -57,7 +58,7 @@ class Start:
 
 @dataclass(frozen=True, slots=True)
 class Event:
-    """A line: where it is, what it tells, and the frame of an `in` or `out`, or what a `start` says.
+    """A line, or a frame of one: where it is, what it tells, and the frame of an `in` or `out`, or what a `start` says.
 
     is_late: of a start, whether what was before it is not there
     """
@@ -125,12 +126,13 @@ class Recorded:
             if not line.endswith(b"\n"):
                 yield Event(path.name, number, "")
                 return
-            event = event_of(line, path.name, number)
-            if event is None:
+            events = events_of(line, path.name, number)
+            if not events:
                 raise self.fault(Event(path.name, number, ""), "it is no line of a recording")
-            if event.start is not None and (event.start.node, event.start.session.id) != (self.node, self.session):
-                raise self.fault(event, "it is of another node or session than its file's name says")
-            yield event
+            for event in events:
+                if event.start is not None and (event.start.node, event.start.session.id) != (self.node, self.session):
+                    raise self.fault(event, "it is of another node or session than its file's name says")
+                yield event
 
     def _lines_in(self, path: Path) -> Iterator[tuple[int, bytes]]:
         """The lines of a file, each with its number. Raises Faulty if what is compressed is damaged, and OSError."""
@@ -143,24 +145,25 @@ class Recorded:
             raise self.fault(Event(path.name, number + 1, ""), f"the compressed file is damaged from here on: {error}") from None
 
 
-def event_of(line: bytes, file: str, number: int) -> Event | None:
-    """What a line tells, None if it is no line of a recording."""
+def events_of(line: bytes, file: str, number: int) -> list[Event]:
+    """What a line tells, one behind the other; nothing if it is no line of a recording."""
     try:
         told = json.loads(line)
     except (ValueError, RecursionError):
-        return None
+        return []
     if not isinstance(told, dict) or list(told)[:2] != ["at", "what"]:
-        return None
-    what = told["what"]
-    if not isinstance(what, str) or not isinstance(told["at"], str) or list(told)[2:] != MEMBERS.get(what):
-        return None
+        return []
+    what, members = told["what"], list(told)[2:]
+    if not isinstance(what, str) or not isinstance(told["at"], str) or (members != MEMBERS.get(what) and (what, members) != (OUT, SEVERAL)):
+        return []
     if what in (IN, OUT):
-        data = _bytes_of(told["frame"])
-        return None if data is None else Event(file, number, what, data)
+        several = told["frames"] if members == SEVERAL else [told["frame"]]
+        found = [_bytes_of(text) for text in several] if isinstance(several, list) else [None]
+        return [Event(file, number, what, data) for data in found if data is not None] if None not in found else []
     if what == START:
         start = _start_of(told)
-        return None if start is None else Event(file, number, what, start=start)
-    return Event(file, number, what)
+        return [] if start is None else [Event(file, number, what, start=start)]
+    return [Event(file, number, what)]
 
 
 def _bytes_of(text: object) -> bytes | None:

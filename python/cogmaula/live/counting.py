@@ -51,6 +51,10 @@ class Counts:
         # When the node's loop turned last, by a clock that only rises.
         self.turned = time.monotonic()
 
+    def passed(self, count: int) -> None:
+        """Counts so many Prices of the service for children."""
+        self.prices[OF_PRICES[Price]] += count
+
     def wrote(self, frame: Frame, lacking: int) -> None:
         """Counts a frame of the service. `lacking` is how many children the node waits for, if it is not caught up."""
         if (outcome := OF_BIDS.get(type(frame))) is not None:

@@ -12,10 +12,12 @@ from __future__ import annotations
 
 import json
 import os
+from collections.abc import Sequence
 from datetime import datetime, timezone
 from pathlib import Path
 
 from .compressing import ENDING, compress_later
+from .frames import Frame
 from .node_settings import Settings
 from .store import Stored
 
@@ -76,9 +78,15 @@ class Recording:
         """Records a frame that is fed to the service now."""
         self._write(IN, frame=data.hex())
 
-    def wrote(self, data: bytes) -> None:
-        """Records a frame of the service that is handled now."""
-        self._write(OUT, frame=data.hex())
+    def wrote(self, frames: Sequence[Frame]) -> None:
+        """Records frames of the service that are handled now, one behind the other. Several are one line."""
+        if self._folder is None:
+            return
+        told = [frame.to_bytes().hex() for frame in frames]
+        if len(told) == 1:
+            self._write(OUT, frame=told[0])
+        else:
+            self._write(OUT, frames=told)
 
     def make_safe(self) -> None:
         """Waits until all lines are safe on disk."""

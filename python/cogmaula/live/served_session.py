@@ -221,10 +221,30 @@ class ServedSession:
                 self.pricing.flush()
                 if self._parts.link.is_unconfirmed(self._told_below()):
                     return
-            self.pending.popleft()
-            self._parts.recording.wrote(frame.to_bytes())
-            self._handle(frame)
+            prices = self._cut_prices()
+            if prices:
+                self._parts.recording.wrote(prices)
+                self._pass_on(prices)
+            else:
+                frame = self.pending.popleft()
+                self._parts.recording.wrote([frame])
+                self._handle(frame)
         self.pricing.flush()
+
+    def _cut_prices(self) -> list[Price]:
+        """Takes the Prices that come next, one directly behind the other: those of a clearing are recorded and handled together."""
+        prices: list[Price] = []
+        while self.pending and isinstance(frame := self.pending[0], Price):
+            prices.append(frame)
+            self.pending.popleft()
+        return prices
+
+    def _pass_on(self, prices: list[Price]) -> None:
+        """Tells children their prices. A relay that leaves tells none."""
+        self._parts.counts.passed(len(prices))
+        now = time.monotonic()
+        for price in prices if not self._settings.is_fence else []:
+            self.pricing.pass_on(price, self._time_of(price.index), now)
 
     def _told_below(self) -> Collection[str]:
         """The topics that the broker has to confirm before a Resume behind them is stored."""
@@ -243,10 +263,8 @@ class ServedSession:
                 self.limiting.bids(frame.number, time.monotonic())
                 if isinstance(frame, Gone):
                     self._parts.link.publish(Publication(self._settings.own_topic("setpoint"), b""))
-            case Price() | Old() if self._settings.is_fence:
+            case Old() if self._settings.is_fence:
                 pass
-            case Price():
-                self.pricing.pass_on(frame, self._time_of(frame.index), time.monotonic())
             case Setpoint():
                 moment, has_bid = self._time_of(frame.index), self._parts.beating.has_bid
                 self._parts.controlling.setpoint(self.keeping, frame, moment, time.monotonic(), has_bid)

@@ -64,8 +64,8 @@ def test_what_the_nodes_of_a_hub_record_is_a_run(live, tmp_path):
     path = next(folder.glob("hub.*.frames"))
     lines = path.read_text().splitlines(keepends=True)
     # A Price is its kind 23, the child, the number, the index and then the step, of two bytes.
-    at = next(at for at, line in enumerate(lines) if '"out"' in line and '"frame": "17' in line)
-    begin = lines[at].index('"frame": "17') + len('"frame": "17') + 2 * (2 + 4 + 4)
+    at = next(at for at, line in enumerate(lines) if '"out"' in line and '"17' in line)
+    begin = lines[at].index('"17') + len('"17') + 2 * (2 + 4 + 4)
     step = "0004" if lines[at][begin : begin + 4] == "0009" else "0009"
     lines[at] = lines[at][:begin] + step + lines[at][begin + 4 :]
     path.write_text("".join(lines))

@@ -133,12 +133,20 @@ class RecordedMarket:
             node._store.close()
 
 
+def single(line):
+    """A line as lines of one frame each, which is the other form of one that has several."""
+    told = json.loads(line)
+    if "frames" not in told:
+        return [line]
+    return [json.dumps({"at": told["at"], "what": told["what"], "frame": frame}).encode() for frame in told["frames"]]
+
+
 class Lines:
-    """The recordings of a folder as lines that a test looks up, changes and writes back."""
+    """The recordings of a folder as lines of one frame each that a test looks up, changes and writes back."""
 
     def __init__(self, folder, places=PLACES, steps=STEPS):
         self.folder, self.places, self.steps = Path(folder), places, steps
-        self.files = {name: data.split(b"\n")[:-1] for name, data in contents_of(folder).items()}
+        self.files = {name: [one for line in data.split(b"\n")[:-1] for one in single(line)] for name, data in contents_of(folder).items()}
 
     def of(self, node, what, name="", **fields):
         """The places of a node's lines of this word, and if a name is given of frames of this name with these fields."""

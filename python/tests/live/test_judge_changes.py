@@ -246,7 +246,8 @@ def test_what_follows_an_end_has_to_be_a_start(lines, live):
 
 @pytest.mark.parametrize(
     "line", [b"", b"{", b"[]", b"{}", b'{"what": "in", "at": "t", "frame": "09"}', b'{"at": "t", "what": "in", "frame": "9"}',
-             b'{"at": "t", "what": "in", "frame": "0Z"}', b'{"at": "t", "what": "went"}', b'{"at": 1, "what": "stored"}',
+             b'{"at": "t", "what": "in", "frame": "0Z"}', b'{"at": "t", "what": "in", "frames": ["09"]}', b'{"at": "t", "what": "out", "frames": []}',
+             b'{"at": "t", "what": "out", "frames": ["06", "6"]}', b'{"at": "t", "what": "out", "frames": "06"}', b'{"at": "t", "what": "out", "frame": "06", "frames": ["06"]}', b'{"at": "t", "what": "went"}', b'{"at": 1, "what": "stored"}',
              b'{"at": "t", "what": "stored", "more": 1}', b'{"at": "t", "what": ["stored"]}', b"\xff"],
 )  # fmt: skip
 def test_a_line_that_is_none_is_named(lines, live, line):

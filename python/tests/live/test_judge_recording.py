@@ -7,6 +7,7 @@ import gzip
 import json
 import os
 import re
+import shutil
 
 import pytest
 from markets import falls_at
@@ -15,7 +16,7 @@ from recorded import Lines, RecordedMarket, contents_of, files_of
 
 from cogmaula.judge import judge
 from cogmaula.live import BadSettings, compressing, recording
-from cogmaula.live.frames import Clear, Send
+from cogmaula.live.frames import Clear, Old, Send
 from cogmaula.live.node_settings import settings_of
 
 FIRST = relay_resume(1, 0, 0, numbers((1, 1)))
@@ -30,7 +31,8 @@ def told_in(folder):
 
 
 def frames_in(folder, *words):
-    return [(line["what"], line["frame"]) for line in told_in(folder) if line["what"] in (words or ("in", "out"))]
+    lines = [line for line in told_in(folder) if line["what"] in (words or ("in", "out"))]
+    return [(line["what"], frame) for line in lines for frame in line.get("frames", [line.get("frame")])]
 
 
 def test_a_node_records_its_start_and_each_frame(joined, tmp_path):
@@ -56,6 +58,29 @@ def test_a_node_records_its_start_and_each_frame(joined, tmp_path):
     ]
     lines = next(folder.iterdir()).read_text().splitlines()
     assert list(json.loads(lines[0]))[:4] == ["at", "what", "node", "sort"]
+
+
+def test_the_prices_of_a_clearing_are_one_line(joined, tmp_path):
+    """What comes behind them has a line of its own, and so has a Price alone."""
+    folder = tmp_path / "recordings"
+    one = joined("auctioneer", record=str(folder)).begun()
+    frames = [price(1, 2, 1, 1), price(2, 4, 1, 1), price(3, 6, 1, 1), Old(2, 5), price(2, 6, 1, 1)]
+    one.writes(*frames)
+    told = [{name: value for name, value in line.items() if name != "what"} for line in told_in(folder) if line["what"] == "out"]
+    first, second, third, old, last = (frame.to_bytes().hex() for frame in frames)
+    assert told == [{"frames": [first, second, third]}, {"frame": old}, {"frame": last}]
+
+
+def test_a_judge_reads_both_forms_alike(recorded, live, tmp_path):
+    """The recordings of a market with lines of several prices, and the same with a line for each."""
+    whole = b"".join(contents_of(recorded).values())
+    assert b'"what": "out", "frames": [' in whole
+    folder = shutil.copytree(recorded, tmp_path / "single")
+    Lines(folder).write()
+    assert b'"frames"' not in b"".join(contents_of(folder).values())
+    verdict = judge(recorded, live)
+    assert verdict.verdict == "valid"
+    assert judge(folder, live) == verdict
 
 
 def test_a_node_without_a_folder_records_nothing(joined, tmp_path):
