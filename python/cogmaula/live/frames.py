@@ -430,23 +430,23 @@ BIDS, PRICES = _by_kind(Bid, Gone), _by_kind(Price, Old)
 FIRST_FORM = (5, 12, 16)
 
 
-def _length(kind: type[Frame], steps: int, first: int) -> int:
-    """How many items the list of a frame of this kind has."""
-    return {DEMANDS: steps, NUMBERS: CHILDREN, PAIRS: 2 * (first - POINTS)}.get(kind.LIST, 0)
+def _form(kind: type[Frame], steps: int, first: int) -> tuple[struct.Struct, int]:
+    """The format of a frame of this kind, with this first byte, in a market of so many steps, and how many items its list has."""
+    length = {DEMANDS: steps, NUMBERS: CHILDREN, PAIRS: 2 * (first - POINTS)}.get(kind.LIST, 0)
+    return struct.Struct(f">B{kind.FIELDS}{length}{item(kind.LIST)}"), length
 
 
 def size_of(kind: type[Frame], steps: int, first: int = POINTS) -> int:
     """How many bytes a frame of this kind, with this first byte, has in a market of so many steps."""
-    return struct.calcsize(f">B{kind.FIELDS}") + 4 * _length(kind, steps, first)
+    return _form(kind, steps, first)[0].size
 
 
-def _made(kind: type[Frame], data: bytes, steps: int) -> Frame:
-    """The frame of this kind that so many bytes are. It keeps them."""
-    length = _length(kind, steps, data[0])
-    fields = struct.unpack(f">B{kind.FIELDS}{length}{item(kind.LIST)}", data)[1:]
-    fixed = len(fields) - length
+def _made(kind: type[Frame], data: bytes, form: struct.Struct, length: int) -> Frame:
+    """The frame of this kind that so many bytes are, by what `_form` gives. It keeps them."""
+    fields = form.unpack(data)[1:]
     # The fields of a kind are those of its formats, and a list behind them.
     make: Callable[..., Frame] = kind
+    fixed = len(fields) - length
     frame = make(*fields[:fixed], fields[fixed:]) if kind.LIST else make(*fields)
     frame.keep_bytes(data)
     return frame
@@ -461,9 +461,10 @@ def frame_of(data: bytes, kinds: Kinds, steps: int) -> Frame:
         raise BadFrame("it is a frame of the first form: install this version at the node that wrote it")
     if kind is None:
         raise BadFrame(f"it begins with the byte {data[0]}, which is no kind that may come here")
-    if len(data) != size_of(kind, steps, data[0]):
-        raise BadFrame(f"a {kind.__name__} has {size_of(kind, steps, data[0])} bytes in a market of {steps} steps, and not {len(data)}")
-    frame = _made(kind, data, steps)
+    form, length = _form(kind, steps, data[0])
+    if len(data) != form.size:
+        raise BadFrame(f"a {kind.__name__} has {form.size} bytes in a market of {steps} steps, and not {len(data)}")
+    frame = _made(kind, data, form, length)
     frame.require_right(steps)
     return frame
 
@@ -476,19 +477,27 @@ class Splitter:
         self.kinds = kinds
         self.steps = steps
         self.kept = b""
+        # Of each first byte that has come its kind and form: frames of few kinds come by the thousand.
+        self._forms: dict[int, tuple[type[Frame], struct.Struct, int]] = {}
+
+    def _form_of(self, first: int) -> tuple[type[Frame], struct.Struct, int]:
+        """The kind and the form of a frame with this first byte. Raises BadFrame."""
+        kind = self.kinds.get(first)
+        if kind is None:
+            raise BadFrame(f"the byte {first} begins no frame that this node writes")
+        found = self._forms[first] = (kind, *_form(kind, self.steps, first))
+        return found
 
     def feed(self, piece: bytes) -> Iterator[Frame]:
         """The frames that a further piece ends, in their order. Raises BadFrame at a byte that begins no frame."""
         data, at = self.kept + piece, 0
         try:
             while at < len(data):
-                kind = self.kinds.get(data[at])
-                if kind is None:
-                    raise BadFrame(f"the byte {data[at]} begins no frame that this node writes")
-                end = at + size_of(kind, self.steps, data[at])
+                kind, form, length = self._forms.get(data[at]) or self._form_of(data[at])
+                end = at + form.size
                 if end > len(data):
                     return
-                frame, at = _made(kind, data[at:end], self.steps), end
+                frame, at = _made(kind, data[at:end], form, length), end
                 yield frame
         finally:
             self.kept = data[at:]

@@ -53,7 +53,8 @@ class PriceTable:
 
     def is_of_clearing(self, price: Price) -> bool:
         """Whether a Price may be in the table: it is of the same clearing, step and basis."""
-        return (self.index, self.step, self.basis) == (price.index, price.step, price.basis)
+        own = self.basis
+        return (self.index, self.step, own.min, own.max, own.steps) == (price.index, price.step, price.least, price.greatest, price.steps)
 
     def prices(self) -> list[Price]:
         """The Price of each child, in the order of the children."""

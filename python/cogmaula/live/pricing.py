@@ -177,4 +177,5 @@ class Pricing:
 
 def is_of_same_power(before: Price, price: Price) -> bool:
     """Whether a Price gives a child what the one before gave: it answers the same bid, by the same step, in the same basis."""
-    return (before.number, before.step, before.basis) == (price.number, price.step, price.basis)
+    of_before = (before.number, before.step, before.least, before.greatest, before.steps)
+    return of_before == (price.number, price.step, price.least, price.greatest, price.steps)
