@@ -1,8 +1,10 @@
 -- What a cluster keeps, through a move.
-use Rattle.std.proofs.Common.{◌≡◌, ◌∙◌, sym, ap, subst, ℕ, ◌+◌, ◌<◌, ◌≤◌, None, is_some, true, get_or, length, arith}
+use Rattle.std.proofs.Common.{◌≡◌, ◌∙◌, sym, ap, subst, ℕ, ◌+◌, ◌<◌, ◌≤◌, is_some, length, arith}
+use Rattle.std.proofs.lemmas.List.{length-map}
 use Rattle.std.proofs.Math.Logic.{∥∥₁_map, ∥∥₁_elim}
 use Rattle.std.proofs.Props.{props}
-use Rattle.pm_market.specs.Lists.{nodes, parent, IsNode, IsLeaf, IsInner}
+use Rattle.pm_tree.specs.Entries.{children_of}
+use Rattle.pm_market.specs.Lists.{nodes, parent, IsNode, IsLeaf, IsInner, IsConcentrator}
 use Rattle.pm_market.specs.State.{State}
 use Rattle.pm_market.specs.Moves.{step}
 use Rattle.pm_market.specs.declared.moves.Move.{Move}
@@ -15,6 +17,7 @@ use Rattle.pm_stands.specs.Stands.{StandsFor, Stands, MakesMove}
 use Rattle.pm_plan.proofs.MarketLists.{lawful}
 use Rattle.pm_cluster.specs.Clusters.{ClusterValue}
 use Rattle.pm_cluster.specs.ClusterFields.{AreClusterFields, HasPlaces, core_of, cluster_of}
+use Rattle.pm_cluster.specs.Parts.{HasConcentrator, HasParent, HasLinkAt}
 use Rattle.pm_cluster.specs.declared.cluster.Cluster.TheInside.{Inside}
 
 -- a cluster that stands for some state has all the places that the code reads
@@ -31,11 +34,27 @@ places_of plan c stands = ∥∥₁_elim stands (Prim.hlevel props) (λ st. reco
   there = λ y conc. ap is_some (st.is.shaped.there y conc);
 })
 
--- a parent that is not the auctioneer has its concentrator
+-- a parent has its place, and if it is not the auctioneer its concentrator
 pub parent_there : (plan : PlanData) → IsPlan plan → (c : Core) → HasPlaces plan c → (x y : ℕ) → IsNode (plan_lists plan) x →
-    y ≡ parent (plan_lists plan) x → y ≤ nodes (plan_lists plan) → (y ≡ 0 → ⊥) → is_some (get_or c.concentrators y None) ≡ true
-parent_there plan is_plan c places x y node e inside ne =
-    places.there y (omega arith, inside, subst (λ (i : ℕ). IsInner (plan_lists plan) i) (sym e) ((lawful plan is_plan).inner x node))
+    y ≡ parent (plan_lists plan) x → y ≤ nodes (plan_lists plan) → HasParent c.concentrators y
+parent_there plan is_plan c places x y node e inside = record {
+  parent = omega (arith, inside, places.all_concentrators);
+  there = λ ne. places.there y (omega arith, inside, subst (λ (i : ℕ). IsInner (plan_lists plan) i) (sym e) ((lawful plan is_plan).inner x node));
+}
+
+-- a concentrator has its place, and is there
+pub concentrator_there : (plan : PlanData) (c : Core) → HasPlaces plan c → (x : ℕ) → IsConcentrator (plan_lists plan) x →
+    HasConcentrator c.concentrators x
+concentrator_there plan c places x conc = record { node = omega (arith, conc.1, places.all_concentrators); there = places.there x conc }
+
+-- the link of a node to its parent has its place
+pub link_there : (old : Inside) → HasPlaces old.plan.now (core_of old) → (x y k : ℕ) → y ≡ parent (plan_lists old.plan.now) x →
+    y ≤ nodes (plan_lists old.plan.now) → k < length (children_of old.plan.now.entries (parent (plan_lists old.plan.now) x)) →
+    HasLinkAt old.links.items y k
+link_there old places x y k e inside within = record {
+  parent = omega (arith, inside, places.all_links, length-map old.links.items (λ row. row.items));
+  place = omega (arith, within, places.rows y inside, ap (λ (i : ℕ). length (children_of old.plan.now.entries i)) e);
+}
 
 -- a cluster stands for the state after a move that was made
 pub stands_after : (plan : PlanData) (c new : Core) (m : Move) → ((s : State) → StandsFor plan c s → MakesMove plan new s m) →

@@ -1,11 +1,14 @@
 -- A device makes its next change.
 use Rattle.std.proofs.Common.{◌≡◌, ◌∙◌, sym, ap, subst, ℕ, ◌+◌, ◌<◌, ◌≤◌, ℤ, pos, Bool, true}
 use Rattle.std.proofs.Common.{false, not, List, length, get_or, arith, refl, inl, inr, get_or-set_same, get_or-set_other}
-use Rattle.std.specs.Prelude.{Option, Some}
+use Rattle.std.specs.Prelude.{Option, Some, Vec}
+use Rattle.std.specs.declared.alloc.Global.{Global}
 use Rattle.std.proofs.Math.ListN.{set, length-set}
 use Rattle.std.proofs.Math.Logic.{∥∥₁_elim, ∥∥₁_map}
 use Rattle.std.proofs.Props.{props}
 use Rattle.std.proofs.lemmas.Bool.{cases_eq}
+use Rattle.std.proofs.lemmas.List.{length-map}
+use Rattle.pm_base.specs.Rows.{rows_of}
 use Rattle.pm_bid.specs.Bids.{zeros}
 use Rattle.pm_device.specs.declared.kind.Kind.{Kind}
 use Rattle.pm_device.specs.declared.state.Next.{Next}
@@ -27,7 +30,7 @@ use Rattle.pm_plan.specs.Market.{plan_lists}
 use Rattle.pm_plan.proofs.Ends.{end-within}
 use Rattle.pm_plan.proofs.MarketLists.{phases-is}
 use Rattle.pm_offer.specs.Offers.{device_demand}
-use Rattle.pm_stands.specs.Core.{Core, link_at, seat_at}
+use Rattle.pm_stands.specs.Core.{Core, row_at, link_at, seat_at}
 use Rattle.pm_stands.specs.Rows.{OneLink}
 use Rattle.pm_laws.specs.Gone.{is_gone}
 use Rattle.pm_stands.specs.Stands.{StandsFor, Stands, MakesMove}
@@ -38,6 +41,7 @@ use Rattle.pm_stands.proofs.Places.{at_node, from_node}
 use Rattle.pm_laws.proofs.Gone.{gone_leaf}
 use Rattle.pm_stands.proofs.Changing.{change_did}
 use Rattle.pm_cluster.specs.Next.{count_of, IsNext}
+use Rattle.pm_cluster.specs.Parts.{HasLinkAt}
 use Rattle.pm_cluster.proofs.NextChanges.{end_of_market, member_of_market, demand_of_member, demand_of_none}
 
 -- a change that follows is of a device, its next one, and of the device's kind
@@ -108,6 +112,13 @@ new_number plan is_plan c stands next kind follows y k e f =
 pub read_steps : (plan : PlanData) (links : List (List Session)) (x y k : ℕ) → y ≡ parent (plan_lists plan) x → k ≡ place_of plan.entries x →
     (link_at links (parent (plan_lists plan) x) (place_of plan.entries x)).steps ≡ plan.basis.steps → (link_at links y k).steps ≡ plan.basis.steps
 read_steps plan links x y k e f same = from_node plan x y k (λ (i j : ℕ). (link_at links i j).steps ≡ plan.basis.steps) e f same
+
+-- a link that was read for a device has its place
+pub read_link : (plan : PlanData) (rows : List (Vec Session Global)) (x y k : ℕ) → y ≡ parent (plan_lists plan) x → k ≡ place_of plan.entries x →
+    parent (plan_lists plan) x < length (rows_of rows) → place_of plan.entries x < length (row_at (rows_of rows) (parent (plan_lists plan) x)) →
+    HasLinkAt rows y k
+read_link plan rows x y k e f row place =
+    from_node plan x y k (HasLinkAt rows) e f (record { parent = omega (arith, row, length-map rows (λ row. row.items)); place = place })
 
 -- what was offered on the link that was read is the demand of a member
 pub offered_demand : (plan : PlanData) (old new : List (List Session)) (x n y k : ℕ) (member : Bool) (demand : List ℤ) →

@@ -6,3 +6,4 @@ pub mod Ends
 pub mod Opening
 pub mod Waiting
 pub mod Offering
+pub mod Parts

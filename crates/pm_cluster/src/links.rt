@@ -1,11 +1,12 @@
 //! The links of a cluster, in rows: a row has the links of one node to its children.
 
-ghost use Rattle.std.specs.Prelude.{◌≡◌, ℕ, ◌<◌, ◌≤◌, length, None, MatchOption, if◌then◌else◌, Some, IsTrue, IsFalse, ◌↔◌};
+ghost use Rattle.std.specs.Prelude.{◌≡◌, ◌<◌, length, None, MatchOption, Some};
 ghost use Rattle.std.specs.Option.{option_copied};
 ghost use Rattle.pm_base.specs.Rows.{rows_of};
 ghost use Rattle.pm_session.specs.Links.{demand_offered, bid_offered, BidOffered, BidTaken, NothingWaited, PriceTaken};
-ghost use Rattle.pm_stands.specs.Core.{row_at, link_at};
+ghost use Rattle.pm_stands.specs.Core.{link_at};
 ghost use Rattle.pm_stands.specs.Rows.{OneLink};
+ghost use Rattle.pm_cluster.specs.Parts.{HasLinkAt};
 
 use pm_bid::{ArrayBid, BidHead};
 use pm_session::{Link, PriceUpdate};
@@ -18,8 +19,7 @@ pub(crate) fn offer_bid(
     number: u32,
     demand: Option<&ArrayBid>,
 )
-    requires parent { parent < length links.old.items }
-    requires place { place < length (row_at (rows_of links.old.items) parent) }
+    requires link { HasLinkAt links.old.items parent place }
     requires number { (link_at (rows_of links.old.items) parent place).up.offered < number }
     requires steps { let old = link_at (rows_of links.old.items) parent place in
         length (demand_offered old.steps (option_copied demand)) ≡ old.steps }
@@ -41,8 +41,7 @@ pub(crate) fn exchange_bid(
     number: u32,
     demand: &mut ArrayBid,
 )
-    requires parent { parent < length links.old.items }
-    requires place { place < length (row_at (rows_of links.old.items) parent) }
+    requires link { HasLinkAt links.old.items parent place }
     requires number { (link_at (rows_of links.old.items) parent place).up.offered < number }
     requires steps { length demand.old ≡ (link_at (rows_of links.old.items) parent place).steps }
     ensures one { OneLink (rows_of links.old.items) (rows_of links.new.items) parent place }
@@ -63,8 +62,7 @@ pub(crate) fn take_bid(
     place: usize,
     into: &mut ArrayBid,
 ) -> Option<BidHead>
-    requires parent { parent < length links.old.items }
-    requires place { place < length (row_at (rows_of links.old.items) parent) }
+    requires link { HasLinkAt links.old.items parent place }
     requires steps { length into.old ≡ (link_at (rows_of links.old.items) parent place).steps }
     ensures one { OneLink (rows_of links.old.items) (rows_of links.new.items) parent place }
     ensures taken { let old = link_at (rows_of links.old.items) parent place in
@@ -85,8 +83,7 @@ pub(crate) fn take_price(
     parent: usize,
     place: usize,
 ) -> Option<PriceUpdate>
-    requires parent { parent < length links.old.items }
-    requires place { place < length (row_at (rows_of links.old.items) parent) }
+    requires link { HasLinkAt links.old.items parent place }
     ensures one { OneLink (rows_of links.old.items) (rows_of links.new.items) parent place }
     ensures taken { let old = link_at (rows_of links.old.items) parent place in
         let new = link_at (rows_of links.new.items) parent place in

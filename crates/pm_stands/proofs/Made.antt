@@ -1,10 +1,9 @@
 -- Moves as the code makes them, by the parent's number and the place that it read.
-use Rattle.std.proofs.Common.{◌≡◌, ◌∙◌, ap, ℕ, ◌<◌, ◌≤◌, List, length, Option, arith, inl, inr}
+use Rattle.std.proofs.Common.{◌≡◌, ◌∙◌, ap, ℕ, ◌<◌, List, length, Option, arith, inl, inr}
 use Rattle.std.proofs.Math.Logic.{∥∥₁_elim}
 use Rattle.std.proofs.Props.{props}
 use Rattle.std.proofs.lemmas.Bool.{both_ways}
 use Rattle.pm_base.specs.Cuts.{Cut}
-use Rattle.pm_base.specs.Limits.{most_changes}
 use Rattle.pm_tree.specs.Entries.{place_of}
 use Rattle.pm_market.specs.Lists.{Lists, parent, IsNode, IsConcentrator}
 use Rattle.pm_market.specs.State.{State, is_same_on, cut_at, newest_number_of, part, knowledge}
@@ -26,6 +25,7 @@ use Rattle.pm_stands.specs.Core.{Core, link_at, uplink_of, concentrator_of, node
 use Rattle.pm_stands.specs.Rows.{CannotPublish}
 use Rattle.pm_stands.specs.Stands.{StandsFor, Stands, MakesMove}
 use Rattle.pm_stands.specs.Made.{DidLearn, learnt_core, DidPublish, published_core, DidClear, cleared_core}
+use Rattle.pm_stands.specs.Needs.{MayLearn, MayPublish}
 use Rattle.pm_stands.proofs.Places.{at_node, from_node}
 use Rattle.pm_stands.proofs.Caches.{cache_inner}
 use Rattle.pm_stands.proofs.MayPublish.{may_publish}
@@ -43,25 +43,20 @@ learn_did plan is_plan c s stands x y k node e f links auctioneer concentrators 
     let at = at_node plan x y k (DidLearn c links auctioneer concentrators bid) e f did in
     learn_makes plan is_plan c s stands x node links auctioneer concentrators bid at.taken at.one at.learnt
 
--- A bid that was taken from a child's link may be learnt.
-pub can_learn_at : (plan : PlanData) → IsPlan plan → (c : Core) → ∥ Stands plan c ∥₁ → (x y k : ℕ) → IsNode (plan_lists plan) x →
+-- A bid that was taken from a child's link may be learnt, and is newer than the one learnt last.
+pub may_learn_at : (plan : PlanData) → IsPlan plan → (c : Core) → ∥ Stands plan c ∥₁ → (x y k : ℕ) → IsNode (plan_lists plan) x →
     y ≡ parent (plan_lists plan) x → k ≡ place_of plan.entries x →
-    (bid : UpBid) (new : Session) → BidTaken (link_at c.links y k) new bid → CanLearn (node_cache c y) k (bid_demand bid.gone bid.demand)
-can_learn_at plan is_plan c stands x y k node e f bid new taken =
-    ∥∥₁_elim stands (can_learn_prop (node_cache c y) k (bid_demand bid.gone bid.demand)) (λ st.
+    (bid : UpBid) (new : Session) → BidTaken (link_at c.links y k) new bid → MayLearn (node_cache c y) k bid.number (bid_demand bid.gone bid.demand)
+may_learn_at plan is_plan c stands x y k node e f bid new taken =
     let was = at_node plan x y k (λ (i j : ℕ). BidTaken (link_at c.links i j) new bid) e f taken in
-    from_node plan x y k (λ (i j : ℕ). CanLearn (node_cache c i) j (bid_demand bid.gone bid.demand)) e f
-    (can_learn plan is_plan c st.state st.is x node bid (st.is.bids x node bid was.up.waited)))
-
--- It is newer than the one learnt last.
-pub newer_at : (plan : PlanData) → IsPlan plan → (c : Core) → ∥ Stands plan c ∥₁ → (x y k : ℕ) → IsNode (plan_lists plan) x →
-    y ≡ parent (plan_lists plan) x → k ≡ place_of plan.entries x →
-    (bid : UpBid) (new : Session) → BidTaken (link_at c.links y k) new bid → kept_number (node_cache c y) k < bid.number
-newer_at plan is_plan c stands x y k node e f bid new taken =
-    ∥∥₁_elim stands (Prim.hlevel props) (λ st.
-    let was = at_node plan x y k (λ (i j : ℕ). BidTaken (link_at c.links i j) new bid) e f taken in
-    from_node plan x y k (λ (i j : ℕ). kept_number (node_cache c i) j < bid.number) e f
-    (omega (arith, ap (λ h. h.number) (st.is.heads x node), was.up.above, st.is.bid_taken x node)))
+    record {
+      can = ∥∥₁_elim stands (can_learn_prop (node_cache c y) k (bid_demand bid.gone bid.demand)) (λ st.
+          from_node plan x y k (λ (i j : ℕ). CanLearn (node_cache c i) j (bid_demand bid.gone bid.demand)) e f
+          (can_learn plan is_plan c st.state st.is x node bid (st.is.bids x node bid was.up.waited)));
+      newer = ∥∥₁_elim stands (Prim.hlevel props) (λ st.
+          from_node plan x y k (λ (i j : ℕ). kept_number (node_cache c i) j < bid.number) e f
+          (omega (arith, ap (λ h. h.number) (st.is.heads x node), was.up.above, st.is.bid_taken x node)));
+    }
 
 -- Where the bid that was offered last was taken, no Learn of the child is legal.
 pub nothing_to_learn : (plan : PlanData) (c : Core) (s : State) → StandsFor plan c s → (x n : ℕ) →
@@ -113,16 +108,9 @@ refused_cannot g NoMemory refused = absurd refused
 
 -- What publishing on the link of x needs.
 pub may_publish_at : (plan : PlanData) → IsPlan plan → (c : Core) → ∥ Stands plan c ∥₁ → (x y k : ℕ) → IsConcentrator (plan_lists plan) x →
-    y ≡ parent (plan_lists plan) x → k ≡ place_of plan.entries x →
-    ((link_at c.links y k).steps ≡ (concentrator_of c x).cache.steps)
-    × ((concentrator_of c x).window.last ≤ most_changes)
-    × ((link_at c.links y k).up.offered ≤ (concentrator_of c x).window.last)
+    y ≡ parent (plan_lists plan) x → k ≡ place_of plan.entries x → MayPublish (concentrator_of c x) (link_at c.links y k)
 may_publish_at plan is_plan c stands x y k conc e f =
-    let may = may_publish plan is_plan c stands x conc in
-    let g : Gathered = concentrator_of c x in
-    let P : ℕ → ℕ → Type 0 = λ (i j : ℕ).
-    ((link_at c.links i j).steps ≡ g.cache.steps) × (g.window.last ≤ most_changes) × ((link_at c.links i j).up.offered ≤ g.window.last) in
-    from_node plan x y k P e f (may.steps, may.last, may.number)
+    from_node plan x y k (λ (i j : ℕ). MayPublish (concentrator_of c x) (link_at c.links i j)) e f (may_publish plan is_plan c stands x conc)
 
 -- A clearing of the auctioneer made a Clear.
 pub clear_did : (plan : PlanData) → IsPlan plan → (c : Core) (s : State) → StandsFor plan c s →

@@ -25,7 +25,7 @@ use Rattle.pm_plan.proofs.MarketLists.{child_node}
 use Rattle.pm_stands.proofs.Places.{few_changes}
 use Rattle.pm_stands.proofs.Caches.{cache_root}
 
-may_clear_in : (plan : PlanData) → IsPlan plan → (c : Core) (s : State) → StandsFor plan c s → MayClear c
+may_clear_in : (plan : PlanData) → IsPlan plan → (c : Core) (s : State) → StandsFor plan c s → MayClear c.auctioneer (row_at c.links 0)
 unfolding link_at
 may_clear_in plan is_plan c s stands =
     let lists : Lists = plan_lists plan in
@@ -49,7 +49,7 @@ may_clear_in plan is_plan c s stands =
     }
 
 -- The auctioneer may always clear, as far as the code is concerned.
-pub may_clear : (plan : PlanData) → IsPlan plan → (c : Core) → ∥ Stands plan c ∥₁ → MayClear c
+pub may_clear : (plan : PlanData) → IsPlan plan → (c : Core) → ∥ Stands plan c ∥₁ → MayClear c.auctioneer (row_at c.links 0)
 may_clear plan is_plan c stands = ∥∥₁_elim stands (Prim.hlevel props) (λ st. may_clear_in plan is_plan c st.state st.is)
 
 -- Where the auctioneer learnt nothing since its last clearing, no Clear is legal.

@@ -23,7 +23,8 @@ use Rattle.pm_plan.specs.Market.{plan_lists}
 use Rattle.pm_stands.specs.Core.{Core, child_at, row_at, link_at, uplink_of, concentrator_of, node_cache}
 use Rattle.pm_stands.specs.Rows.{OneLink}
 use Rattle.pm_stands.specs.Stands.{StandsFor, Stands, MakesMove}
-use Rattle.pm_stands.specs.Made.{DidPass, passed_core, MayPass}
+use Rattle.pm_stands.specs.Made.{DidPass, passed_core}
+use Rattle.pm_stands.specs.Needs.{MayPass}
 use Rattle.pm_plan.proofs.MarketLists.{lawful}
 use Rattle.pm_plan.proofs.MarketLists.{child_node}
 use Rattle.pm_stands.proofs.Places.{at_node}
@@ -38,7 +39,7 @@ pub pass_condition : (plan : PlanData) (c : Core) (s : State) (x : ℕ) (between
     IsPlan plan → StandsFor plan c s
     → IsConcentrator (plan_lists plan) x
     → PriceTaken (uplink_of plan c x) (link_at between (parent (plan_lists plan) x) (place_of plan.entries x)) price
-    → OneLink c.links between (parent (plan_lists plan) x) (place_of plan.entries x) → MayPass c x between price
+    → OneLink c.links between (parent (plan_lists plan) x) (place_of plan.entries x) → MayPass (concentrator_of c x) (row_at between x) price
 unfolding link_at
 pass_condition plan c s x between price is_plan stands conc taken one =
     let node : IsNode (plan_lists plan) x = (conc.0, conc.1) in
@@ -104,7 +105,7 @@ pass_nothing plan c s x j new stands node none legal =
 -- the same by the numbers that were read of the node's parent and of its place there: what the code needs
 pub may_pass : (plan : PlanData) → IsPlan plan → (c : Core) → ∥ Stands plan c ∥₁ → (x y k : ℕ) → IsConcentrator (plan_lists plan) x
     → y ≡ parent (plan_lists plan) x → k ≡ place_of plan.entries x → (between : List (List Session)) (price : PriceUpdate)
-    → PriceTaken (link_at c.links y k) (link_at between y k) price → OneLink c.links between y k → MayPass c x between price
+    → PriceTaken (link_at c.links y k) (link_at between y k) price → OneLink c.links between y k → MayPass (concentrator_of c x) (row_at between x) price
 may_pass plan is_plan c stands x y k conc e f between price taken one =
     let taken' = at_node plan x y k (λ (i j : ℕ). PriceTaken (link_at c.links i j) (link_at between i j) price) e f taken in
     let one' = at_node plan x y k (OneLink c.links between) e f one in

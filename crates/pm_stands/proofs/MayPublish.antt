@@ -7,7 +7,7 @@ use Rattle.pm_laws.proofs.Bound.{newest_small}
 use Rattle.pm_plan.specs.Kept.{IsPlan}
 use Rattle.pm_plan.specs.Plans.{PlanData}
 use Rattle.pm_plan.specs.Market.{plan_lists}
-use Rattle.pm_stands.specs.Core.{Core}
+use Rattle.pm_stands.specs.Core.{Core, uplink_of, concentrator_of}
 use Rattle.pm_stands.specs.Stands.{Stands}
 use Rattle.pm_stands.specs.Needs.{MayPublish}
 use Rattle.pm_plan.proofs.MarketLists.{lawful}
@@ -16,7 +16,7 @@ use Rattle.pm_stands.proofs.Caches.{cache_inner}
 
 -- A concentrator may always publish, as far as the code is concerned.
 pub may_publish : (plan : PlanData) → IsPlan plan → (c : Core) → ∥ Stands plan c ∥₁ → (x : ℕ) → IsConcentrator (plan_lists plan) x →
-    MayPublish plan c x
+    MayPublish (concentrator_of c x) (uplink_of plan c x)
 may_publish plan is_plan c stands x conc = ∥∥₁_elim stands (Prim.hlevel props) (λ st.
     let node : IsNode (plan_lists plan) x = (conc.0, conc.1) in
     let small = newest_small (plan_lists plan) (lawful plan is_plan) st.state st.is.sound x node in

@@ -1,6 +1,7 @@
 -- What a Learn, a Publish and a Clear need and make, in the order of the clauses.
 use Rattle.std.proofs.Common.{◌≡◌, ℕ, ◌↔◌, false, List, Option}
 use Rattle.pm_tree.specs.Entries.{place_of}
+use Rattle.pm_cache.specs.Learning.{bid_demand}
 use Rattle.pm_session.specs.Links.{Session, UpBid, BidTaken, NothingWaited}
 use Rattle.pm_concentrator.specs.Concentrators.{Gathered}
 use Rattle.pm_auctioneer.specs.Auctions.{Auction}
@@ -11,13 +12,13 @@ use Rattle.pm_market.specs.declared.moves.Move.TheVariants.{Learn, Publish, Clea
 use Rattle.pm_plan.specs.Kept.{IsPlan}
 use Rattle.pm_plan.specs.Plans.{PlanData}
 use Rattle.pm_plan.specs.Market.{plan_lists}
-use Rattle.pm_stands.specs.Core.{Core, uplink_of, concentrator_of}
+use Rattle.pm_stands.specs.Core.{Core, row_at, uplink_of, concentrator_of, node_cache}
 use Rattle.pm_stands.specs.Rows.{CannotPublish}
 use Rattle.pm_stands.specs.Made.{DidLearn, learnt_core, DidPublish, published_core, DidClear, cleared_core}
 use Rattle.pm_stands.specs.Needs.{MayLearn, MayPublish, MayClear}
 use Rattle.pm_stands.specs.Quiet.{IsQuiet}
 use Rattle.pm_stands.specs.Stands.{StandsFor, Stands, MakesMove}
-use Rattle.pm_stands.proofs.Made.{learn_did, can_learn_at, newer_at, cannot_learn, publish_did, cannot_publish, clear_did}
+use Rattle.pm_stands.proofs.Made.{learn_did, may_learn_at, cannot_learn, publish_did, cannot_publish, clear_did}
 use Rattle.pm_stands.proofs.MayPublish.{may_publish}
 use Rattle.pm_stands.proofs.MayClear.{may_clear, cannot_clear}
 use Rattle.pm_stands.proofs.Idle.{idle_is}
@@ -35,11 +36,10 @@ learning_made plan c s x links auctioneer concentrators bid is_plan stands node 
 
 -- A bid that was taken may be learnt, and is newer.
 pub learning_condition : (plan : PlanData) (c : Core) (x : ℕ) (bid : UpBid) (new : Session) → IsPlan plan → ∥ Stands plan c ∥₁ →
-    IsNode (plan_lists plan) x → BidTaken (uplink_of plan c x) new bid → MayLearn plan c x bid
-learning_condition plan c x bid new is_plan stands node taken = record {
-  can = can_learn_at plan is_plan c stands x (parent (plan_lists plan) x) (place_of plan.entries x) node refl refl bid new taken;
-  newer = newer_at plan is_plan c stands x (parent (plan_lists plan) x) (place_of plan.entries x) node refl refl bid new taken;
-}
+    IsNode (plan_lists plan) x → BidTaken (uplink_of plan c x) new bid →
+    MayLearn (node_cache c (parent (plan_lists plan) x)) (place_of plan.entries x) bid.number (bid_demand bid.gone bid.demand)
+learning_condition plan c x bid new is_plan stands node taken =
+    may_learn_at plan is_plan c stands x (parent (plan_lists plan) x) (place_of plan.entries x) node refl refl bid new taken
 
 -- Where nothing waited no Learn of the child is legal.
 pub learning_nothing : (plan : PlanData) (c : Core) (s : State) (x n : ℕ) (new : Session) → StandsFor plan c s →
@@ -59,7 +59,7 @@ publishing_made plan c s x links concentrators n is_plan stands conc did =
 
 -- What the code needs in order to publish holds.
 pub publishing_condition : (plan : PlanData) (c : Core) (x : ℕ) → IsPlan plan → ∥ Stands plan c ∥₁ →
-    IsConcentrator (plan_lists plan) x → MayPublish plan c x
+    IsConcentrator (plan_lists plan) x → MayPublish (concentrator_of c x) (uplink_of plan c x)
 publishing_condition plan c x is_plan stands conc = may_publish plan is_plan c stands x conc
 
 -- Where there is nothing to publish, or the window is full, no Publish of the concentrator is legal.
@@ -75,7 +75,7 @@ pub clearing_made : (plan : PlanData) (c : Core) (s : State) (links : List (List
 clearing_made plan c s links auctioneer index step is_plan stands did = clear_did plan is_plan c s stands links auctioneer index step did
 
 -- What the code needs in order to clear holds.
-pub clearing_condition : (plan : PlanData) (c : Core) → IsPlan plan → ∥ Stands plan c ∥₁ → MayClear c
+pub clearing_condition : (plan : PlanData) (c : Core) → IsPlan plan → ∥ Stands plan c ∥₁ → MayClear c.auctioneer (row_at c.links 0)
 clearing_condition plan c is_plan stands = may_clear plan is_plan c stands
 
 -- Where nothing was learnt since the last clearing no Clear is legal.

@@ -157,10 +157,10 @@ module _ (plan : PlanData) (is_plan : IsPlan plan) (c : Core) (s : State) (stand
         ⊎ ((uplink_of plan after_core y ≡ uplink_of plan c y) × (addresses (plan_lists plan) s j y ≡ false))
     addressed_or_not = elim (cases_Bool (addresses (plan_lists plan) s j y)) [
       | inl e ↦
-          let at = did.offered.offered (place_of plan.entries y) row_length (gone_is ∙ ap not e) in
+          let at = did.made.offered.offered (place_of plan.entries y) row_length (gone_is ∙ ap not e) in
           let from_old = subst (λ (z : Session). PriceOffered z (session_at (row_at links x) (place_of plan.entries y)) the_price) old_is at in
           inl (subst (λ (z : Session). PriceOffered (uplink_of plan c y) z the_price) new_is from_old, e)
-      | inr e ↦ inr (sym new_is ∙ did.offered.others (place_of plan.entries y) row_length (gone_is ∙ ap not e) ∙ old_is, e)
+      | inr e ↦ inr (sym new_is ∙ did.made.offered.others (place_of plan.entries y) row_length (gone_is ∙ ap not e) ∙ old_is, e)
     ]
 
     -- what was passed to the child came to x
@@ -248,19 +248,19 @@ module _ (plan : PlanData) (is_plan : IsPlan plan) (c : Core) (s : State) (stand
 
   same_cache : (y : ℕ) → (concentrator_of after_core y).cache ≡ (concentrator_of c y).cache
   same_cache y = elim (cases_eq y x) [
-    | inl e ↦ ap (λ (g : Gathered). g.cache) (gathered_new y e) ∙ did.passed.cache ∙ ap (λ (i : ℕ). (concentrator_of c i).cache) (sym e)
+    | inl e ↦ ap (λ (g : Gathered). g.cache) (gathered_new y e) ∙ did.made.passed.cache ∙ ap (λ (i : ℕ). (concentrator_of c i).cache) (sym e)
     | inr ne ↦ ap (λ (g : Gathered). g.cache) (did.alone.others y ne)
   ]
 
   same_limits : (y : ℕ) → (concentrator_of after_core y).limits ≡ (concentrator_of c y).limits
   same_limits y = elim (cases_eq y x) [
-    | inl e ↦ ap (λ (g : Gathered). g.limits) (gathered_new y e) ∙ did.passed.limits ∙ ap (λ (i : ℕ). (concentrator_of c i).limits) (sym e)
+    | inl e ↦ ap (λ (g : Gathered). g.limits) (gathered_new y e) ∙ did.made.passed.limits ∙ ap (λ (i : ℕ). (concentrator_of c i).limits) (sym e)
     | inr ne ↦ ap (λ (g : Gathered). g.limits) (did.alone.others y ne)
   ]
 
   same_last : (y : ℕ) → (concentrator_of after_core y).window.last ≡ (concentrator_of c y).window.last
   same_last y = elim (cases_eq y x) [
-    | inl e ↦ ap (λ (g : Gathered). g.window.last) (gathered_new y e) ∙ did.passed.window.last
+    | inl e ↦ ap (λ (g : Gathered). g.window.last) (gathered_new y e) ∙ did.made.passed.window.last
         ∙ ap (λ (i : ℕ). (concentrator_of c i).window.last) (sym e)
     | inr ne ↦ ap (λ (g : Gathered). g.window.last) (did.alone.others y ne)
   ]
@@ -272,7 +272,7 @@ module _ (plan : PlanData) (is_plan : IsPlan plan) (c : Core) (s : State) (stand
         let old_is = ap (λ (i : ℕ). (concentrator_of c i).window.answered) e in
         record {
           one = now.one;
-          from = omega (arith, now.from, new_is, did.passed.window.answered, keeps.from, old_is);
+          from = omega (arith, now.from, new_is, did.made.passed.window.answered, keeps.from, old_is);
           to = omega (arith, now.to, same_last y);
         }
     | inr ne ↦ subst (λ (g : Gathered). Keeps g.window k) (did.alone.others y ne) now
@@ -284,7 +284,7 @@ module _ (plan : PlanData) (is_plan : IsPlan plan) (c : Core) (s : State) (stand
   record_same y k now = elim (cases_eq y x) [
     | inl e ↦
         ap (λ (g : Gathered). record_of g.window k) (gathered_new y e)
-        ∙ did.passed.window.records k (subst (λ (g : Gathered). Keeps g.window k) (gathered_new y e) now)
+        ∙ did.made.passed.window.records k (subst (λ (g : Gathered). Keeps g.window k) (gathered_new y e) now)
         ∙ ap (λ (i : ℕ). record_of (concentrator_of c i).window k) (sym e)
     | inr ne ↦ ap (λ (g : Gathered). record_of g.window k) (did.alone.others y ne)
   ]
@@ -292,16 +292,16 @@ module _ (plan : PlanData) (is_plan : IsPlan plan) (c : Core) (s : State) (stand
   newest_keeps : Keeps (gathered_at concentrators x).window (concentrator_of c x).window.last
   newest_keeps = record {
     one = omega (arith, keeps.one, keeps.to);
-    from = omega (arith, did.passed.window.answered, keeps.to);
-    to = omega (arith, did.passed.window.last);
+    from = omega (arith, did.made.passed.window.answered, keeps.to);
+    to = omega (arith, did.made.passed.window.last);
   }
 
   same_heads : (y : ℕ) → published_heads (concentrator_of after_core y) ≡ published_heads (concentrator_of c y)
   same_heads y = elim (cases_eq y x) [
     | inl e ↦
         ap (λ (g : Gathered). published_heads g) (gathered_new y e)
-        ∙ ap (λ (k : ℕ). (record_of (gathered_at concentrators x).window k).heads) did.passed.window.last
-        ∙ ap (λ (r : Sent). r.heads) (did.passed.window.records (concentrator_of c x).window.last newest_keeps)
+        ∙ ap (λ (k : ℕ). (record_of (gathered_at concentrators x).window k).heads) did.made.passed.window.last
+        ∙ ap (λ (r : Sent). r.heads) (did.made.passed.window.records (concentrator_of c x).window.last newest_keeps)
         ∙ ap (λ (i : ℕ). published_heads (concentrator_of c i)) (sym e)
     | inr ne ↦ ap (λ (g : Gathered). published_heads g) (did.alone.others y ne)
   ]
@@ -390,7 +390,7 @@ module _ (plan : PlanData) (is_plan : IsPlan plan) (c : Core) (s : State) (stand
     window_last = λ y conc_y. same_last y ∙ stands.window_last y conc_y;
     window_answered = λ y conc_y. elim (cases_eq y x) [
       | inl e ↦
-          ap (λ (z : Gathered). z.window.answered) (gathered_new y e) ∙ did.passed.window.answered ∙ agrees.number
+          ap (λ (z : Gathered). z.window.answered) (gathered_new y e) ∙ did.made.passed.window.answered ∙ agrees.number
           ∙ ap (λ (k : ℕ). number (plan_lists plan) s x (cleared_cut s k)) (sym last_new)
           ∙ ap (λ (i : ℕ). number (plan_lists plan) s i (cleared_cut s (last_index after_state i))) (sym e)
       | inr ne ↦

@@ -1,10 +1,10 @@
 -- What the calls on a cluster's parts did, for each move.
-use Rattle.std.specs.Prelude.{◌≡◌, ℕ, ◌<◌, ℤ, Bool, pos, if◌then◌else◌, List, length, slice_index_or, Option, Some, None}
+use Rattle.std.specs.Prelude.{◌≡◌, ℕ, ℤ, Bool, pos, if◌then◌else◌, List, length, slice_index_or, Option, Some, None}
 use Rattle.pm_cache.specs.Learning.{bid_demand}
 use Rattle.pm_session.specs.Links.{Session, UpBid, BidOffered, BidTaken, PriceTaken}
 use Rattle.pm_session.specs.Ports.{Seat}
-use Rattle.pm_session.specs.Windows.{Keeps, record_of}
-use Rattle.pm_session.specs.Prices.{IsNewIndex, PricesOffered}
+use Rattle.pm_session.specs.Windows.{record_of}
+use Rattle.pm_session.specs.Prices.{PricesOffered}
 use Rattle.pm_session.specs.declared.price.PriceUpdate.{PriceUpdate}
 use Rattle.pm_concentrator.specs.Limited.{local_step_of_record}
 use Rattle.pm_concentrator.specs.Concentrators.{Gathered, Published, Passed}
@@ -39,25 +39,21 @@ pub record DidPublish (c : Core) (x : ℕ) (links : List (List Session)) (concen
 abbrev pub published_core : Core → List (List Session) → List (Option Gathered) → Core
 published_core c links concentrators = record c { links = links; concentrators = concentrators }
 
+-- a concentrator answered the number of a price, and offered to each child that is not gone in that number's record the
+-- step of the price for the nodes below
+pub record PassedOn (old new : Gathered) (downs_old downs_new : List Session) (price : PriceUpdate) : Type 0 where
+  pub passed : Passed old new price.number
+  pub offered : PricesOffered (record_of old.window price.number).heads
+      (local_step_of_record old.limits price.step (record_of old.window price.number).sum) price.index downs_old downs_new
+
 -- concentrator x, the child of y in place k, took the price that waited on its link, and passed it to its children
 pub record DidPass (c : Core) (x : ℕ) (between links : List (List Session)) (concentrators : List (Option Gathered))
     (price : PriceUpdate) (y k : ℕ) : Type 0 where
   pub taken : PriceTaken (link_at c.links y k) (link_at between y k) price
   pub one : OneLink c.links between y k
-  pub passed : Passed (concentrator_of c x) (gathered_at concentrators x) price.number
+  pub made : PassedOn (concentrator_of c x) (gathered_at concentrators x) (row_at between x) (row_at links x) price
   pub alone : OneConcentrator c.concentrators concentrators x
-  pub offered : PricesOffered (record_of (concentrator_of c x).window price.number).heads
-      (local_step_of_record (concentrator_of c x).limits price.step (record_of (concentrator_of c x).window price.number).sum) price.index
-      (row_at between x) (row_at links x)
   pub row : OneRow between links x
-
--- what the code needs in order to pass the price on: the record of its number is kept, each child has its link, the
--- index is new to all of them, and the step is one of the cache's steps
-pub record MayPass (c : Core) (x : ℕ) (between : List (List Session)) (price : PriceUpdate) : Type 0 where
-  pub keeps : Keeps (concentrator_of c x).window price.number
-  pub row_length : length (row_at between x) ≡ length (concentrator_of c x).cache.heads
-  pub index : IsNewIndex price.index (row_at between x)
-  pub step : price.step < (concentrator_of c x).cache.steps
 
 abbrev pub passed_core : Core → List (List Session) → List (Option Gathered) → Core
 passed_core c links concentrators = record c { links = links; concentrators = concentrators }

@@ -5,13 +5,14 @@ ghost use Rattle.pm_tree.specs.Entries.{place_of};
 ghost use Rattle.pm_market.specs.Lists.{parent, IsNode, IsConcentrator};
 ghost use Rattle.pm_market.specs.State.{State};
 ghost use Rattle.pm_market.specs.Moves.{Legal, Idle};
+ghost use Rattle.pm_cache.specs.Learning.{bid_demand};
 ghost use Rattle.pm_session.specs.Links.{Session, UpBid, BidTaken, NothingWaited};
 ghost use Rattle.pm_concentrator.specs.Concentrators.{Gathered};
 ghost use Rattle.pm_auctioneer.specs.Auctions.{Auction};
 ghost use Rattle.pm_plan.specs.Kept.{IsPlan};
 ghost use Rattle.pm_plan.specs.Plans.{PlanData};
 ghost use Rattle.pm_plan.specs.Market.{plan_lists};
-ghost use Rattle.pm_stands.specs.Core.{Core, uplink_of, concentrator_of};
+ghost use Rattle.pm_stands.specs.Core.{Core, row_at, uplink_of, concentrator_of, node_cache};
 ghost use Rattle.pm_stands.specs.Rows.{CannotPublish};
 ghost use Rattle.pm_stands.specs.Made.{DidLearn, learnt_core, DidPublish, published_core, DidClear, cleared_core};
 ghost use Rattle.pm_stands.specs.Needs.{MayLearn, MayPublish, MayClear};
@@ -33,7 +34,9 @@ pub fn learning_keeps_the_market()
         MakesMove plan (learnt_core c links auctioneer concentrators) s (Move.Learn x bid.number) }
     ensures condition { (plan : PlanData) (c : Core) (x : ℕ) (bid : UpBid) (new : Session) →
         IsPlan plan → ∥ Stands plan c ∥₁ →
-        IsNode (plan_lists plan) x → BidTaken (uplink_of plan c x) new bid → MayLearn plan c x bid }
+        IsNode (plan_lists plan) x → BidTaken (uplink_of plan c x) new bid →
+        MayLearn (node_cache c (parent (plan_lists plan) x)) (place_of plan.entries x)
+        bid.number (bid_demand bid.gone bid.demand) }
     ensures nothing { (plan : PlanData) (c : Core) (s : State) (x n : ℕ) (new : Session) →
         StandsFor plan c s →
         NothingWaited (uplink_of plan c x).up (uplink_of plan c x) new →
@@ -52,7 +55,7 @@ pub fn publishing_keeps_the_market()
         MakesMove plan (published_core c links concentrators) s (Move.Publish x n) }
     ensures condition { (plan : PlanData) (c : Core) (x : ℕ) → IsPlan plan → ∥ Stands plan c ∥₁ →
         IsConcentrator (plan_lists plan) x →
-        MayPublish plan c x }
+        MayPublish (concentrator_of c x) (uplink_of plan c x) }
     ensures nothing { (plan : PlanData) (c : Core) (s : State) (x n : ℕ) → IsPlan plan →
         StandsFor plan c s → CannotPublish (concentrator_of c x) →
         Legal (plan_lists plan) s (Move.Publish x n) → ⊥ }
@@ -67,7 +70,7 @@ pub fn clearing_keeps_the_market()
         IsPlan plan → StandsFor plan c s → DidClear c links auctioneer index step →
         MakesMove plan (cleared_core c links auctioneer) s (Move.Clear index) }
     ensures condition { (plan : PlanData) (c : Core) → IsPlan plan → ∥ Stands plan c ∥₁ →
-        MayClear c }
+        MayClear c.auctioneer (row_at c.links 0) }
     ensures nothing { (plan : PlanData) (c : Core) (s : State) (index : ℕ) → StandsFor plan c s →
         c.auctioneer.changed ≡ false →
         Legal (plan_lists plan) s (Move.Clear index) → ⊥ }

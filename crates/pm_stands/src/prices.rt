@@ -12,10 +12,11 @@ ghost use Rattle.pm_concentrator.specs.Concentrators.{Gathered};
 ghost use Rattle.pm_plan.specs.Kept.{IsPlan};
 ghost use Rattle.pm_plan.specs.Plans.{PlanData};
 ghost use Rattle.pm_plan.specs.Market.{plan_lists};
-ghost use Rattle.pm_stands.specs.Core.{Core, link_at, uplink_of};
+ghost use Rattle.pm_stands.specs.Core.{Core, row_at, link_at, uplink_of, concentrator_of};
 ghost use Rattle.pm_stands.specs.Rows.{OneLink};
 ghost use Rattle.pm_stands.specs.Stands.{StandsFor, MakesMove};
-ghost use Rattle.pm_stands.specs.Made.{DidPass, DidTake, MayPass, passed_core, taken_core};
+ghost use Rattle.pm_stands.specs.Made.{DidPass, DidTake, passed_core, taken_core};
+ghost use Rattle.pm_stands.specs.Needs.{MayPass};
 
 use pm_market::Move;
 
@@ -36,7 +37,7 @@ pub fn passing_keeps_the_market()
         PriceTaken (uplink_of plan c x)
         (link_at between (parent (plan_lists plan) x) (place_of plan.entries x)) price →
         OneLink c.links between (parent (plan_lists plan) x) (place_of plan.entries x) →
-        MayPass c x between price }
+        MayPass (concentrator_of c x) (row_at between x) price }
     ensures nothing { (plan : PlanData) (c : Core) (s : State) (x j : ℕ) (new : Session) →
         StandsFor plan c s → IsNode (plan_lists plan) x →
         NothingWaited (uplink_of plan c x).down (uplink_of plan c x) new →

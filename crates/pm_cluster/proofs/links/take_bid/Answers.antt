@@ -11,7 +11,7 @@ read : (c : After-index_mut-up) →
     IsRead (λ row. row.items) c.args.links.now.items c.args.parent c.args.place c.index_mut-row.result.now c.index_mut-up.result.now
 read c =
     is_read (λ row. row.items) c.args.links.now.items c.args.parent c.args.place c.index_mut-row.result.now c.index_mut-up.result.now
-    c.requires.parent c.requires.place c.index_mut-row.ensures.value c.index_mut-up.ensures.value
+    c.requires.link.parent c.requires.link.place c.index_mut-row.ensures.value c.index_mut-up.ensures.value
 
 pub take_bid-requires : goal.take_bid-requires
 take_bid-requires c = record {

@@ -10,7 +10,7 @@ read : (c : After-index_mut-down) →
     IsRead (λ row. row.items) c.args.links.now.items c.args.parent c.args.place c.index_mut-row.result.now c.index_mut-down.result.now
 read c =
     is_read (λ row. row.items) c.args.links.now.items c.args.parent c.args.place c.index_mut-row.result.now c.index_mut-down.result.now
-    c.requires.parent c.requires.place c.index_mut-row.ensures.value c.index_mut-down.ensures.value
+    c.requires.link.parent c.requires.link.place c.index_mut-row.ensures.value c.index_mut-down.ensures.value
 
 pub returns-clause-one : goal.returns-clause-one
 returns-clause-one c = ((read (goal.at.returns-clause-one c).After-index_mut-down).wrote _ c.take_price.new.self refl).one

@@ -12,12 +12,12 @@ use Rattle.pm_cluster.proofs.parts.learn.Goals as goal
 found : (c : In-Some) → get_or c.args.concentrators.now.items c.args.parent None ≡ Some c.in-Some.concentrator
 found c =
     there_read c.args.concentrators.now.items c.args.parent c.index_mut.result.now c.in-Some.concentrator
-    c.requires.parent c.index_mut.ensures.value c.in-Some.is
+    c.requires.parent.parent c.index_mut.ensures.value c.in-Some.is
 
 pub exchange_bid-requires : goal.exchange_bid-requires
 exchange_bid-requires c = record {
   bid = subst (λ (cache : Cache). CanLearn cache c.args.place (bid_demand c.args.head.gone c.args.demand.now))
-      (cache_root _ _ _ c.if-parent-eq0.true) c.requires.can;
+      (cache_root _ _ _ c.if-parent-eq0.true) c.requires.may.can;
 }
 
 pub exchange_bid-requires-in-Some : goal.exchange_bid-requires-in-Some
@@ -26,14 +26,14 @@ exchange_bid-requires-in-Some c = record {
       (cache_inner c.args.auctioneer.now c.args.concentrators.now.items c.args.parent c.if-parent-eq0.false
       ∙ ap (λ (x : Gathered). x.cache) (gathered_known c.args.concentrators.now.items c.args.parent c.in-Some.concentrator
       (found (goal.at.exchange_bid-requires-in-Some c).In-Some)))
-      c.requires.can;
+      c.requires.may.can;
 }
 
 pub returns-then-parent-eq0-clause-learnt : goal.returns-then-parent-eq0-clause-learnt
-returns-then-parent-eq0-clause-learnt c = learnt_root _ _ _ _ _ _ _ c.if-parent-eq0.true c.requires.newer c.exchange_bid.ensures.learnt
+returns-then-parent-eq0-clause-learnt c = learnt_root _ _ _ _ _ _ _ c.if-parent-eq0.true c.requires.may.newer c.exchange_bid.ensures.learnt
 
 pub returns-clause-learnt : goal.returns-clause-learnt
 returns-clause-learnt c =
     learnt_inner c.args.auctioneer.now c.args.concentrators.now.items c.in-Some.concentrator _ c.args.parent c.args.place c.args.head.number
-    (bid_demand c.args.head.gone c.args.demand.now) c.if-parent-eq0.false c.requires.parent (found (goal.at.returns-clause-learnt c).In-Some) c.requires.newer
-    c.exchange_bid-in-Some.ensures.learnt
+    (bid_demand c.args.head.gone c.args.demand.now) c.if-parent-eq0.false c.requires.parent.parent (found (goal.at.returns-clause-learnt c).In-Some)
+    c.requires.may.newer c.exchange_bid-in-Some.ensures.learnt

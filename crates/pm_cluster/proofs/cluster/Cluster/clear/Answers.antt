@@ -14,23 +14,16 @@ use Rattle.pm_cluster.proofs.Kept.{moved}
 use Rattle.pm_cluster.proofs.cluster.Cluster.clear.Goals as goal
 use Rattle.pm_cluster.proofs.cluster.Cluster.clear.Goals.{In-Some}
 
-pub clear-requires-clause-same_length : goal.clear-requires-clause-same_length
-clear-requires-clause-same_length c =
-    (may_clear c.self.inside.plan.now c.self.invariant.is_plan (core_of c.self.inside) c.self.invariant.stands).row_length
-
-pub clear-requires-clause-last : goal.clear-requires-clause-last
-clear-requires-clause-last c =
-    omega (arith, (may_clear c.self.inside.plan.now c.self.invariant.is_plan (core_of c.self.inside) c.self.invariant.stands).fits)
-
-pub clear-requires-clause-index : goal.clear-requires-clause-index
-clear-requires-clause-index c =
-    (may_clear c.self.inside.plan.now c.self.invariant.is_plan (core_of c.self.inside) c.self.invariant.stands).index
+pub clear-requires-clause-fits : goal.clear-requires-clause-fits
+clear-requires-clause-fits c =
+    let may = may_clear c.self.inside.plan.now c.self.invariant.is_plan (core_of c.self.inside) c.self.invariant.stands in
+    record { same_length = may.row_length; last = omega (arith, may.fits); index = may.index }
 
 abbrev after : (c : In-Some) → Inside
 after c = record c.self.inside { links = c.clear.new.links; auctioneer = c.clear.new.auctioneer }
 
 did : (c : In-Some) → DidClear (core_of c.self.inside) (core_of (after c)).links c.clear.new.auctioneer c.in-Some.cleared.index c.in-Some.cleared.step
-did c = record { made = c.in-Some.ensures.cleared; row = c.in-Some.ensures.row refl }
+did c = record { made = c.in-Some.ensures.cleared; row = c.in-Some.ensures.only.row refl }
 
 makes : (c : In-Some) (s : State) → StandsFor c.self.inside.plan.now (core_of c.self.inside) s →
     MakesMove c.self.inside.plan.now (core_of (after c)) s (Clear c.in-Some.cleared.index)

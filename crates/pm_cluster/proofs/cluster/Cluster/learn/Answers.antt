@@ -1,5 +1,5 @@
 -- Of `Cluster::learn`: what it ensures; what the calls of `learn` and `take_bid` require; what the type keeps.
-use Rattle.std.proofs.Common.{◌∙◌, refl, rules, arith}
+use Rattle.std.proofs.Common.{◌∙◌, refl, rules}
 use Rattle.pm_market.specs.State.{State}
 use Rattle.pm_market.specs.Lists.{IsNode}
 use Rattle.pm_market.specs.declared.moves.Move.TheVariants.{Learn}
@@ -7,13 +7,12 @@ use Rattle.pm_session.specs.Links.{UpBid}
 use Rattle.pm_plan.specs.Market.{plan_lists}
 use Rattle.pm_stands.specs.Made.{DidLearn}
 use Rattle.pm_stands.specs.Stands.{StandsFor, MakesMove}
-use Rattle.pm_stands.proofs.Made.{learn_did, can_learn_at, newer_at, cannot_learn}
+use Rattle.pm_stands.proofs.Made.{learn_did, may_learn_at, cannot_learn}
 use Rattle.pm_cluster.specs.declared.cluster.Cluster.TheInside.{Inside}
 use Rattle.pm_cluster.specs.ClusterFields.{core_of}
 use Rattle.pm_cluster.proofs.MadeBy.{made_by, made_none}
 use Rattle.pm_market.specs.declared.moves.Act.TheVariants as act
-use Rattle.pm_cluster.proofs.Kept.{parent_there, moved, of_fields}
-use Rattle.std.proofs.lemmas.List.{length-map}
+use Rattle.pm_cluster.proofs.Kept.{parent_there, link_there, moved, of_fields}
 use Rattle.pm_cluster.proofs.cluster.Cluster.learn.Goals as goal
 use Rattle.pm_cluster.proofs.cluster.Cluster.learn.Goals.{In-Some, After-learn}
 
@@ -23,22 +22,15 @@ node_at c = of_fields c.self.inside _ c.self.view_is (λ plan. IsNode (plan_list
 abbrev the_bid : (c : In-Some) → UpBid
 the_bid c = record { number = c.in-Some.head.number; gone = c.in-Some.head.gone; demand = c.take_bid.new.into }
 
-pub learn-requires-clause-there : goal.learn-requires-clause-there
-learn-requires-clause-there c =
+pub learn-requires-clause-parent : goal.learn-requires-clause-parent
+learn-requires-clause-parent c =
     parent_there c.self.inside.plan.now c.self.invariant.is_plan (core_of c.self.inside) c.self.invariant.places c.args.child.0 c.parent_of-parent.result
-    (node_at (goal.at.learn-requires-clause-there c).In-Some) c.parent_of-parent.ensures.parent c.parent_of-parent.ensures.inside
+    (node_at (goal.at.learn-requires-clause-parent c).In-Some) c.parent_of-parent.ensures.parent c.parent_of-parent.ensures.inside
 
-pub learn-requires-clause-newer : goal.learn-requires-clause-newer
-learn-requires-clause-newer c =
-    let at = (goal.at.learn-requires-clause-newer c).In-Some in
-    newer_at c.self.inside.plan.now c.self.invariant.is_plan (core_of c.self.inside) c.self.invariant.stands c.args.child.0
-    c.parent_of-parent.result c.place_in_row-place.result (node_at at) c.parent_of-parent.ensures.parent c.place_in_row-place.ensures.place
-    (the_bid at) _ c.in-Some.ensures.taken
-
-pub learn-requires-clause-can : goal.learn-requires-clause-can
-learn-requires-clause-can c =
-    let at = (goal.at.learn-requires-clause-can c).In-Some in
-    can_learn_at c.self.inside.plan.now c.self.invariant.is_plan (core_of c.self.inside) c.self.invariant.stands c.args.child.0
+pub learn-requires-clause-may : goal.learn-requires-clause-may
+learn-requires-clause-may c =
+    let at = (goal.at.learn-requires-clause-may c).In-Some in
+    may_learn_at c.self.inside.plan.now c.self.invariant.is_plan (core_of c.self.inside) c.self.invariant.stands c.args.child.0
     c.parent_of-parent.result c.place_in_row-place.result (node_at at) c.parent_of-parent.ensures.parent c.place_in_row-place.ensures.place
     (the_bid at) _ c.in-Some.ensures.taken
 
@@ -79,6 +71,7 @@ returns-in_default c =
     cannot_learn c.self.inside.plan.now (core_of c.self.inside) s stands c.args.child.0 c.parent_of-parent.result c.place_in_row-place.result
     c.parent_of-parent.ensures.parent c.place_in_row-place.ensures.place _ c.in_default.ensures.taken.0)
 
-pub take_bid-requires-clause-parent : goal.take_bid-requires-clause-parent
-take_bid-requires-clause-parent c =
-    omega (arith, c.parent_of-parent.ensures.inside, c.self.invariant.places.all_links, length-map c.self.inside.links.items (λ row. row.items))
+pub take_bid-requires-clause-link : goal.take_bid-requires-clause-link
+take_bid-requires-clause-link c =
+    link_there c.self.inside c.self.invariant.places c.args.child.0 _ _ c.parent_of-parent.ensures.parent c.parent_of-parent.ensures.inside
+    c.place_in_row-place.ensures.inside

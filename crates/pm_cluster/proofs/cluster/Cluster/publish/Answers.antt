@@ -1,11 +1,9 @@
 -- Of `Cluster::publish`: what it ensures; what the call of `publish` requires; what the type keeps.
-use Rattle.std.proofs.Common.{rules, ◌≡◌, ◌≤◌, refl, arith}
+use Rattle.std.proofs.Common.{rules, refl, arith}
 use Rattle.pm_market.specs.State.{State}
 use Rattle.pm_market.specs.Lists.{IsConcentrator}
 use Rattle.pm_market.specs.declared.moves.Move.TheVariants.{Publish}
 use Rattle.pm_plan.specs.Market.{plan_lists}
-use Rattle.pm_base.specs.Limits.{most_changes}
-use Rattle.pm_stands.specs.Core.{concentrator_of, link_at}
 use Rattle.pm_stands.specs.Made.{DidPublish}
 use Rattle.pm_stands.specs.Stands.{StandsFor, MakesMove}
 use Rattle.pm_stands.proofs.Made.{publish_did, may_publish_at, cannot_publish}
@@ -13,39 +11,36 @@ use Rattle.pm_cluster.specs.declared.cluster.Cluster.TheInside.{Inside}
 use Rattle.pm_cluster.specs.ClusterFields.{core_of}
 use Rattle.pm_cluster.proofs.MadeBy.{made_by, made_none}
 use Rattle.pm_market.specs.declared.moves.Act.TheVariants as act
-use Rattle.pm_cluster.proofs.Kept.{moved, of_fields}
-use Rattle.std.proofs.lemmas.List.{length-map}
+use Rattle.pm_cluster.proofs.Kept.{concentrator_there, link_there, moved, of_fields}
 use Rattle.pm_cluster.proofs.cluster.Cluster.publish.Goals as goal
 use Rattle.pm_cluster.proofs.cluster.Cluster.publish.Goals.{After-place_in_row-place, In-Some}
 
 concentrator_at : (c : After-place_in_row-place) → IsConcentrator (plan_lists c.self.inside.plan.now) c.args.node.0
 concentrator_at c = of_fields c.self.inside _ c.self.view_is (λ plan. IsConcentrator (plan_lists plan) c.args.node.0) c.requires.concentrator
 
-may : (c : After-place_in_row-place) →
-    ((link_at (core_of c.self.inside).links c.parent_of-parent.result c.place_in_row-place.result).steps
-    ≡ (concentrator_of (core_of c.self.inside) c.args.node.0).cache.steps)
-    × ((concentrator_of (core_of c.self.inside) c.args.node.0).window.last ≤ most_changes)
-    × ((link_at (core_of c.self.inside).links c.parent_of-parent.result c.place_in_row-place.result).up.offered
-    ≤ (concentrator_of (core_of c.self.inside) c.args.node.0).window.last)
-may c =
-    may_publish_at c.self.inside.plan.now c.self.invariant.is_plan (core_of c.self.inside) c.self.invariant.stands c.args.node.0
-    c.parent_of-parent.result c.place_in_row-place.result (concentrator_at c) c.parent_of-parent.ensures.parent c.place_in_row-place.ensures.place
+pub publish-requires-clause-concentrator : goal.publish-requires-clause-concentrator
+publish-requires-clause-concentrator c =
+    concentrator_there c.self.inside.plan.now (core_of c.self.inside) c.self.invariant.places c.args.node.0
+    (concentrator_at (goal.at.publish-requires-clause-concentrator c).After-place_in_row-place)
 
-pub publish-requires-clause-steps : goal.publish-requires-clause-steps
-publish-requires-clause-steps c = (may (goal.at.publish-requires-clause-steps c).After-place_in_row-place).0
+pub publish-requires-clause-link : goal.publish-requires-clause-link
+publish-requires-clause-link c =
+    link_there c.self.inside c.self.invariant.places c.args.node.0 _ _ c.parent_of-parent.ensures.parent c.parent_of-parent.ensures.inside
+    c.place_in_row-place.ensures.inside
 
-pub publish-requires-clause-last : goal.publish-requires-clause-last
-publish-requires-clause-last c = omega (arith, (may (goal.at.publish-requires-clause-last c).After-place_in_row-place).1)
-
-pub publish-requires-clause-number : goal.publish-requires-clause-number
-publish-requires-clause-number c = (may (goal.at.publish-requires-clause-number c).After-place_in_row-place).2
+pub publish-requires-clause-fits : goal.publish-requires-clause-fits
+publish-requires-clause-fits c =
+    let may = may_publish_at c.self.inside.plan.now c.self.invariant.is_plan (core_of c.self.inside) c.self.invariant.stands c.args.node.0
+    c.parent_of-parent.result c.place_in_row-place.result (concentrator_at (goal.at.publish-requires-clause-fits c).After-place_in_row-place)
+    c.parent_of-parent.ensures.parent c.place_in_row-place.ensures.place in
+    record { steps = may.steps; last = omega (arith, may.last); number = may.number }
 
 abbrev after : (c : In-Some) → Inside
 after c = record c.self.inside { links = c.publish.new.links; concentrators = c.publish.new.concentrators }
 
 did : (c : In-Some) → DidPublish (core_of c.self.inside) c.args.node.0 (core_of (after c)).links c.publish.new.concentrators.items c.in-Some.number
     c.parent_of-parent.result c.place_in_row-place.result
-did c = record { made = c.in-Some.ensures.published; one = c.in-Some.ensures.one; alone = c.in-Some.ensures.alone }
+did c = record { made = c.in-Some.ensures.published; one = c.in-Some.ensures.only.one; alone = c.in-Some.ensures.only.alone }
 
 makes : (c : In-Some) (s : State) → StandsFor c.self.inside.plan.now (core_of c.self.inside) s →
     MakesMove c.self.inside.plan.now (core_of (after c)) s (Publish c.args.node.0 c.in-Some.number)
@@ -65,7 +60,3 @@ returns-in_default c =
     let concentrator = of_fields c.self.inside _ c.self.view_is (λ plan. IsConcentrator (plan_lists plan) c.args.node.0) c.requires.concentrator in
     made_none c.self.inside _ _ (act.Publish c.args.node.0) c.self.view_is (search rules) (λ s stands.
     cannot_publish c.self.inside.plan.now c.self.invariant.is_plan (core_of c.self.inside) s stands c.args.node.0 concentrator c.in_default.ensures.published)
-
-pub publish-requires-clause-parent : goal.publish-requires-clause-parent
-publish-requires-clause-parent c =
-    omega (arith, c.parent_of-parent.ensures.inside, c.self.invariant.places.all_links, length-map c.self.inside.links.items (λ row. row.items))

@@ -15,9 +15,8 @@ use Rattle.pm_cluster.specs.declared.cluster.Cluster.TheInside.{Inside}
 use Rattle.pm_cluster.specs.ClusterFields.{core_of}
 use Rattle.pm_cluster.proofs.MadeBy.{made_by, made_none}
 use Rattle.pm_market.specs.declared.moves.Act.TheVariants as act
-use Rattle.pm_cluster.proofs.Kept.{moved, of_fields, leaf_is_node}
+use Rattle.pm_cluster.proofs.Kept.{link_there, moved, of_fields, leaf_is_node}
 use Rattle.pm_cluster.proofs.Seats.{seat_set, seat_other, seat_read}
-use Rattle.std.proofs.lemmas.List.{length-map}
 use Rattle.pm_cluster.proofs.cluster.Cluster.take.Goals as goal
 use Rattle.pm_cluster.proofs.cluster.Cluster.take.Goals.{After-index_mut, After-price}
 
@@ -75,6 +74,8 @@ returns-in_default c =
     cannot_pass c.self.inside.plan.now (core_of c.self.inside) s stands c.args.device.0 c.parent_of-parent.result c.place_in_row-place.result
     node c.parent_of-parent.ensures.parent c.place_in_row-place.ensures.place _ c.in_default.ensures.taken)
 
-pub take_price-requires-clause-parent : goal.take_price-requires-clause-parent
-take_price-requires-clause-parent c =
-    omega (arith, c.parent_of-parent.ensures.inside, c.self.invariant.places.all_links, length-map c.self.inside.links.items (λ row. row.items))
+pub take_price-requires : goal.take_price-requires
+take_price-requires c = record {
+  link = link_there c.self.inside c.self.invariant.places c.args.device.0 _ _ c.parent_of-parent.ensures.parent c.parent_of-parent.ensures.inside
+      c.place_in_row-place.ensures.inside;
+}
