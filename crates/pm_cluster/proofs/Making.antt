@@ -41,17 +41,9 @@ use Rattle.pm_stands.proofs.Places.{at_node, from_node}
 use Rattle.pm_laws.proofs.Gone.{gone_leaf}
 use Rattle.pm_stands.proofs.Changing.{change_did}
 use Rattle.pm_cluster.specs.Next.{count_of, IsNext}
+use Rattle.pm_cluster.specs.Offering.{IsFollowed}
 use Rattle.pm_cluster.specs.Parts.{HasLinkAt}
 use Rattle.pm_cluster.proofs.NextChanges.{end_of_market, member_of_market, demand_of_member, demand_of_none}
-
--- a change that follows is of a device, its next one, and of the device's kind
-pub record IsFollowed (plan : PlanData) (c : Core) (next : Next) (kind : Kind) : Type 0 where
-  -- the change is of a device
-  pub leaf : IsLeaf (plan_lists plan) next.device
-  -- the change is the next one of its device
-  pub its_next : IsNext plan c.closed (count_of c) next.device next
-  -- the kind is that of the device in the plan
-  pub its_kind : kind_of (node plan next.device) ≡ Some kind
 
 -- the number of a change that follows is at most how many changes its device makes
 pub within_changes : (plan : PlanData) (c : Core) (next : Next) (kind : Kind) → IsFollowed plan c next kind → next.number ≤ change_count plan next.device

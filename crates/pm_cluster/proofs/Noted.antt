@@ -1,5 +1,5 @@
 -- A cluster after a change of a device was offered on the device's link and noted.
-use Rattle.std.proofs.Common.{◌≡◌, ◌∙◌, sym, ap, subst, refl, ℕ, ◌<◌, ◌≤◌, ℤ, false, true, Bool}
+use Rattle.std.proofs.Common.{◌≡◌, ◌∙◌, sym, ap, subst, refl, ℕ, ◌≤◌, ℤ, false, true, Bool}
 use Rattle.std.proofs.Common.{List, length, map, get_or, arith}
 use Rattle.std.specs.Prelude.{Option, IfSome}
 use Rattle.std.proofs.lemmas.List.{length-map, map-set}
@@ -24,11 +24,11 @@ use Rattle.pm_stands.specs.Stands.{StandsFor, Stands, MakesMove}
 use Rattle.pm_stands.specs.Made.{seat_after, changed_core}
 use Rattle.pm_cluster.specs.Clusters.{ClusterValue}
 use Rattle.pm_cluster.specs.ClusterFields.{AreClusterFields, core_of, cluster_of}
-use Rattle.pm_cluster.specs.Offering.{IsPlannedChange, HasLink, IsOffered}
+use Rattle.pm_cluster.specs.Offering.{IsFollowed, IsPlannedChange, HasLink, HasNotes, IsOffered, AreNoted, ChangesDevice}
 use Rattle.pm_cluster.specs.declared.cluster.Cluster.TheInside.{Inside}
 use Rattle.pm_cluster.proofs.Parents.{leaf_inside}
 use Rattle.pm_cluster.proofs.Kept.{leaf_has_place, places_of, of_value}
-use Rattle.pm_cluster.proofs.Making.{IsFollowed, Written, within_changes, new_number, change_makes, change_stands, members_after}
+use Rattle.pm_cluster.proofs.Making.{Written, within_changes, new_number, change_makes, change_stands, members_after}
 
 -- a cluster after a change of a device: the device's link, and what is kept of the device
 abbrev pub changed : Inside → Inside → Inside
@@ -52,14 +52,9 @@ pub record IsNoted (old new : Inside) (next : Next) : Type 0 where
   pub other : List ℤ
   -- the demand after the change was offered
   pub offered : IsOffered old.plan.now next (rows_of old.links.items) (rows_of new.links.items) other
-  -- the number of the change was noted
-  pub counts : new.counts.items ≡ set old.counts.items next.device next.number
-  -- the state after it
-  pub states : new.states.items ≡ set old.states.items next.device next.state
-  -- whether the device is a member after it
-  pub members : new.members.items ≡ set old.members.items next.device next.member
-  -- and what becomes of the device's seat
-  pub ports : new.ports.items ≡ set old.ports.items next.device (seat_of old next)
+  -- the change was noted of the device
+  pub noted : AreNoted next old.counts.items new.counts.items old.states.items new.states.items
+      old.members.items new.members.items old.ports.items new.ports.items
   -- the spare bid has its steps
   pub room : length new.spare ≡ length old.spare
 
@@ -106,26 +101,16 @@ has_link old next kind other kept follows room =
       room = room;
     }
 
--- the places of a device in the lists
-pub record HasNotes (old : Inside) (next : Next) : Type 0 where
-  -- the device has its place among the counts
-  pub counts : next.device < length old.counts.items
-  -- the device has its place among the states
-  pub states : next.device < length old.states.items
-  -- the device has its place among the members
-  pub members : next.device < length old.members.items
-  -- the device has its place among the ports
-  pub ports : next.device < length old.ports.items
-
 -- a change that follows is of a device that has its places
-pub has_notes : (old : Inside) (next : Next) (kind : Kind) → AreClusterFields old → IsFollowed old.plan.now (core_of old) next kind → HasNotes old next
+pub has_notes : (old : Inside) (next : Next) (kind : Kind) → AreClusterFields old → IsFollowed old.plan.now (core_of old) next kind →
+    HasNotes next old.counts.items old.states.items old.members.items old.ports.items
 has_notes old next kind kept follows =
     let place = leaf_has_place old.plan.now kept.is_plan next.device follows.leaf in
     record {
-      counts = omega (arith, place, kept.places.all_counts);
-      states = omega (arith, place, kept.places.all_states, length-map old.states.items (λ (z : DeviceState). z.0));
-      members = omega (arith, place, kept.same_members);
-      ports = omega (arith, place, kept.places.all_ports);
+      count = omega (arith, place, kept.places.all_counts);
+      state = omega (arith, place, kept.places.all_states, length-map old.states.items (λ (z : DeviceState). z.0));
+      member = omega (arith, place, kept.same_members);
+      port = omega (arith, place, kept.places.all_ports);
     }
 
 written : (old new : Inside) (next : Next) (kind : Kind) → AreClusterFields old → IsFollowed old.plan.now (core_of old) next kind →
@@ -154,11 +139,11 @@ core_is old new next noted =
     let links = rows_of new.links.items in
     let state : DeviceState → ℤ = λ z. z.0 in
     let states : map state new.states.items ≡ set (map state old.states.items) next.device next.state.0 =
-    ap (map state) noted.states ∙ map-set state old.states.items next.device next.state in
-    sym (ap (λ (counts : List ℕ). changed_core (core_of old) links counts (map state new.states.items) new.ports.items) noted.counts
+    ap (map state) noted.noted.states ∙ map-set state old.states.items next.device next.state in
+    sym (ap (λ (counts : List ℕ). changed_core (core_of old) links counts (map state new.states.items) new.ports.items) noted.noted.counts
     ∙ ap (λ (z : List ℤ). changed_core (core_of old) links (set old.counts.items next.device next.number) z new.ports.items) states
     ∙ ap (λ (ports : List Seat). changed_core (core_of old) links (set old.counts.items next.device next.number)
-    (set (map state old.states.items) next.device next.state.0) ports) noted.ports)
+    (set (map state old.states.items) next.device next.state.0) ports) noted.noted.ports)
 
 -- so the move was made
 pub makes_change : (old new : Inside) (next : Next) (kind : Kind) → AreClusterFields old →
@@ -174,11 +159,14 @@ makes_change old new next kind kept follows noted s stands =
 -- also by what contracts see
 pub makes_of : (old new : Inside) (v : ClusterValue) (next : Next) (kind : Kind) (what : Move) → cluster_of old ≡ v →
     AreClusterFields old → IsFollowed old.plan.now (core_of old) next kind → IsNoted old new next →
-    what ≡ Change next.device next.number → (s : State) → StandsFor v.plan v.core s → MakesMove v.plan (core_of (changed old new)) s what
-makes_of old new v next kind what is kept follows noted form =
-    of_value old v is (λ plan s. MakesMove plan (core_of (changed old new)) s what) (λ s stands.
-    subst (λ (m : Move). MakesMove old.plan.now (core_of (changed old new)) s m) (sym form)
-    (makes_change old new next kind kept follows noted s stands))
+    what ≡ Change next.device next.number → ChangesDevice next v (cluster_of (changed old new)) what
+makes_of old new v next kind what is kept follows noted form = record {
+  plan = ap (λ (w : ClusterValue). w.plan) is;
+  form = form;
+  made = of_value old v is (λ plan s. MakesMove plan (core_of (changed old new)) s what) (λ s stands.
+      subst (λ (m : Move). MakesMove old.plan.now (core_of (changed old new)) s m) (sym form)
+      (makes_change old new next kind kept follows noted s stands));
+}
 
 -- and the cluster keeps what it kept
 pub keeps_fields : (old new : Inside) (next : Next) (kind : Kind) → AreClusterFields old →
@@ -195,12 +183,12 @@ keeps_fields old new next kind kept follows noted =
     record {
       is_plan = kept.is_plan;
       places = places_of plan _ stands;
-      same_members = ap length noted.members ∙ length-set old.members.items x next.member ∙ kept.same_members;
+      same_members = ap length noted.noted.members ∙ length-set old.members.items x next.member ∙ kept.same_members;
       members = λ d leaf.
-          ap (λ (members : List Bool). get_or members d false) noted.members
-          ∙ members_after plan old.members.items old.counts.items x next.number next.member notes.members notes.counts
+          ap (λ (members : List Bool). get_or members d false) noted.noted.members
+          ∙ members_after plan old.members.items old.counts.items x next.number next.member notes.member notes.count
           follows.its_next.member kept.members d leaf
-          ∙ ap (λ (counts : List ℕ). is_member plan d (get_or counts d 0)) (sym noted.counts);
+          ∙ ap (λ (counts : List ℕ). is_member plan d (get_or counts d 0)) (sym noted.noted.counts);
       same_due = kept.same_due;
       due = kept.due;
       spare = noted.room ∙ kept.spare;

@@ -1,28 +1,19 @@
 //! Makes the next change of a device, and offers its bid on the device's link.
 
-ghost use Rattle.std.specs.Prelude.{◌≡◌, ℤ, ◌<◌, ◌≤◌, List, length, slice_set, slice_index_or, not, true, false, IfOk, IfErr, IfSome};
+ghost use Rattle.std.specs.Prelude.{◌≡◌, ℤ, ◌<◌, List, length, true, IfOk, IfErr, IfSome};
 ghost use Rattle.std.specs.Prelude.{Some};
 ghost use Rattle.std.specs.Option.{option_copied};
 ghost use Rattle.pm_base.specs.Rows.{rows_of};
-ghost use Rattle.pm_tree.specs.Entries.{place_of};
 ghost use Rattle.pm_strategy.specs.Strategies.{bid_of};
-ghost use Rattle.pm_session.specs.Links.{BidOffered, bid_offered};
-ghost use Rattle.pm_market.specs.Lists.{parent, IsLeaf};
+ghost use Rattle.pm_market.specs.Lists.{parent};
 ghost use Rattle.pm_market.specs.State.{State};
 ghost use Rattle.pm_market.specs.declared.moves.Move.{Move};
-ghost use Rattle.pm_plan.specs.Kept.{IsPlan};
-ghost use Rattle.pm_plan.specs.Market.{plan_lists};
-ghost use Rattle.pm_plan.specs.Plans.{node, kind_of, change_count, is_member};
-ghost use Rattle.pm_plan.specs.States.{state};
 ghost use Rattle.pm_offer.specs.Offers.{device_demand};
 ghost use Rattle.pm_stands.specs.Stands.{StandsFor, MakesMove};
-ghost use Rattle.pm_stands.specs.Core.{row_at, link_at, seat_at};
-ghost use Rattle.pm_stands.specs.Rows.{OneLink};
-ghost use Rattle.pm_cache.specs.Learning.{bid_demand};
 ghost use Rattle.pm_stands.specs.Made.{seat_after};
-ghost use Rattle.pm_cluster.specs.Next.{count_of, IsNext};
+ghost use Rattle.pm_cluster.specs.Next.{count_of};
 ghost use Rattle.pm_cluster.specs.Acts.{Follows, NotChanged};
-ghost use Rattle.pm_cluster.specs.Offering.{IsPlannedChange, HasLink, IsOffered};
+ghost use Rattle.pm_cluster.specs.Offering.{IsFollowed, IsPlannedChange, HasLink, HasNotes, IsOffered, AreNoted, ChangesDevice};
 
 use crate::cluster::Cluster;
 use crate::fault::ChangeFault;
@@ -112,17 +103,11 @@ impl<'p> Cluster<'p> {
 
     /// Makes the next change of a device. The bid of a member is the one given, and else computed by the plan.
     pub(crate) fn make(&mut self, next: Next, kind: Kind, given: Option<&ArrayBid>) -> Move
-        requires leaf { IsLeaf (plan_lists self.old.plan) next.device }
-        requires next { IsNext self.old.plan self.old.core.closed
-            (count_of self.old.core) next.device next }
-        requires kind { kind_of (node self.old.plan next.device) ≡ Some kind }
+        requires follows { IsFollowed self.old.plan self.old.core next kind }
         requires given { next.member ≡ true →
             IfSome (option_copied given)
             (λ demand. demand ≡ device_demand self.old.plan next.device next.number) }
-        ensures plan { self.new.plan ≡ self.old.plan }
-        ensures form { result ≡ Move.Change next.device next.number }
-        ensures made { (s : State) → StandsFor self.old.plan self.old.core s →
-            MakesMove self.old.plan self.new.core s result }
+        ensures change { ChangesDevice next self.old self.new result }
     {
         fill_given(self.plan, next, kind, given, &mut self.spare);
         offer_demand(self.plan, next, kind, &mut self.spare, &mut self.links);
@@ -137,17 +122,11 @@ impl<'p> Cluster<'p> {
 
     /// Makes the next change of a device, whose bid is the one given if it is a member. Another bid comes in exchange.
     fn make_owned(&mut self, next: Next, kind: Kind, demand: &mut ArrayBid) -> Move
-        requires leaf { IsLeaf (plan_lists self.old.plan) next.device }
-        requires next { IsNext self.old.plan self.old.core.closed
-            (count_of self.old.core) next.device next }
-        requires kind { kind_of (node self.old.plan next.device) ≡ Some kind }
+        requires follows { IsFollowed self.old.plan self.old.core next kind }
         requires given { next.member ≡ true →
             demand.old ≡ device_demand self.old.plan next.device next.number }
         requires steps { length demand.old ≡ self.old.plan.basis.steps }
-        ensures plan { self.new.plan ≡ self.old.plan }
-        ensures form { result ≡ Move.Change next.device next.number }
-        ensures made { (s : State) → StandsFor self.old.plan self.old.core s →
-            MakesMove self.old.plan self.new.core s result }
+        ensures change { ChangesDevice next self.old self.new result }
         ensures same_length { length demand.new ≡ length demand.old }
     {
         offer_demand(self.plan, next, kind, demand, &mut self.links);
@@ -169,17 +148,11 @@ fn note_change(
     members: &mut Vec<bool>,
     ports: &mut Vec<Port>,
 ) -> Move
-    requires counts { next.device < length counts.old.items }
-    requires states { next.device < length states.old.items }
-    requires members { next.device < length members.old.items }
-    requires ports { next.device < length ports.old.items }
+    requires places { HasNotes next counts.old.items states.old.items members.old.items
+        ports.old.items }
     ensures form { result ≡ Move.Change next.device next.number }
-    ensures counts { counts.new.items ≡ slice_set counts.old.items next.device next.number }
-    ensures states { states.new.items ≡ slice_set states.old.items next.device next.state }
-    ensures members { members.new.items ≡ slice_set members.old.items next.device next.member }
-    ensures ports { let before = slice_index_or members.old.items next.device false in
-        ports.new.items ≡ slice_set ports.old.items next.device
-        (seat_after (seat_at ports.old.items next.device) before next.member next.number) }
+    ensures noted { AreNoted next counts.old.items counts.new.items states.old.items
+        states.new.items members.old.items members.new.items ports.old.items ports.new.items }
 {
     let at = next.device as usize;
     take_seat(&mut ports[at], members[at], next);

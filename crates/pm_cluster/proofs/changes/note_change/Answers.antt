@@ -1,5 +1,5 @@
--- Of `note_change`: its clause `ports`.
-use Rattle.std.proofs.Common.{◌≡◌, ◌∙◌, ap, ℕ, ◌<◌, Bool, false, List, length, get_or}
+-- Of `note_change`: its clause `noted`.
+use Rattle.std.proofs.Common.{rules, ◌≡◌, ◌∙◌, ap, ℕ, ◌<◌, Bool, false, List, length, get_or}
 use Rattle.std.specs.Prelude.{slice_set}
 use Rattle.std.proofs.lemmas.List.{get_or_read}
 use Rattle.pm_session.specs.Ports.{Seat}
@@ -11,13 +11,18 @@ seat_read : (ports : List Seat) (x : ℕ) (seat : Seat) → x < length ports →
 unfolding seat_at
 seat_read ports x seat lt read = get_or_read ports x seat lt read _
 
-pub returns-clause-ports : goal.returns-clause-ports
-returns-clause-ports c =
+pub returns-clause-noted : goal.returns-clause-noted
+returns-clause-noted c =
     let ports = c.args.ports.now.items in
     let next = c.args.next in
-    let seat = seat_read ports next.device c.index_mut.result.now c.requires.ports c.index_mut.ensures.value in
-    let before = get_or_read c.args.members.now.items next.device c.index.result.now c.requires.members c.index.ensures false in
-    ap (slice_set ports next.device) (
-    c.take_seat.ensures
-    ∙ ap (λ (s : Seat). seat_after s c.index.result.now next.member next.number) seat
-    ∙ ap (λ (b : Bool). seat_after (seat_at ports next.device) b next.member next.number) before)
+    let seat = seat_read ports next.device c.index_mut.result.now c.requires.places.port c.index_mut.ensures.value in
+    let before = get_or_read c.args.members.now.items next.device c.index.result.now c.requires.places.member c.index.ensures false in
+    record {
+      counts = search rules;
+      states = search rules;
+      members = search rules;
+      ports = ap (slice_set ports next.device) (
+          c.take_seat.ensures
+          ∙ ap (λ (s : Seat). seat_after s c.index.result.now next.member next.number) seat
+          ∙ ap (λ (b : Bool). seat_after (seat_at ports next.device) b next.member next.number) before);
+    }

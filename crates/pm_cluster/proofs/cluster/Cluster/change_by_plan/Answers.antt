@@ -31,10 +31,10 @@ returns-in_default c =
 
 pub returns : goal.returns
 returns c = record {
-  plan = c.make.ensures.plan;
+  plan = c.make.ensures.change.plan;
   form = search rules;
   none = λ e. absurd (cc e);
-  made = c.make.ensures.made;
+  made = c.make.ensures.change.made;
 }
 
 pub kind-requires : goal.kind-requires

@@ -1,4 +1,4 @@
--- Of `Cluster::make`: its clause `made`; what the calls of `fill_given`, `offer_demand` and `note_change` require; what the type keeps.
+-- Of `Cluster::make`: what it ensures; what the calls of `fill_given`, `offer_demand` and `note_change` require; what the type keeps.
 use Rattle.std.proofs.Common.{◌≡◌, ◌∙◌, sym, true}
 use Rattle.std.specs.Prelude.{Some, IfSome}
 use Rattle.std.specs.Option.{option_copied}
@@ -7,15 +7,13 @@ use Rattle.pm_plan.specs.Plans.{PlanData}
 use Rattle.pm_cluster.specs.ClusterFields.{core_of}
 use Rattle.pm_cluster.specs.declared.cluster.Cluster.TheInside.{Inside}
 use Rattle.pm_cluster.proofs.Kept.{of_fields}
-use Rattle.pm_cluster.proofs.Making.{IsFollowed}
+use Rattle.pm_cluster.specs.Offering.{IsFollowed}
 use Rattle.pm_cluster.proofs.Noted.{IsNoted, followed, planned_change, has_link, has_notes, makes_of, keeps_fields}
 use Rattle.pm_cluster.proofs.cluster.Cluster.make.Goals as goal
 use Rattle.pm_cluster.proofs.cluster.Cluster.make.Goals.{After-self, After-note_change}
 
 follows : (c : After-self) → IsFollowed c.self.inside.plan.now (core_of c.self.inside) c.args.next c.args.kind
-follows c =
-    followed c.self.inside c.args.self.now c.args.next c.args.kind c.self.view_is
-    (record { leaf = c.requires.leaf; its_next = c.requires.next; its_kind = c.requires.kind })
+follows c = followed c.self.inside c.args.self.now c.args.next c.args.kind c.self.view_is c.requires.follows
 
 pub fill_given-requires-clause-change : goal.fill_given-requires-clause-change
 fill_given-requires-clause-change c =
@@ -39,9 +37,9 @@ offer_demand-requires-clause-link c =
     (follows (goal.at.offer_demand-requires-clause-link c).After-self) (c.fill_given.ensures.same_length ∙ c.self.invariant.spare)
 
 pub note_change-requires : goal.note_change-requires
-note_change-requires c =
-    let at = has_notes c.self.inside c.args.next c.args.kind c.self.invariant (follows (goal.at.note_change-requires c).After-self) in
-    record { counts = at.counts; states = at.states; members = at.members; ports = at.ports }
+note_change-requires c = record {
+  places = has_notes c.self.inside c.args.next c.args.kind c.self.invariant (follows (goal.at.note_change-requires c).After-self);
+}
 
 -- the fields as they are written
 abbrev written : After-note_change → Inside
@@ -58,10 +56,7 @@ noted : (c : After-note_change) → IsNoted c.self.inside (written c) c.args.nex
 noted c = record {
   other = c.offer_demand.new.demand;
   offered = c.offer_demand.ensures.offered;
-  counts = c.note_change.ensures.counts;
-  states = c.note_change.ensures.states;
-  members = c.note_change.ensures.members;
-  ports = c.note_change.ensures.ports;
+  noted = c.note_change.ensures.noted;
   room = c.offer_demand.ensures.offered.room ∙ sym c.self.invariant.spare;
 }
 
@@ -71,8 +66,10 @@ invariant_of-self c =
     keeps_fields c.self.inside (written at.After-note_change) c.args.next c.args.kind c.self.invariant (follows at.After-self)
     (noted at.After-note_change)
 
-pub returns-clause-made : goal.returns-clause-made
-returns-clause-made c =
-    let at = goal.at.returns-clause-made c in
-    makes_of c.self.inside (written at.After-note_change) c.args.self.now c.args.next c.args.kind c.note_change.result c.self.view_is
-    c.self.invariant (follows at.After-self) (noted at.After-note_change) c.note_change.ensures.form
+pub returns : goal.returns
+returns c =
+    let at = goal.at.returns c in
+    record {
+      change = makes_of c.self.inside (written at.After-note_change) c.args.self.now c.args.next c.args.kind c.note_change.result c.self.view_is
+          c.self.invariant (follows at.After-self) (noted at.After-note_change) c.note_change.ensures.form;
+    }

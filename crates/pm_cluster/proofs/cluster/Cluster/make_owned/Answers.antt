@@ -1,4 +1,4 @@
--- Of `Cluster::make_owned`: its clause `made`; what the calls of `offer_demand` and `note_change` require; what the type keeps.
+-- Of `Cluster::make_owned`: its clause `change`; what the calls of `offer_demand` and `note_change` require; what the type keeps.
 use Rattle.std.proofs.Common.{◌≡◌, refl, true, length}
 use Rattle.std.specs.Prelude.{Some}
 use Rattle.pm_offer.specs.Offers.{device_demand}
@@ -6,15 +6,13 @@ use Rattle.pm_plan.specs.Plans.{PlanData}
 use Rattle.pm_cluster.specs.ClusterFields.{core_of}
 use Rattle.pm_cluster.specs.declared.cluster.Cluster.TheInside.{Inside}
 use Rattle.pm_cluster.proofs.Kept.{of_fields}
-use Rattle.pm_cluster.proofs.Making.{IsFollowed}
+use Rattle.pm_cluster.specs.Offering.{IsFollowed}
 use Rattle.pm_cluster.proofs.Noted.{IsNoted, followed, planned_change, has_link, has_notes, makes_of, keeps_fields}
 use Rattle.pm_cluster.proofs.cluster.Cluster.make_owned.Goals as goal
 use Rattle.pm_cluster.proofs.cluster.Cluster.make_owned.Goals.{After-self, After-note_change}
 
 follows : (c : After-self) → IsFollowed c.self.inside.plan.now (core_of c.self.inside) c.args.next c.args.kind
-follows c =
-    followed c.self.inside c.args.self.now c.args.next c.args.kind c.self.view_is
-    (record { leaf = c.requires.leaf; its_next = c.requires.next; its_kind = c.requires.kind })
+follows c = followed c.self.inside c.args.self.now c.args.next c.args.kind c.self.view_is c.requires.follows
 
 pub offer_demand-requires-clause-change : goal.offer_demand-requires-clause-change
 offer_demand-requires-clause-change c =
@@ -30,9 +28,9 @@ offer_demand-requires-clause-link c =
     c.self.view_is (λ (plan : PlanData). length c.args.demand.now ≡ plan.basis.steps) c.requires.steps)
 
 pub note_change-requires : goal.note_change-requires
-note_change-requires c =
-    let at = has_notes c.self.inside c.args.next c.args.kind c.self.invariant (follows (goal.at.note_change-requires c).After-self) in
-    record { counts = at.counts; states = at.states; members = at.members; ports = at.ports }
+note_change-requires c = record {
+  places = has_notes c.self.inside c.args.next c.args.kind c.self.invariant (follows (goal.at.note_change-requires c).After-self);
+}
 
 -- the fields as they are written
 abbrev written : After-note_change → Inside
@@ -48,10 +46,7 @@ noted : (c : After-note_change) → IsNoted c.self.inside (written c) c.args.nex
 noted c = record {
   other = c.offer_demand.new.demand;
   offered = c.offer_demand.ensures.offered;
-  counts = c.note_change.ensures.counts;
-  states = c.note_change.ensures.states;
-  members = c.note_change.ensures.members;
-  ports = c.note_change.ensures.ports;
+  noted = c.note_change.ensures.noted;
   room = refl;
 }
 
@@ -61,8 +56,8 @@ invariant_of-self c =
     keeps_fields c.self.inside (written at.After-note_change) c.args.next c.args.kind c.self.invariant (follows at.After-self)
     (noted at.After-note_change)
 
-pub returns-clause-made : goal.returns-clause-made
-returns-clause-made c =
-    let at = goal.at.returns-clause-made c in
+pub returns-clause-change : goal.returns-clause-change
+returns-clause-change c =
+    let at = goal.at.returns-clause-change c in
     makes_of c.self.inside (written at.After-note_change) c.args.self.now c.args.next c.args.kind c.note_change.result c.self.view_is
     c.self.invariant (follows at.After-self) (noted at.After-note_change) c.note_change.ensures.form
