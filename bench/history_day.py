@@ -1,28 +1,38 @@
-"""Measures the page of a day of a live market's history: 1,000 devices below 20 relays that clear each 15 seconds, in SQLite.
+"""Measures the page of a day of a live market's history: 1,000 devices below 20 relays that clear each 15 seconds.
 
-    /usr/bin/python3 bench/history_day.py [DEVICES] [SECONDS]
+    /usr/bin/python3 bench/history_day.py sqlite|postgresql [DEVICES [SECONDS]]
 
-It makes the rows of a day as the broker's messages would, writes them clearing by clearing, and prints the rows and bytes of the file, how
-long that took, and how long each query of the report takes. Nine devices in ten have measured powers each minute.
+It makes the rows of a whole day by a seed, as the broker's messages would, and has the keeper's database take them in, a clearing in each
+transaction. It prints the rows and bytes of the database, how long that took, and how long each query of the report takes. Nine devices in
+ten have measured powers each minute. PostgreSQL is a server of its own, as Debian 12 sets one up, in a temporary folder; it needs root.
 """
 
+from __future__ import annotations
+
+import contextlib
 import logging
+import os
 import random
+import shutil
+import socket
+import subprocess
 import sys
 import tempfile
 import time
+from collections.abc import Iterator
 from datetime import UTC, datetime
 from pathlib import Path
 
 TOP = Path(__file__).resolve().parents[1]
 sys.path.insert(0, str(TOP / "python"))
 
-from cogmaula.history import Row, open_database  # noqa: E402
+from cogmaula.history import Database, Row, open_database  # noqa: E402
 from cogmaula.report.history_day import history_page  # noqa: E402
 
 DAY = datetime(2026, 12, 1, tzinfo=UTC)
 BEGIN, SECONDS_OF_DAY, RELAYS, SESSION = int(DAY.timestamp()), 86_400, 20, "0123456789abcdef"
 MEASURED_EACH = 60
+POSTGRES = Path("/usr/lib/postgresql/15/bin")
 
 
 def state(node: str, sort: str, parent: str | None, child: int | None) -> Row:
@@ -52,33 +62,95 @@ def rows_at(devices: int, clearing: int, at: float, chance: random.Random) -> li
     return found
 
 
-def main() -> None:
+@contextlib.contextmanager
+def sqlite_in(folder: Path) -> Iterator[str]:
+    """The URL of a file of SQLite."""
+    yield f"sqlite:///{folder}/market.db"
+
+
+@contextlib.contextmanager
+def postgres_in(folder: Path) -> Iterator[str]:
+    """The URL of an empty database of a server of PostgreSQL at loopback."""
+    with socket.create_server(("127.0.0.1", 0)) as free:
+        port = free.getsockname()[1]
+    shutil.chown(folder, "postgres")
+
+    def run(*words: object) -> None:
+        subprocess.run(["runuser", "-u", "postgres", "--", *map(str, words)], check=True, stdout=subprocess.DEVNULL, cwd="/")
+
+    run(POSTGRES / "initdb", "-D", folder / "data", "--auth=trust")
+    more = f"-c listen_addresses=127.0.0.1 -p {port} -c unix_socket_directories={folder}"
+    run(POSTGRES / "pg_ctl", "-D", folder / "data", "-w", "-o", more, "-l", folder / "log", "start")
+    try:
+        yield f"postgresql://postgres@127.0.0.1:{port}/postgres"
+    finally:
+        run(POSTGRES / "pg_ctl", "-D", folder / "data", "-w", "-m", "fast", "stop")
+
+
+KINDS = {"sqlite": sqlite_in, "postgresql": postgres_in}
+
+
+def size_of(database: Database, kind: str, folder: Path) -> int:
+    """The bytes of the database with its indexes."""
+    if kind == "postgresql":
+        return int(database.read("SELECT pg_database_size(current_database())")[0][0])
+    return sum(path.stat().st_size for path in folder.iterdir())
+
+
+class Took:
+    """The time since it was made, of the clock and of this process's processor, in words."""
+
+    def __init__(self) -> None:
+        self._begun, self._used = time.perf_counter(), time.process_time()
+
+    def __str__(self) -> str:
+        took, used = time.perf_counter() - self._begun, time.process_time() - self._used
+        return f"{took:.1f} s, {used:.1f} s of a processor without the server's, at a load of {os.getloadavg()[0]:.1f}"
+
+
+def make_day(database: Database, devices: int, each: int) -> int:
+    """Has the database take in a day, and gives its number of rows."""
+    chance = random.Random(1)
+    begin = [Row("sessions", {"session": SESSION, "begun": BEGIN - 60.0, "least": 0, "greatest": 99, "steps": 100})]
+    begin.append(state("auctioneer", "auctioneer", None, None))
+    begin += [state(f"relay{relay}", "relay", "auctioneer", relay + 1) for relay in range(RELAYS)]
+    begin += [state(f"device{number}", "device", f"relay{number % RELAYS}", number // RELAYS + 1) for number in range(devices)]
+    database.put(begin)
+    many = len(begin)
+    for clearing, after in enumerate(range(-each, SECONDS_OF_DAY, each)):
+        told = rows_at(devices, clearing + 1, float(BEGIN + after), chance)
+        many += len(told)
+        database.put(told)
+    return many
+
+
+def measure(kind: str, devices: int, each: int, folder: Path) -> None:
     """Makes the day, and measures its page."""
-    devices, each = (int(word) for word in (sys.argv[1:] + ["1000", "15"][len(sys.argv) - 1 :])[:2])
+    with KINDS[kind](folder) as url:
+        database, took = open_database(url), Took()
+        many = make_day(database, devices, each)
+        print(f"{many:,} rows are in after {took}", flush=True)
+        print(f"the database has {size_of(database, kind, folder) / 1e6:,.0f} MB", flush=True)
+        database.close()
+        reader, took = open_database(url, is_reader=True), Took()
+        text = history_page(reader, DAY)
+        print(f"the page has {len(text):,} bytes after {took}", flush=True)
+        reader.close()
+
+
+def main() -> int:
+    """Measures what the words ask for."""
+    words = sys.argv[1:]
+    if not words or words[0] not in KINDS or len(words) > 3 or not all(word.isdigit() for word in words[1:]):
+        print(__doc__, file=sys.stderr)
+        return 2
+    devices, each = (int(word) for word in (*words[1:], *("1000", "15")[len(words) - 1 :]))
     logging.basicConfig(level=logging.DEBUG, format="%(message)s")
     logging.getLogger("matplotlib").setLevel(logging.WARNING)
-    chance = random.Random(1)
-    with tempfile.TemporaryDirectory() as folder:
-        url, begun, rows = f"sqlite:///{folder}/market.db", time.process_time(), 0
-        database = open_database(url)
-        database.put([Row("sessions", {"session": SESSION, "begun": BEGIN - 60.0, "least": 0, "greatest": 99, "steps": 100})])
-        database.put([state("auctioneer", "auctioneer", None, None)])
-        database.put(state(f"relay{relay}", "relay", "auctioneer", relay + 1) for relay in range(RELAYS))
-        database.put(state(f"device{number}", "device", f"relay{number % RELAYS}", number // RELAYS + 1) for number in range(devices))
-        for clearing, after in enumerate(range(-each, SECONDS_OF_DAY, each)):
-            told = rows_at(devices, clearing + 1, float(BEGIN + after), chance)
-            rows += len(told)
-            database.put(told)
-        database.close()
-        size = sum(path.stat().st_size for path in Path(folder).iterdir())
-        print(f"{rows} rows, {size / 1e6:.0f} MB, written in {time.process_time() - begun:.0f} s of a processor")
-        reader = open_database(url, is_reader=True)
-        begun, used = time.perf_counter(), time.process_time()
-        text = history_page(reader, DAY)
-        load = Path("/proc/loadavg").read_text().split()[0]
-        took, cpu = time.perf_counter() - begun, time.process_time() - used
-        print(f"the page: {len(text)} bytes in {took:.1f} s, {cpu:.1f} s of a processor, at a load of {load}")
+    with tempfile.TemporaryDirectory(prefix="history-day.") as folder:
+        measure(words[0], devices, each, Path(folder))
+    return 0
 
 
 if __name__ == "__main__":
-    main()
+    sys.exit(main())
