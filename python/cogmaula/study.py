@@ -3,11 +3,9 @@
 from __future__ import annotations
 
 import hashlib
-import multiprocessing
 import os
 import signal
 from collections.abc import Callable, Iterable, Iterator, Mapping, Sequence
-from concurrent.futures import ProcessPoolExecutor
 from dataclasses import dataclass, fields, is_dataclass
 from pathlib import Path
 from typing import TYPE_CHECKING, Any, Generic, Literal, TypeVar
@@ -219,6 +217,10 @@ def _by_processes(processes: int, jobs: Sequence[_Job[T]]) -> Iterator[Outcome[T
     if len(jobs) < 2:
         yield from map(_do, jobs)
         return
+    # They take long to load, and all other commands do without them.
+    import multiprocessing
+    from concurrent.futures import ProcessPoolExecutor
+
     queue: Any = multiprocessing.SimpleQueue()
     with ProcessPoolExecutor(processes, initializer=_begin_worker, initargs=(dealt(queue, processes),)) as pool:
         try:
