@@ -28,13 +28,21 @@ from .found import Failed, Found, block_of, need, require, steps_of, wait_for, w
 from .machine import Machine, make_root
 
 PACKAGES = ["systemd-sysv", "dbus", "python3", "python3-paho-mqtt", "python3-websockets"]
-PACKAGES += ["mosquitto", "mosquitto-clients", "openssl", "socat"]
+PACKAGES += ["mosquitto", "mosquitto-clients", "openssl", "socat", "postgresql", "python3-psycopg", "libnss-systemd"]
 DOCS = "/usr/share/doc/market"
 NODES = {"auctioneer": "auctioneer", "street": "relay", "house": "device", "store": "device"}
 # Where a Resume has the index of the newest clearing.
 INDEX = {"auctioneer": 1, "relay": 9, "device": 5}
 PATIENCE = 60
 LOGIN = "XDG_CONFIG_HOME=/etc/market/{0}"
+# The login that keeps the history in PostgreSQL, where the user of its unit logs in by the socket, and the server on Debian 12.
+SERVED, SERVER = "served", "postgresql@15-main"
+SERVED_UNIT = f"market-history-{SERVED}"
+SERVED_LOGIN = f"""
+[logins.{SERVED}]
+role = "reader"
+database = "postgresql://{SERVED_UNIT}@/market?host=/run/postgresql"
+"""
 
 
 class Market:
@@ -49,9 +57,11 @@ class Market:
         self.run(f"cp {DOCS}/examples/live/* .")
         # The packages are there.
         self.run("sed -i 's/^.auctioneer.$/&\\npage = \"127.0.0.1:8080\"/' TREE.toml")
+        self.run(f"cat >>TREE.toml <<'end'{SERVED_LOGIN}end")
         self.run(steps[2])
         for name in ("broker", *NODES, "operator", "house.control", "store.control", "history"):
             self.run(f"cd market; {steps[3].replace('street', name)}")
+        self._steps = steps
         self.listen()
         self.all_are_up()
         took = self._since_start()
@@ -61,6 +71,10 @@ class Market:
     def run(self, command):
         """Runs a command line in the operator's folder."""
         return self.machine.run(f"set -e; mkdir -p /root/market && cd /root/market\n{command}").stdout
+
+    def install(self, name):
+        """Does what the page says with the folder of one more login."""
+        self.run(f"cd market; {self._steps[3].replace('street', name)}")
 
     def _since_start(self):
         began = self.machine.run(f"systemctl show -P ActiveEnterTimestampMonotonic {unit_of('auctioneer')}").stdout
@@ -319,6 +333,70 @@ def history_kept(market):
     return f"killed and started again, it has the {power} W since; {exposed}"
 
 
+# The newest setpoints that a history has of the store: all from a clearing on, a line for each, in their order.
+NEWEST = "SELECT session, clearing, number, step, price, power, at FROM setpoints WHERE device = 'store' AND clearing >= {0} ORDER BY clearing, number"
+
+
+def kept_in_sqlite(market, clearing):
+    """The setpoints of the store that the history in SQLite has from a clearing on."""
+    code = "import json, sqlite3, sys; one = sqlite3.connect('file:/var/lib/market/history/market.db?mode=ro', uri=True)"
+    return json.loads(market.run(f'python3 -c "{code}; print(json.dumps(one.execute(sys.argv[1]).fetchall()))" "{NEWEST.format(clearing)}"'))
+
+
+def kept_in_postgres(market, clearing):
+    """The same of the history in PostgreSQL; none while it is away."""
+    query = f"SELECT coalesce(json_agg(json_build_array(session, clearing, number, step, price, power, at)), '[]') FROM ({NEWEST.format(clearing)}) AS them"
+    told = market.machine.run(f'runuser -u postgres -- psql -qAt market -c "{query}"', False).stdout
+    return json.loads(told or "[]")
+
+
+def served_begins(market):
+    """That the unit of a history in PostgreSQL logs in by the socket, as the user that systemd made for it."""
+    market.run(f"cd /; runuser -u postgres -- createuser {SERVED_UNIT}; runuser -u postgres -- createdb -O {SERVED_UNIT} market")
+    market.install(SERVED)
+    told = market.offer()
+    wait_for(lambda: powers_of(kept_in_postgres(market, told["clearing"])) == [told["power"]], PATIENCE, f"it does not have {told['power']} W")
+    exposed = market.run(f"systemd-analyze security --no-pager {SERVED_UNIT}").strip().splitlines()[-1].strip("→ ")
+    return f"it has the {told['power']} W that came since; {exposed}"
+
+
+def powers_of(rows):
+    """The power of each setpoint."""
+    return [row[5] for row in rows]
+
+
+def served_goes_on(market):
+    """That the unit goes on after it was killed, and after the server was, and then has each setpoint once, as the other history."""
+    def process():
+        return market.run(f"systemctl show -P MainPID {SERVED_UNIT}").strip()
+
+    first, before = market.offer(), process()
+    market.run(f"systemctl kill -s KILL {SERVED_UNIT}")
+    powers = [first["power"], market.offer()["power"]]
+    wait_for(lambda: process() not in ("0", before), PATIENCE, "it is not started again")
+    market.run(f"systemctl kill -s KILL {SERVER}")
+    powers += [market.offer()["power"], market.offer()["power"]]
+    lines = f"journalctl --no-pager -o cat -u {SERVED_UNIT}"
+    wait_for(lambda: "PostgreSQL/market: " in market.run(lines), PATIENCE, "the journal has no line of the lost database")
+    at, after = time.monotonic(), process()
+    market.run(f"systemctl reset-failed {SERVER}; systemctl start {SERVER}")
+    # It tries again a minute after its last try at the latest.
+    wait_for(lambda: powers_of(kept_in_postgres(market, first["clearing"])) == powers, 2 * PATIENCE, f"it does not have {powers}")
+    took = time.monotonic() - at
+    require(process() == after, "it was started anew when the server was away")
+    require(kept_in_postgres(market, first["clearing"]) == kept_in_sqlite(market, first["clearing"]), "the histories differ")
+    return f"{len(powers)} setpoints, each once, as in SQLite; those of while the server was away {took:.1f} s after its start"
+
+
+def served_boots(market):
+    """That the unit began after the server when the machine booted, and has what came since."""
+    told = market.offer()
+    wait_for(lambda: powers_of(kept_in_postgres(market, told["clearing"])) == [told["power"]], PATIENCE, f"it does not have {told['power']} W")
+    restarts = market.run(f"systemctl show -P NRestarts {SERVED_UNIT}").strip()
+    require(restarts == "0", f"it was started {restarts} times more")
+    return f"started once, it has the {told['power']} W since"
+
+
 def limits(units, name):
     """Whether a unit came to its limits."""
     peak = units.cgroup(name, ("memory", "memory.max_usage_in_bytes"), ("", "memory.peak"))
@@ -352,6 +430,8 @@ def try_nodes(found, machine):
     found.part("the market, by the words of OPERATE.md", market.set_up)
     found.part("offers", lambda: f"told {json.dumps(market.offer())}")
     found.part("the unit of the history", lambda: history_kept(market))
+    found.part("the unit of a history in PostgreSQL", lambda: served_begins(market))
+    found.part("the history and its server are killed", lambda: served_goes_on(market))
     found.part("a node does not see what is another's", lambda: hides(machine, units))
     for name in NODES:
         found.part(f"{unit_of(name)} is killed", lambda unit=name: killed(market, units, unit))
@@ -370,6 +450,7 @@ def try_nodes(found, machine):
         found.part(f"limits of {unit_of(name)}", lambda unit=name: limits(units, unit))
         found.part(f"exposure of {unit_of(name)}", lambda unit=name: exposure(machine, unit))
     found.part("the machine is stopped and booted", lambda: booted_again(market, units))
+    found.part("the history in PostgreSQL after the boot", lambda: served_boots(market))
     for name in NODES:
         units.do("disable --now", name)
 

@@ -47,6 +47,8 @@ def history_unit_text(tree: Tree, login: Login, places: Places) -> str:
         "files": "",
         "patience": "5",
         "told": "",
+        # A server on the same machine starts first. On another one there is no such unit, and systemd waits for none.
+        "after": " postgresql.service" if has_server(login) else "",
         "ends": "2",
     }
     return Template(text_of("unit.service")).substitute(words)

@@ -100,6 +100,7 @@ def unit_text(tree: Tree, member: Member) -> str:
         "files": "",
         "patience": "5",
         "told": WATCHED,
+        "after": "",
         "ends": "2 5 6",
     }
     return Template(text_of("unit.service")).substitute(words)

@@ -69,6 +69,7 @@ def unit_text(tree: Tree, site: SitePlan, logins: Iterable[str]) -> str:
         "files": f"LimitNOFILE={files_of(node.sort for node in nodes)}\n",
         "patience": str(PATIENCE),
         "told": WATCHED,
+        "after": "",
         "ends": "2 5",
     }
     return Template(text_of("unit.service")).substitute(words)

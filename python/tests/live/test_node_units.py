@@ -73,6 +73,7 @@ def test_the_unit_of_a_history_hands_over_what_it_reads_and_can_write_its_file(d
     assert database != "sqlite" or any(file.startswith(f"{folder}/") for folder in unit.state)
     assert (database == "sqlite") == (not unit.all("Environment"))
     assert unit.all("Environment") in ([], ["PGPASSFILE=%d/pgpass"])
+    assert ("postgresql.service" in " ".join(unit.all("After"))) == (database != "sqlite")
     # It says once that it works, and has no loop that a watchdog could look at.
     assert (unit.all("Type"), unit.all("WatchdogSec")) == (["notify"], [])
     rights = tree.rights()["history"]
