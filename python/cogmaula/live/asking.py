@@ -3,6 +3,10 @@
 from __future__ import annotations
 
 
+# The least seconds before a question is asked again that was not answered by a bid or a clearing, however short the pause is.
+AGAIN = 0.01
+
+
 class Asking:
     """Asks by a period, or after news and then not faster than a pause."""
 
@@ -27,7 +31,23 @@ class Asking:
             return self._period is not None or self._has_news or self._is_again
         if self._period is not None and now >= self._last + self._period:
             return True
-        return (self._is_again or (self._period is None and self._has_news)) and now >= self._last + self._pause
+        wait = self._wait()
+        return wait is not None and now >= self._last + wait
+
+    def _wait(self) -> float | None:
+        """For how long to wait after the last question, None if there is neither news nor a question to ask again."""
+        if self._is_again:
+            return max(self._pause, AGAIN)
+        return self._pause if self._period is None and self._has_news else None
+
+    def due_at(self) -> float | None:
+        """When to ask next, None if that is not yet known: after news, or an answer."""
+        if self.since is not None:
+            return None
+        if self._last is None:
+            return 0.0 if self.is_due(0.0) else None
+        waits = [wait for wait in (self._wait(), self._period) if wait is not None]
+        return self._last + min(waits) if waits else None
 
     def asked(self, now: float) -> None:
         """Notes that it was asked now."""

@@ -42,6 +42,11 @@ class Heard:
         """16 hexadecimal digits that no other bid has."""
         return digest_of(self.frame)
 
+    @cached_property
+    def word(self) -> str:
+        """The child, the number of the bid, and its digest, as `words_of_asked` tells them."""
+        return _word_of(self.frame.child, self.frame.number, self.digest)
+
 
 class BidFault(Enum):
     """Why a message of a child is not taken."""
@@ -97,8 +102,9 @@ class Children:
     def words_of_asked(self) -> str:
         """Of each child in the sum its number, that of its bid, and the digest of that. With these a relay that goes on elsewhere knows
         the bids of its sum, though their children alone have them."""
-        told = {**self._known, **{child: (ask.frame.number, ask.digest) for child, ask in self.asked.items()}}
-        return " ".join(f"{child}:{number}:{digest}" for child, (number, digest) in sorted(told.items()))
+        told = {child: _word_of(child, *known) for child, known in self._known.items() if child not in self.asked}
+        told |= {child: ask.word for child, ask in self.asked.items()}
+        return " ".join([told[child] for child in sorted(told)])
 
     def asks(self) -> None:
         """Notes that the service is asked for a sum, of what it was fed."""
@@ -179,6 +185,10 @@ class Children:
 def digest_of(frame: Bid | Gone) -> str:
     """16 hexadecimal digits that no other bid has."""
     return hashlib.sha256(frame.to_bytes()).hexdigest()[:16]
+
+
+def _word_of(child: int, number: int, digest: str) -> str:
+    return f"{child}:{number}:{digest}"
 
 
 def _known_of(words: str) -> dict[int, tuple[int, str]]:

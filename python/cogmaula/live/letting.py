@@ -79,6 +79,11 @@ class Letting:
         return child not in self._keeping.stored.relays if known is None or known.sort is None else known.sort == "device"
 
     @property
+    def has_waiting(self) -> bool:
+        """Whether a bid waits until the pause of its child is over."""
+        return bool(self._waiting)
+
+    @property
     def bounds(self) -> list[bytes]:
         """The frames that bound children, for a service that starts."""
         return [Bound(child.child, child.least, child.greatest).to_bytes() for child in self._settings.children]

@@ -270,9 +270,9 @@ class Settings:
             raise BadSettings(f"child is {self.child}: give 1 to {CHILDREN}")
 
     def _require_times(self) -> None:
-        for name, value in (("period", self.period), ("pause", self.pause), ("offer_validity", self.offer_validity)):
-            if value is not None and not 0.01 <= value <= 1e9:
-                raise BadSettings(f"{name} is {value}: give 0.01 seconds or more")
+        for name, value, least in (("period", self.period, 0.01), ("pause", self.pause, 0), ("offer_validity", self.offer_validity, 0.01)):
+            if value is not None and not least <= value <= 1e9:
+                raise BadSettings(f"{name} is {value}: give {least} seconds or more")
         _require_child_pause(self.child_pause, "child_pause is")
         if self.sort == "device" and self.child_pause:
             raise BadSettings("a device has no children: take child_pause out")

@@ -121,6 +121,16 @@ class Serving:
         return silence.since if is_silent else None
 
     @property
+    def asks_at(self) -> float | None:
+        """When a parent asks its service next, None as long as that is not known."""
+        return self._asking.due_at() if self.service is not None and self.session is not None and not self.session.pending else None
+
+    @property
+    def is_awaited(self) -> bool:
+        """Whether something else is due soon by the clock: a session, a service, or a bid whose pause is not over."""
+        return self.service is None or self.session is None or self.session.letting.has_waiting
+
+    @property
     def has_left(self) -> bool:
         """Whether a device has left the market, or a relay that leaves counts no device."""
         return self.session is not None and self.session.has_left

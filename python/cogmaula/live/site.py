@@ -28,8 +28,9 @@ from .shared import SharedConnection
 from .site_life import SiteLife
 from .site_settings import SiteSettings
 
-# A device looks at the clock so often within a heartbeat, and not more seldom than each so many seconds.
-LOOKS, MOST_SECONDS = 6, 5.0
+# A device looks at the clock so often within a heartbeat, and not more seldom than each so many seconds. A parent with nothing that is due
+# soon looks each so many.
+LOOKS, MOST_SECONDS, QUIET = 6, 5.0, 0.25
 # The open files of a device: two pipes, its lock and a recording. A parent has a file of bids too. And those of the site itself.
 FILES_OF_DEVICE, FILES_OF_PARENT, FILES = 4, 5, 128
 # The seconds within which the broker has to confirm what nodes say last.
@@ -71,6 +72,7 @@ class Site:
         self._ready: deque[str] = deque()
         self._is_ready: set[str] = set()
         self._looks: list[tuple[float, str]] = []
+        self._look_at: dict[str, float] = {}
         self.nodes: dict[str, Node] = {}
         for one in settings.nodes:
             self.nodes[one.name] = Node(
@@ -103,7 +105,7 @@ class Site:
             for at, (name, node) in enumerate(self.nodes.items()):
                 node.start()
                 # The nodes do not look at the clock all at once.
-                heapq.heappush(self._looks, (now + MOST_SECONDS * at / len(self.nodes), name))
+                self._plan(name, now + MOST_SECONDS * at / len(self.nodes))
             while self.nodes and not self._is_stopped:
                 self._turn()
             if not self.nodes:
@@ -124,20 +126,28 @@ class Site:
             self._is_ready.discard(name)
             self._work(name)
         while self._looks and self._looks[0][0] <= now:
-            _, name = heapq.heappop(self._looks)
-            if name in self.nodes:
+            at, name = heapq.heappop(self._looks)
+            if name in self.nodes and self._look_at.get(name) == at:
+                self._look_at.pop(name)
                 self._work(name)
-                heapq.heappush(self._looks, (now + self._seconds_of(name), name))
         if now >= self._turned + 1.0:
             self._turned = now
             self._turns()
 
-    def _seconds_of(self, name: str) -> float:
-        """The seconds from one look of a node at the clock to the next: it needs no more for its heartbeats, and a parent for its pause."""
-        node = self.nodes.get(name)
-        if node is None or node.settings.sort != "device":
-            return TICK
-        return min(max(TICK, node.serving.beating.silence.times.heartbeat / LOOKS), MOST_SECONDS)
+    def _plan(self, name: str, at: float) -> None:
+        """Lets a node look at the clock then, if it does not sooner."""
+        if at < self._look_at.get(name, math.inf):
+            self._look_at[name] = at
+            heapq.heappush(self._looks, (at, name))
+
+    @staticmethod
+    def _next_look(node: Node, now: float) -> float:
+        """When a node looks at the clock next: it needs no more for its heartbeats, and a parent for its pause."""
+        serving = node.serving
+        if node.settings.sort == "device":
+            return now + min(max(TICK, serving.beating.silence.times.heartbeat / LOOKS), MOST_SECONDS)
+        asks_at = serving.asks_at
+        return now + TICK if serving.is_awaited else now + QUIET if asks_at is None else min(now + QUIET, max(asks_at, now))
 
     def _work(self, name: str) -> None:
         """Lets a node take all that has come. One that fails ends, and the others go on."""
@@ -146,6 +156,7 @@ class Site:
             return
         try:
             node.turn()
+            self._plan(name, self._next_look(node, time.monotonic()))
         except (LiveError, OSError) as error:
             self._log.of_node(name).error(f"it ends: {error}")
             del self.nodes[name]

@@ -2,6 +2,7 @@
 
 from __future__ import annotations
 
+import importlib.util
 import os
 import queue
 import resource
@@ -13,6 +14,7 @@ import pytest
 from brokers import SECONDS, Certificates, Mosquitto, Onlooker, free_port, passwords, require_broker, wait_until
 from logged import QUIET, log_to
 
+from cogmaula.live import connection
 from cogmaula.live.broker import Broker
 from cogmaula.live.broker_link import Confirmed, Message, Publication, Settled
 from cogmaula.live.connection import Waiting, words_of, words_of_end
@@ -436,3 +438,33 @@ def test_a_flood_takes_no_memory(tmp_path):
         assert one.broker.has_lost
         assert not one.broker.has_lost
         assert len([line for line in one.said if "it is no topic of a market, or too long for it" in line]) == 4
+
+
+TEXTS = [b"\0\0", b"\0\4time", b"\0\2\xc3\xbc", b"\0\3a\0b", b"\0\3\xef\xbb\xbf", b"\0\3\xed\xa0\x80", b"\0\2\xff\xff", b"\0\5time", b"\0", b"\0\1ab"]
+
+
+def test_texts_of_properties_are_read_as_paho_reads_them():
+    """Each text, cut off at each length, and the name of each property: the same answer or the same refusal."""
+    module = importlib.util.module_from_spec(importlib.util.find_spec("paho.mqtt.properties"))
+    module.__package__ = "paho.mqtt"
+    module.__spec__.loader.exec_module(module)
+    own, find = module.readUTF, module.Properties.getIdentFromName
+    connection.ease_properties(module)
+    assert module.readUTF is not own
+    again = module.readUTF
+    connection.ease_properties(module)
+    assert module.readUTF is again, "once is enough"
+
+    def told(read, data, most):
+        try:
+            return read(data, most)
+        except Exception as error:  # noqa: BLE001 - each refusal counts
+            return type(error), str(error)
+
+    for text in TEXTS:
+        for most in range(len(text) + 2):
+            for kind in (bytes, bytearray):
+                assert told(module.readUTF, kind(text), most) == told(own, kind(text), most), (text, most)
+    one = module.Properties(3)
+    for name in [*one.names, "UserProperty", "none"]:
+        assert one.getIdentFromName(name.replace(" ", "")) == find(one, name.replace(" ", ""))

@@ -49,6 +49,35 @@ def test_by_the_clock_whether_there_is_news_or_not():
     assert asking.is_due(60)
 
 
+@pytest.mark.parametrize("period", [None, 3])
+def test_when_to_ask_next_is_when_it_is_due(period):
+    """At each moment of a life by hand: nothing is due before, and just then it is."""
+    asking = Asking(period, 2.0)
+
+    def is_right(now):
+        at = asking.due_at()
+        assert asking.is_due(now) == (at is not None and now >= at)
+        if at is not None and at > now:
+            assert not asking.is_due(at - 0.01)
+            assert asking.is_due(at)
+        return at
+
+    assert is_right(0.0) == (None if period is None else 0.0)
+    asking.has_news()
+    assert is_right(0.0) == 0.0
+    asking.asked(10.0)
+    assert is_right(10.0) is None
+    asking.has_news()
+    assert is_right(11.0) is None, "what was asked is not answered"
+    asking.answered()
+    assert is_right(11.0) == (12.0 if period is None else 13.0)
+    asking.asked(13.0)
+    asking.answered()
+    assert is_right(14.0) == (None if period is None else 16.0)
+    asking.answered(again=True)
+    assert is_right(14.0) == 15.0
+
+
 @pytest.mark.parametrize("period", [None, 60])
 def test_what_was_refused_is_asked_again_after_the_pause(period):
     asking = Asking(period, 1.0)
@@ -60,6 +89,21 @@ def test_what_was_refused_is_asked_again_after_the_pause(period):
     asking.asked(11)
     asking.answered()
     assert not asking.is_due(12)
+
+
+def test_without_a_pause_news_is_asked_at_once_and_what_was_refused_soon():
+    """A relay that is not caught up would else be asked as fast as it answers."""
+    asking = Asking(None, 0.0)
+    for now in (1.0, 1.0, 1.5):
+        asking.has_news()
+        assert asking.is_due(now)
+        asking.asked(now)
+        assert not asking.is_due(now), "what was asked is not answered"
+        asking.answered()
+        assert not asking.is_due(now), "there is no news"
+    asking.answered(again=True)
+    asking.has_news()
+    assert (asking.is_due(1.505), asking.is_due(1.515)) == (False, True)
 
 
 def test_a_service_that_starts_anew_is_asked_again():

@@ -103,6 +103,7 @@ MISTAKES = [
     ("child = 257", "", "child is 257"),
     ('parent = "house"', "", "parent is the node itself"),
     ("offer_validity = 0", "", "offer_validity is 0: give 0.01 seconds or more"),
+    ("pause = -1", "", "pause is -1: give 0 seconds or more"),
     ('period = "day"', "", "node.period is 'day': give a number"),
     ("floor = 1", "", "floor and ceiling are 1 and 1000000000"),
     ("ceiling = -1", "", "floor and ceiling are"),

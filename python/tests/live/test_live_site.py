@@ -19,6 +19,7 @@ from cogmaula.deploy.toml_text import toml_text
 from cogmaula.live import BadSettings, site_life
 from cogmaula.live.broker_link import Message
 from cogmaula.live.metrics import metrics_bytes
+from cogmaula.live.node import Node
 from cogmaula.live.service import PolledService
 from cogmaula.live.site import Site
 from cogmaula.live.site_settings import site_settings_of
@@ -148,7 +149,7 @@ def test_a_site_and_nodes_of_their_own_are_one_market(broker, onlooker, live, tm
 
 
 # Times within which a test sees a device let go: the parent's, in seconds.
-TIMES = {"validity": 2, "heartbeat": 0.5, "grace": 2.5}
+TIMES = {"validity": 8, "heartbeat": 1, "grace": 10}
 BELOW = ("house", "store")
 
 
@@ -246,7 +247,21 @@ def test_a_site_that_is_killed_is_to_parents_and_page_as_nodes_of_their_own(sort
         finally:
             below.kill()
     lines = [line for line in market.said["street"] if "is let go" in line or "is back" in line]
-    assert sorted(line.split(",")[0] for line in lines) == ["child 1 is back", "child 1 is let go", "child 2 is back", "child 2 is let go"]
+    assert {line.split(",")[0] for line in lines} == {f"child {child} is {what}" for child in (1, 2) for what in ("let go", "back")}
+
+
+def test_a_market_at_rest_looks_at_the_clock_seldom(whole, monkeypatch):
+    """Four looks a second of a parent, and one of a device in five seconds: what is due by the clock is due within that."""
+    time.sleep(0.5)
+    looks, look = [], Node._look
+    monkeypatch.setattr(Node, "_look", lambda node: looks.append(node.settings.name) or look(node))
+    time.sleep(2)
+    counts = {name: looks.count(name) for name in whole.nodes}
+    assert all(counts[name] <= 12 for name in ("auctioneer", "street")), counts
+    assert all(counts[name] <= 3 for name in BELOW), counts
+    assert counts["street"] >= 2, "but it does look"
+    whole.offers(house=falls_at(8, 200, 100))
+    whole.settles_at(8, house=100, store=-150)
 
 
 def test_what_a_site_says_of_itself(whole, onlooker, broker):
