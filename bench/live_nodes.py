@@ -1,14 +1,15 @@
 #!/usr/bin/env python3
-"""Runs several nodes of a market in one process, a thread for each, each with a process of `live`. live_scale.py starts it.
+"""Runs several nodes of a market in one process: those of a site, each with a process of `live`. live_scale.py starts it.
 
     live_nodes.py
 
-The first line of standard input is JSON: a list of `{"sort", "node", "basis", "broker"}`, the tables as a file of settings has
-them. Standard output has `up` once each node has its service. Then each line `figures` is answered by JSON: how many bids the
-nodes have given to their services, and which nodes have ended, and why. The nodes end when standard input does.
+The first line of standard input is JSON: the name of the site, and its nodes as `{"sort", "node", "basis", "broker"}`, the tables that a
+file of settings has of each. Standard output has `up` once each node has its service. Then each line `figures` is answered by JSON: how
+many bids the nodes were told, and which nodes have ended, and why. The nodes end when standard input does.
 """
 
 import json
+import signal
 import sys
 import threading
 import time
@@ -17,25 +18,27 @@ from pathlib import Path
 sys.path.insert(0, str(Path(__file__).resolve().parent.parent / "python"))
 
 from cogmaula import logs  # noqa: E402
-from cogmaula.live import LiveError, make_node, settings_of  # noqa: E402
+from cogmaula.live import settings_of  # noqa: E402
 from cogmaula.live.letting import Letting  # noqa: E402
+from cogmaula.live.node_errors import LiveError  # noqa: E402
+from cogmaula.live.site import Site  # noqa: E402
+from cogmaula.live.site_settings import SiteSettings  # noqa: E402
 
 LAST_SECONDS = 20
 
 
 class Nodes:
-    """The nodes of the process, and what became of them."""
+    """The site, its nodes, and what became of them."""
 
-    def __init__(self, tables):
+    def __init__(self, name, tables):
         self.heard, self.ended = 0, {}
-        self._nodes = {table["node"]["name"]: make_node(settings_of(table["sort"], table)) for table in tables}
         self._count()
-        self._threads = [threading.Thread(target=self._run, args=pair, daemon=True) for pair in self._nodes.items()]
-        for thread in self._threads:
-            thread.start()
+        settings = tuple(settings_of(table["sort"], table) for table in tables)
+        self.site = Site(SiteSettings(name, settings[0].broker, settings))
+        self._nodes = dict(self.site.nodes)
 
     def _count(self):
-        """Counts the bids that services of the process are fed."""
+        """Counts the bids that the nodes of the process are told."""
         take = Letting.take_bid
 
         def counted(letting, child, message, now):
@@ -44,35 +47,41 @@ class Nodes:
 
         Letting.take_bid = counted
 
-    def _run(self, name, node):
-        try:
-            node.run()
-            self.ended[name] = "it was stopped"
-        except (LiveError, OSError) as error:
-            self.ended[name] = str(error)
-
     def are_up(self):
         """Whether each node has a service, or has ended."""
-        return all(node.serving.service is not None or name in self.ended for name, node in self._nodes.items())
+        return all(node.serving.service is not None or name not in self.site.nodes for name, node in self._nodes.items())
 
-    def stop(self):
-        """Ends all nodes."""
-        for node in self._nodes.values():
-            node.stop()
-        for thread in self._threads:
-            thread.join(LAST_SECONDS)
+    def figures(self):
+        """How many bids were heard, and who has ended."""
+        ended = {name: "the lines say why" for name in self._nodes if name not in self.site.nodes}
+        return {"heard": self.heard, "ended": ended | self.ended}
+
+    def answer(self):
+        """Answers standard input until it ends, and then ends the site."""
+        while not self.are_up():
+            time.sleep(0.1)
+        print("up", flush=True)
+        for line in sys.stdin:
+            if line.strip() == "figures":
+                print(json.dumps(self.figures()), flush=True)
+        self.site.stop()
+
+    def run(self):
+        """Runs the site in this thread, until standard input ends."""
+        threading.Thread(target=self.answer, daemon=True).start()
+        try:
+            self.site.run()
+        except LiveError as error:
+            self.ended["site"] = str(error)
+            time.sleep(LAST_SECONDS)
 
 
 def main():
-    logs.show("cogmaula node")
-    nodes = Nodes(json.loads(sys.stdin.readline()))
-    while not nodes.are_up():
-        time.sleep(0.1)
-    print("up", flush=True)
-    for line in sys.stdin:
-        if line.strip() == "figures":
-            print(json.dumps({"heard": nodes.heard, "ended": nodes.ended}), flush=True)
-    nodes.stop()
+    logs.show("cogmaula site")
+    told = json.loads(sys.stdin.readline())
+    nodes = Nodes(told["name"], told["nodes"])
+    signal.signal(signal.SIGTERM, lambda *_: nodes.site.stop())
+    nodes.run()
 
 
 if __name__ == "__main__":

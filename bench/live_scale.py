@@ -3,8 +3,8 @@
 
     live_scale.py [--relays 1 4 16] [--low 5] [--high 500] [--seconds 30] ..
 
-Broker, nodes and devices are in network namespaces of this machine, joined by a bridge. A node is what `cogmaula node` runs, with
-a process of `live` of its own; several share a process of Python, a thread each. Devices are simulated, thousands in a process.
+Broker, nodes and devices are in network namespaces of this machine, joined by a bridge. Nodes are those of `cogmaula site`, many in a
+process of Python and over one connection, each with a process of `live` of its own. Devices are simulated, thousands in a process.
 It prints, at a low and at a high rate of bids: bids, clearings and prices a second, the time from a device's bid to its
 setpoint, messages at the broker, and the processors that each part took. Then it prints the memory of each part.
 
@@ -132,9 +132,10 @@ class Market:
         settings = [make("relay", name, "auctioneer", child) for child, name in enumerate(above, 1)]
         settings += [make("relay", name, name.split("-")[0], int(name.split("-")[1])) for name in self.lowest]
         told = [] if arguments.broker_alone else [[make("auctioneer", "auctioneer")], *pieces(settings, arguments.nodes)]
-        self.nodes = [self._started(f"nodes{number}", ["live_nodes.py"]) for number in range(len(told))]
-        for part, tables in zip(self.nodes, told, strict=True):
-            part.tell(json.dumps(tables))
+        profiles = [["-m", "cProfile", "-o", f"{arguments.profile}.{number}"] if arguments.profile else [] for number in range(len(told))]
+        self.nodes = [self._started(f"nodes{number}", ["live_nodes.py"], profile) for number, profile in enumerate(profiles)]
+        for number, (part, tables) in enumerate(zip(self.nodes, told, strict=True)):
+            part.tell(json.dumps({"name": f"site{number}", "nodes": tables}))
         for node in self.nodes:
             node.answer()
         batches = pieces(self.lowest, max(1, arguments.devices // CHILDREN))
@@ -144,9 +145,9 @@ class Market:
             for number, them in enumerate(batches)
         ]
 
-    def _started(self, name, words):
+    def _started(self, name, words, options=()):
         self._network.add(name)
-        return Part(self._network, name, [sys.executable, "-B", str(HERE / words[0]), *words[1:]], self._log)
+        return Part(self._network, name, [sys.executable, "-B", *options, str(HERE / words[0]), *words[1:]], self._log)
 
     def parts(self):
         """The numbers of the processes by part."""
@@ -304,7 +305,8 @@ def words():
     parser.add_argument("--seconds", type=float, default=30, help="how long each phase takes")
     parser.add_argument("--pause", type=float, default=1.0, help="the pause of each node in seconds")
     parser.add_argument("--rest", type=float, default=REST, help="the seconds within which the market has to come to rest")
-    parser.add_argument("--nodes", type=int, default=16, help="the most nodes in a process of Python")
+    parser.add_argument("--nodes", type=int, default=69, help="the most nodes in a process of Python")
+    parser.add_argument("--profile", help="the first part of the names of files with the profile of each process of nodes, which is slow then")
     parser.add_argument("--devices", type=int, default=8_192, help="the most devices in a process")
     parser.add_argument("--folder", default="/dev/shm", help="where the nodes keep their Resumes; /dev/shm is memory")
     parser.add_argument("--live", default=os.environ.get("COGMAULA_LIVE", "live"), help="the program live")

@@ -28,11 +28,14 @@ from pathlib import Path
 
 from .found import Failed, Found, need, require, steps_of, wait_for
 from .machine import CGROUPS, make_root
+from .site import NODES as NODES_OF_SITE
+from .site import POWER, SITE, TEXT, is_up
 
 TOP = Path(__file__).resolve().parent.parent
 BASE = "docker.io/library/debian:bookworm-slim"
-NODES = ["auctioneer", "street", "house", "store"]
-PARTS = ["broker.example", *NODES, "history"]
+ALONE = ["auctioneer", "street", "house", "store"]
+NODES = [*ALONE, *NODES_OF_SITE]
+PARTS = ["broker.example", *ALONE, SITE, "history"]
 PATIENCE = 90
 # What the official image has beyond debootstrap: no package's pages are kept, and no downloaded package.
 SLIM = {
@@ -48,7 +51,9 @@ class Containers:
 
     def __init__(self, folder, package):
         self.folder, self._serial = Path(folder) / "market", 0
-        words = [sys.executable, "-B", "-m", "cogmaula", "market", "init", TOP / "examples/live/TREE.toml", "--out", self.folder]
+        tree = self.folder.with_name("TREE.toml")
+        tree.write_text((TOP / "examples/live/TREE.toml").read_text() + TEXT)
+        words = [sys.executable, "-B", "-m", "cogmaula", "market", "init", tree, "--out", self.folder]
         subprocess.run(words, env={**os.environ, "PYTHONPATH": str(TOP / "python")}, check=True, stdout=subprocess.DEVNULL)
         shutil.copy(package, self.folder / "market.deb")
         self.steps = steps_of((TOP / "docs/OPERATE.md").read_text(), "Run it in containers")
@@ -101,12 +106,12 @@ class Containers:
         """Starts the market by the word of the page, and waits until all are up."""
         began = time.monotonic()
         self.run(self.steps[2])
-        wait_for(self.all_are_up, PATIENCE, "not all are up")
+        self.wait_for_all()
         return f"all states are up {time.monotonic() - began:.1f} s after the command"
 
     def told(self):
-        """The newest state and setpoint of each node, by topic."""
-        words = self.steps[4].replace("-v ", "-v --retained-only -W 2 ")
+        """The newest state and setpoint of each node, and the state of the site, by topic."""
+        words = self.steps[4].replace("-v ", "-v --retained-only -W 2 -t 'market/+/site' ")
         found = {}
         for line in self.run(words, False).splitlines():
             topic, _, text = line.partition(" ")
@@ -114,20 +119,32 @@ class Containers:
                 found[topic.removeprefix("market/")] = json.loads(text)
         return found
 
-    def all_are_up(self):
-        """Whether all nodes say that they are up."""
+    def wait_for_all(self):
+        """Waits until all nodes say that they are up. Who does not is told with the last lines of all containers."""
+        try:
+            wait_for(lambda: not self._lacking(), PATIENCE, "not all are up")
+        except Failed as error:
+            lines = self.run("podman-compose logs 2>&1 | tail -40", False)
+            raise Failed(f"{error}: {', '.join(self._lacking())}\n{lines}") from None
+
+    def _lacking(self):
+        """The nodes that do not say that they are up."""
         told = self.told()
-        return all(told.get(f"{name}/state", {}).get("state") == "up" for name in NODES)
+        return [name for name in NODES if not is_up(told.get(f"{name}/state", {}), told.get(f"{SITE}/site", {}))]
 
     def offer(self):
         """Lets the store offer another power by the word of the page, and waits until it is told that."""
         self._serial += 1
-        power = -150 - self._serial
+        power = -150 - len(NODES_OF_SITE) * POWER - self._serial
         began = time.monotonic()
         self.run(self.steps[3].replace("-150", str(power)))
-        house = self.steps[3].replace("store.control", "house.control").replace("store/", "house/")
-        self.run(re.sub(r"\[.*?\]", str([100] * 10), house).replace('"power"', f'"reference": {self._serial}, "power"'))
+        for name, watts in {"house": 100, **dict.fromkeys(NODES_OF_SITE, POWER)}.items():
+            words = self.steps[3].replace("store.control", f"{name}.control").replace("store/", f"{name}/")
+            self.run(re.sub(r"\[.*?\]", str([watts] * 10), words).replace('"power"', f'"reference": {self._serial}, "power"'))
         told = wait_for(lambda: self._setpoint(power), PATIENCE, f"the store is not told {power} W")
+        for name in NODES_OF_SITE:
+            has_heard = lambda name=name: self.told().get(f"{name}/setpoint", {}).get("reference") == self._serial  # noqa: E731
+            wait_for(has_heard, PATIENCE, f"{name} is not told its setpoint")
         return f"told {json.dumps(told)} after {time.monotonic() - began:.1f} s"
 
     def _setpoint(self, power):
@@ -149,7 +166,7 @@ class Containers:
         os.kill(old, signal.SIGKILL)
         wait_for(lambda: self.process(part) not in (0, old), PATIENCE, "it is not started again")
         took = time.monotonic() - began
-        wait_for(self.all_are_up, PATIENCE, "not all are up")
+        self.wait_for_all()
         return f"started again after {took:.1f} s; the store is {self.offer()}"
 
     def goes_on(self):
@@ -157,7 +174,7 @@ class Containers:
         before = self.told()["store/setpoint"]
         self.run("podman-compose down")
         self.run(self.steps[2])
-        wait_for(self.all_are_up, PATIENCE, "not all are up")
+        self.wait_for_all()
         told = self.offer()
         after = self.told()["store/setpoint"]
         was, now = ([setpoint["clearing"], setpoint["bid"]] for setpoint in (before, after))
@@ -191,7 +208,7 @@ class Containers:
     def end(self):
         """Removes all containers, volumes, images and networks of the trial."""
         self.run("podman-compose down --volumes; podman rm -fa -t 1; podman rmi -fa", False)
-        self.run("podman network rm -f market-trial_default", False)
+        self.run("podman network rm -f market_default", False)
 
 
 def try_containers(found, containers):

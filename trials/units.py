@@ -5,7 +5,7 @@
 
 PACKAGE is what `make deb` makes. The machine is a Debian 12 in a temporary folder, booted by systemd-nspawn, and removed in
 the end. With --root its files are copied from that folder, which is made first if it is missing, and kept. All nodes of the
-example are on this one machine.
+example are on this one machine, and a site of two further devices.
 
 Each line is what was tried, and what was seen. The settings that pages print are tried under the units, and the hub with umask
 077. The status is 1 if something failed. It needs root, debootstrap and systemd-container, and takes about five minutes.
@@ -26,11 +26,15 @@ from pathlib import Path
 
 from .found import Failed, Found, block_of, need, require, steps_of, wait_for, with_settings
 from .machine import Machine, make_root
+from .site import NODES as NODES_OF_SITE
+from .site import POWER, SITE, TEXT, is_up
 
 PACKAGES = ["systemd-sysv", "dbus", "python3", "python3-paho-mqtt", "python3-websockets"]
 PACKAGES += ["mosquitto", "mosquitto-clients", "openssl", "socat", "postgresql", "python3-psycopg", "libnss-systemd"]
 DOCS = "/usr/share/doc/market"
 NODES = {"auctioneer": "auctioneer", "street": "relay", "house": "device", "store": "device"}
+# What has a unit, by the page's way to make it.
+WITH_UNIT = [*NODES, SITE]
 # Where a Resume has the index of the newest clearing.
 INDEX = {"auctioneer": 1, "relay": 9, "device": 5}
 PATIENCE = 60
@@ -52,14 +56,15 @@ class Market:
         self.machine, self.heard, self._serial = machine, {}, 0
 
     def set_up(self):
-        """Does what the page says. All four nodes are on this machine."""
+        """Does what the page says. All nodes are on this machine."""
         steps = steps_of(self.machine.run(f"cat {DOCS}/OPERATE.md").stdout, "Deploy it on three machines")
         self.run(f"cp {DOCS}/examples/live/* .")
         # The packages are there.
         self.run("sed -i 's/^.auctioneer.$/&\\npage = \"127.0.0.1:8080\"/' TREE.toml")
-        self.run(f"cat >>TREE.toml <<'end'{SERVED_LOGIN}end")
+        self.run(f"cat >>TREE.toml <<'end'{SERVED_LOGIN}{TEXT}end")
         self.run(steps[2])
-        for name in ("broker", *NODES, "operator", "house.control", "store.control", "history"):
+        controls = [f"{name}.control" for name in ("house", "store", *NODES_OF_SITE)]
+        for name in ("broker", *WITH_UNIT, "operator", *controls, "history"):
             self.run(f"cd market; {steps[3].replace('street', name)}")
         self._steps = steps
         self.listen()
@@ -96,39 +101,49 @@ class Market:
         """The newest JSON of a topic, {} without one."""
         return json.loads(self.heard.get(f"market/{topic}") or b"{}")
 
+    def state(self, name):
+        """What a node or the site says of itself."""
+        return self.told(f"{name}/site" if name == SITE else f"{name}/state")
+
     def is_up(self, name, other=""):
-        """Whether a node is up, in another process than that of the run."""
-        told = self.told(f"{name}/state")
-        return told.get("state") == "up" and told["run"] != other
+        """Whether a node is up, or the site with all of its nodes, in another process than that of the run."""
+        told, site = self.state(name), self.state(SITE)
+        if name == SITE and not all(is_up(self.state(node), site) for node in NODES_OF_SITE):
+            return False
+        return is_up(told, site) and told["run"] != other
 
     def all_are_up(self):
         """Waits until all are up."""
-        for name in NODES:
+        for name in WITH_UNIT:
             wait_for(lambda unit=name: self.is_up(unit), PATIENCE, f"{name} is not up")
 
     def index(self, name):
-        """The index of the newest clearing that a node's Resume has."""
-        at = INDEX[NODES[name]]
+        """The index of the newest clearing that a node's Resume has; of the site, that of its first node."""
+        name = next(iter(NODES_OF_SITE)) if name == SITE else name
+        at = INDEX[{**NODES, **NODES_OF_SITE}[name]]
         return int.from_bytes(self.heard.get(f"market/{name}/resume", b"")[at : at + 4], "big")
 
     def offer(self):
         """Lets the store offer another power, and waits until it is told that. Gives the setpoint."""
         self._serial += 1
-        power = -100 - self._serial
-        house = self.told("house/setpoint").get("clearing", 0)
-        for user, topic, demands in (("house.control", "house", [100] * 10), ("store.control", "store", [0] * 4 + [power] * 6)):
+        power = -100 - len(NODES_OF_SITE) * POWER - self._serial
+        others = {"house": 100, **dict.fromkeys(NODES_OF_SITE, POWER)}
+        before = {name: self.told(f"{name}/setpoint").get("clearing", 0) for name in others}
+        for name, demands in {**{name: [watts] * 10 for name, watts in others.items()}, "store": [0] * 4 + [power] * 6}.items():
             text = json.dumps({"power": demands, "reference": self._serial})
-            self.run(f"{LOGIN.format(user)} mosquitto_pub -r -t market/{topic}/offer -m '{text}'")
+            self.run(f"{LOGIN.format(f'{name}.control')} mosquitto_pub -r -t market/{name}/offer -m '{text}'")
         wait_for(lambda: self.told("store/setpoint").get("power") == power, PATIENCE, f"the store is not told {power} W")
         told = self.told("store/setpoint")
-        wait_for(lambda: self.told("house/setpoint").get("clearing", 0) > house, PATIENCE, "the house is told nothing")
+        for name, clearing in before.items():
+            heard = lambda name=name, clearing=clearing: self.told(f"{name}/setpoint").get("clearing", 0) > clearing  # noqa: E731
+            wait_for(heard, PATIENCE, f"{name} is told nothing")
         require(told["step"] == 4, f"the clearing is not at step 4: {told}")
         return told
 
 
 def unit_of(name):
-    """The unit of a node or of the hub."""
-    return "market-hub" if name == "hub" else f"market-node-{name}"
+    """The unit of a node, of the site or of the hub."""
+    return {"hub": "market-hub", SITE: f"market-site-{SITE}"}.get(name, f"market-node-{name}")
 
 
 class Units:
@@ -145,9 +160,9 @@ class Units:
         """A property of a unit."""
         return self.do(f"show -P {what}", name)
 
-    def service_of(self, name):
-        """The number of the process of live, below that of the unit."""
-        return self._machine.run(f"cat /proc/{self.show(name, 'MainPID')}/task/*/children", False).stdout.partition(" ")[0]
+    def services_of(self, name):
+        """The numbers of the processes of live, below that of the unit."""
+        return self._machine.run(f"cat /proc/{self.show(name, 'MainPID')}/task/*/children", False).stdout.split()
 
     def journal(self, name):
         """The lines of a unit in the journal."""
@@ -162,9 +177,10 @@ class Units:
 
 def killed(market, units, name):
     """Kills all of a unit."""
-    run, index, restarts = market.told(f"{name}/state")["run"], market.index(name), int(units.show(name, "NRestarts"))
+    run, index, restarts = market.state(name)["run"], market.index(name), int(units.show(name, "NRestarts"))
     began = time.monotonic()
     units.do("kill -s KILL", name)
+    wait_for(lambda: not market.is_up(name), 2, "its last will does not say down")
     wait_for(lambda: market.is_up(name, run), PATIENCE, "it is not up again")
     took = time.monotonic() - began
     require(int(units.show(name, "NRestarts")) == restarts + 1, "systemd did not start it once")
@@ -172,11 +188,16 @@ def killed(market, units, name):
 
 
 def service_killed(market, units, name):
-    """Kills the service of a node alone."""
-    main, old, index = units.show(name, "MainPID"), units.service_of(name), market.index(name)
+    """Kills the service of a node alone, or of the first node of the site."""
+    main, before, index = units.show(name, "MainPID"), units.services_of(name), market.index(name)
     began = time.monotonic()
-    market.machine.run(f"kill -9 {old}")
-    wait_for(lambda: units.service_of(name) not in ("", old) and market.is_up(name), PATIENCE, "it is not up again")
+    market.machine.run(f"kill -9 {before[0]}")
+
+    def is_back():
+        now = units.services_of(name)
+        return before[0] not in now and len(now) == len(before) and market.is_up(name)
+
+    wait_for(is_back, PATIENCE, "it is not up again")
     took = time.monotonic() - began
     require(units.show(name, "MainPID") == main, "the node was started anew too")
     require("a signal ended it" in units.journal(name), "the journal has no line")
@@ -193,12 +214,12 @@ def goes_on(market, name, index):
 
 def stopped(market, units, name):
     """Stops a node, and starts it again."""
-    run, index = market.told(f"{name}/state")["run"], market.index(name)
+    run, index = market.state(name)["run"], market.index(name)
     began = time.monotonic()
     units.do("stop", name)
     took = time.monotonic() - began
-    wait_for(lambda: market.told(f"{name}/state")["state"] == "down", 1, "the broker does not say down")
-    told = market.told(f"{name}/state")
+    wait_for(lambda: market.state(name)["state"] == "down", 1, "the broker does not say down")
+    told = market.state(name)
     require(told["why"] == "stopped" and units.show(name, "Result") == "success", f"{told['why']}, {units.show(name, 'Result')}")
     began = time.monotonic()
     units.do("start", name)
@@ -210,7 +231,7 @@ def stopped(market, units, name):
 
 def stands_still(market, units, name):
     """Lets all of a node's process stand still, as a fault of its loop would, until systemd starts it anew."""
-    run, index, restarts = market.told(f"{name}/state")["run"], market.index(name), int(units.show(name, "NRestarts"))
+    run, index, restarts = market.state(name)["run"], market.index(name), int(units.show(name, "NRestarts"))
     began = time.monotonic()
     units.do("kill -s STOP", name)
     wait_for(lambda: int(units.show(name, "NRestarts")) > restarts, 120, "systemd does not start it anew")
@@ -296,7 +317,7 @@ def verified(machine, *units):
 
 def booted_again(market, units):
     """Stops the machine, and boots it again."""
-    session, before = market.told("basis")["session"], {name: market.index(name) for name in NODES}
+    session, before = market.told("basis")["session"], {name: market.index(name) for name in WITH_UNIT}
     began = time.monotonic()
     market.machine.stop()
     market.machine.boot()
@@ -304,9 +325,9 @@ def booted_again(market, units):
     market.all_are_up()
     took = time.monotonic() - began
     require(market.told("basis")["session"] == session, "another session has begun")
-    fallen = [name for name in NODES if market.index(name) < before[name]]
+    fallen = [name for name in WITH_UNIT if market.index(name) < before[name]]
     require(not fallen, f"the index fell at {fallen}")
-    lines = [line for name in NODES for line in units.journal(name).splitlines() if "is newer than the one on disk" in line]
+    lines = [line for name in WITH_UNIT for line in units.journal(name).splitlines() if "is newer than the one on disk" in line]
     require(not lines, f"a Resume on disk was lost: {lines}")
     return f"all are up {took:.1f} s after the order, in the same session; the next clearing is {market.offer()['clearing']}"
 
@@ -415,17 +436,21 @@ def exposure(machine, name):
 
 
 def hides(machine, units):
-    """That a node sees neither the password nor the folder of another of the same machine."""
-    main = units.show("house", "MainPID")
-    seen = machine.run(f"nsenter --target {main} --mount ls /var/lib/private/market /run/credentials").stdout
-    users = {name: machine.run(f"stat -c %u /proc/{units.show(name, 'MainPID')}").stdout.strip() for name in NODES}
-    require("house" in seen and "store" not in seen, f"it sees {seen.split()}")
-    require("0" not in users.values(), f"it runs as root: {users}")
-    return f"house sees {', '.join(sorted(word for word in seen.split() if ':' not in word))}; users are {users}"
+    """That a node and a site see neither the password nor the folder of another of the same machine."""
+    users = {name: machine.run(f"stat -c %u /proc/{units.show(name, 'MainPID')}").stdout.strip() for name in WITH_UNIT}
+    words = []
+    for name in ("house", SITE):
+        main = units.show(name, "MainPID")
+        seen = machine.run(f"nsenter --target {main} --mount ls /var/lib/private/market /run/credentials").stdout
+        others = [other for other in WITH_UNIT if other != name and other in seen]
+        require(name in seen and not others, f"{name} sees {seen.split()}")
+        words.append(f"{name} sees {', '.join(sorted(word for word in seen.split() if ':' not in word))}")
+    require("0" not in users.values() and len(set(users.values())) == len(users), f"one runs as root or as another: {users}")
+    return f"{'; '.join(words)}; users are {users}"
 
 
 def try_nodes(found, machine):
-    """The units of nodes."""
+    """The units of nodes, and of a site of two."""
     market, units = Market(machine), Units(machine)
     found.part("the market, by the words of OPERATE.md", market.set_up)
     found.part("offers", lambda: f"told {json.dumps(market.offer())}")
@@ -433,25 +458,27 @@ def try_nodes(found, machine):
     found.part("the unit of a history in PostgreSQL", lambda: served_begins(market))
     found.part("the history and its server are killed", lambda: served_goes_on(market))
     found.part("a node does not see what is another's", lambda: hides(machine, units))
-    for name in NODES:
+    for name in WITH_UNIT:
         found.part(f"{unit_of(name)} is killed", lambda unit=name: killed(market, units, unit))
-    for name in NODES:
+    for name in WITH_UNIT:
         found.part(f"the service of {name} is killed", lambda unit=name: service_killed(market, units, unit))
-    for name in NODES:
+    for name in WITH_UNIT:
         found.part(f"{unit_of(name)} is stopped and started", lambda unit=name: stopped(market, units, unit))
     found.part("a recording by the words of JUDGE.md", lambda: recording_on(market, units))
     found.part("a page by the words of OPERATE.md", lambda: page_on(market, units))
-    found.part("systemd-analyze verify", lambda: verified(machine, *map(unit_of, NODES)))
-    found.part("market-node-street stands still", lambda: stands_still(market, units, "street"))
-    found.part("a wrong password", lambda: password_wrong(market, units, "house"))
-    found.part("status 2 is for good", lambda: refused(market, units, "house", "s/^child.*/child = 0/", 2))
+    found.part("systemd-analyze verify", lambda: verified(machine, *map(unit_of, WITH_UNIT)))
+    for name in ("street", SITE):
+        found.part(f"{unit_of(name)} stands still", lambda unit=name: stands_still(market, units, unit))
+    for name in ("house", SITE):
+        found.part(f"a wrong password of {name}", lambda unit=name: password_wrong(market, units, unit))
+        found.part(f"status 2 of {name} is for good", lambda unit=name: refused(market, units, unit, "s/^child.*/child = 0/", 2))
     found.part("status 5 is for good", lambda: refused(market, units, "house", "s/^max.*/max = 18/", 5))
-    for name in ("auctioneer", "street", "house"):
+    for name in ("auctioneer", "street", "house", SITE):
         found.part(f"limits of {unit_of(name)}", lambda unit=name: limits(units, unit))
         found.part(f"exposure of {unit_of(name)}", lambda unit=name: exposure(machine, unit))
     found.part("the machine is stopped and booted", lambda: booted_again(market, units))
     found.part("the history in PostgreSQL after the boot", lambda: served_boots(market))
-    for name in NODES:
+    for name in WITH_UNIT:
         units.do("disable --now", name)
 
 
