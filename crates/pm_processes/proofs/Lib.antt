@@ -6,4 +6,5 @@ pub mod RootRuns
 pub mod DeviceRuns
 mod Following
 mod Handled
+mod Worked
 mod Standing

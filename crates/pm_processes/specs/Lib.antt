@@ -5,3 +5,4 @@ pub mod DeviceProcess
 pub mod HandedOn
 pub mod History
 pub mod Kept
+pub mod Worked

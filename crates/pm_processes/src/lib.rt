@@ -6,7 +6,7 @@
 //!
 //! The definitions stand in `specs/`: `Processes` (a process by its bytes), `RelayProcess`, `RootProcess` and `DeviceProcess` (the
 //! same frame by frame), `HandedOn` (frames that are handed on unchanged, by their bytes), `History` (processes of all nodes, and
-//! what the carriers promise), `Kept` (what holds then).
+//! what the carriers promise), `Kept` (what holds then), `Worked` (a worked history).
 #![tactic(auto)]
 
 ghost use Rattle.std.specs.Prelude.{◌≡◌, ◌⊎◌, ℕ, List};
@@ -24,6 +24,9 @@ ghost use Rattle.pm_processes.specs.RootProcess.{RootProcess};
 ghost use Rattle.pm_processes.specs.DeviceProcess.{DeviceProcess};
 ghost use Rattle.pm_processes.specs.History.{Scene, RelayProcessGoesOn, RootProcessGoesOn, DeviceProcessGoesOn, HandlesNothing};
 ghost use Rattle.pm_processes.specs.Kept.{HistoriesKeepTheLaw};
+ghost use Rattle.pm_processes.specs.Worked.{small_scene, HistoryGoesOn};
+ghost use Rattle.pm_relay.specs.Relays.{RelayValue};
+ghost use Rattle.pm_relay.specs.Roots.{RootValue};
 
 use pm_lives::{lists_are_there, lives_keep_the_law, settled_lives_are_current};
 
@@ -63,4 +66,11 @@ pub fn what_is_handled_was_written()
     ensures device { (lists : Lists) (p : Pricing) (numbering : Numbering) (old new : Scene)
         (d : ℕ) → old.left d ≡ 0 → DeviceProcessGoesOn lists p numbering old d new →
         HandlesNothing old new }
+{}
+
+/// A law: there are such histories. In a worked one, by its bytes, a device offers, and its process is killed within the bid. The
+/// next process begins with the stored Resume and sends the bid.
+pub fn a_cut_process_goes_on()
+    ensures { (root : RootValue) (relays : ℕ → RelayValue) →
+        HistoryGoesOn (small_scene root relays) }
 {}

@@ -1,0 +1,180 @@
+-- The worked history, event by event.
+use Rattle.std.proofs.Common.{◌≡◌, ℕ, ℤ, pos, negsuc, ◌+◌, ◌-◌, List, [], ◌∷◌, ◌++◌, length, take, true, false}
+use Rattle.std.proofs.Common.{Option, Some, None, refl, inl, inr, arith}
+use Rattle.std.proofs.lemmas.Int.{ints}
+use Rattle.std.specs.Prelude.{FitsSigned}
+use Rattle.std.specs.Int.{w32}
+use Rattle.std.specs.List.{AllByRecursion}
+use Rattle.pm_bid.specs.Taken.{said_between}
+use Rattle.pm_market.specs.Lists.{parent, is_leaf, is_member, changes}
+use Rattle.pm_market.specs.State.{update}
+use Rattle.pm_net.specs.Agents.{DeviceAgent}
+use Rattle.pm_net_plan.specs.Places.{children_to, place_in}
+use Rattle.pm_control.specs.Control.{agent_stored}
+use Rattle.pm_relay.specs.Relays.{RelayValue}
+use Rattle.pm_relay.specs.Roots.{RootValue}
+use Rattle.pm_frames.specs.declared.stored.StoredAgent.{StoredAgent}
+use Rattle.pm_frames.specs.declared.device.DeviceFrame.TheVariants.{Offer}
+use Rattle.pm_frames.specs.declared.form.OfferForm.TheVariants.{Array}
+use Rattle.pm_system.specs.System.{with_agent}
+use Rattle.pm_system.specs.Given.{IsDemand}
+use Rattle.pm_system.specs.Worked.{small_tree, small_places, small_pricing}
+use Rattle.pm_lives.specs.DeviceWrites.{device_outs, agent_after, stored_agent}
+use Rattle.pm_lives.specs.Lives.{handed_out, stored_last, restart_outs, no_agent_stored}
+use Rattle.pm_lives.specs.WorkedLives.{small_basis}
+use Rattle.pm_processes.specs.DeviceProcess.{DeviceProcess, DeviceExchange}
+use Rattle.pm_processes.specs.History.{Scene, DeviceBegins, DeviceGoesOn, Happens1}
+use Rattle.pm_processes.specs.Worked.{took_first, wrote_first, took_second, wrote_second, bid_begun, bid_rest, small_scene, HistoryGoesOn}
+use Rattle.pm_processes.proofs.Offers.{is_demand}
+
+abbrev demand : List ℤ
+demand = pos 6 ∷ pos 4 ∷ negsuc 1 ∷ []
+
+demand_is : IsDemand 3 demand
+demand_is = is_demand 3 demand refl refl
+
+demand_fits : AllByRecursion (λ (z : ℤ). FitsSigned w32 z) demand
+demand_fits = (omega (arith, ints), (omega (arith, ints), (omega (arith, ints), tt)))
+
+abbrev agent_first : DeviceAgent
+agent_first = agent_stored 0 None 0
+
+abbrev agent_then : DeviceAgent
+agent_then = agent_after agent_first (Offer Array demand)
+
+abbrev stored : StoredAgent
+stored = stored_agent small_basis agent_then
+
+abbrev answer : DeviceExchange
+answer = record { frame = Offer Array demand; after = agent_then; outs = device_outs small_pricing small_basis agent_first (Offer Array demand) }
+
+process_first : DeviceProcess small_pricing 1 took_first wrote_first
+process_first = record {
+  basis = small_basis;
+  resume = None;
+  exchanges = answer ∷ [];
+  rest = [];
+  newest = tt;
+  begins = record {
+    stand = (
+      record { formed = (omega (arith, ints), omega (arith, ints), omega arith); accepted = refl },
+      (record { formed = (tt, (refl, demand_fits)); accepted = (tt, refl) }, tt),
+    );
+    spelled = refl;
+  };
+  answers = (inl (demand_is, tt, refl, refl), tt);
+  written = record {
+    many = 36;
+    cut = record { n = 1; rest = bid_begun; held = refl; part = inr (omega arith, (bid_rest, refl)) };
+    beyond = [];
+    wrote_is = refl;
+    at_end = inl refl;
+  };
+}
+
+process_second : DeviceProcess small_pricing 1 took_second wrote_second
+process_second = record {
+  basis = small_basis;
+  resume = Some stored;
+  exchanges = [];
+  rest = [];
+  newest = demand_is;
+  begins = record {
+    stand = (
+      record { formed = (omega (arith, ints), omega (arith, ints), omega arith); accepted = refl },
+      (
+        record {
+          formed = (tt, (omega arith, omega arith, (omega (arith, ints), omega (arith, ints), omega arith), (refl, demand_fits)));
+          accepted = (refl, refl, (omega arith, refl));
+        },
+        tt,
+      ),
+    );
+    spelled = refl;
+  };
+  answers = tt;
+  written = record {
+    many = 19;
+    cut = record { n = 1; rest = []; held = refl; part = inl refl };
+    beyond = [];
+    wrote_is = refl;
+    at_end = inl refl;
+  };
+}
+
+module _ (root : RootValue) (relays : ℕ → RelayValue) where
+  abbrev scene_0 : Scene
+  scene_0 = small_scene root relays
+
+  abbrev begun : Scene → StoredAgent → List DeviceExchange → ℕ → Scene
+  begun old kept next n = record old {
+    world = record old.world {
+      seen = handed_out small_tree small_places (with_agent old.world.seen 2 (agent_stored kept.number kept.newest kept.index)) 2
+          (take n (restart_outs small_pricing kept));
+      up = update old.world.up 2 true;
+    };
+    device_next = update old.device_next 2 next;
+    left = update old.left 2 (n - length (restart_outs small_pricing kept));
+  }
+
+  abbrev scene_1 : Scene
+  scene_1 = begun scene_0 (no_agent_stored small_basis) (answer ∷ []) 1
+
+  abbrev scene_2 : Scene
+  scene_2 = record scene_1 {
+    world = record scene_1.world {
+      seen = handed_out small_tree small_places (with_agent scene_1.world.seen 2 answer.after) 2 (take 1 answer.outs);
+      agent_kept = update scene_1.world.agent_kept 2 (stored_last (scene_1.world.agent_kept 2) (take 1 answer.outs));
+    };
+    device_next = update scene_1.device_next 2 [];
+    left = update scene_1.left 2 (scene_1.left 2 - length answer.outs);
+  }
+
+  abbrev scene_3 : Scene
+  scene_3 = begun scene_2 (scene_2.world.agent_kept 2) [] 1
+
+  happens_1 : Happens1 small_tree small_pricing small_places scene_0 (DeviceBegins 2 took_first wrote_first) scene_1
+  unfolding parent is_leaf is_member changes update place_in children_to said_between process_first
+  happens_1 = record { leaf = refl; process = process_first; promised = record { stored_last = refl; same_hello = refl }; new_is = refl }
+
+  happens_2 : Happens1 small_tree small_pricing small_places scene_1 (DeviceGoesOn 2) scene_2
+  unfolding parent is_leaf is_member changes update place_in children_to said_between
+  happens_2 = record {
+    leaf = refl;
+    runs = refl;
+    exchange = answer;
+    exchanges = [];
+    next = refl;
+    handled = 1;
+    was_written = omega arith;
+    promised = record { handed_on = tt; in_order = inl (omega arith) };
+    new_is = refl;
+  }
+
+  happens_3 : Happens1 small_tree small_pricing small_places scene_2 (DeviceBegins 2 took_second wrote_second) scene_3
+  unfolding parent is_leaf is_member changes update place_in children_to said_between process_second
+  happens_3 = record { leaf = refl; process = process_second; promised = record { stored_last = refl; same_hello = refl }; new_is = refl }
+
+  -- the bytes are those of such a history
+  pub goes_on : HistoryGoesOn (small_scene root relays)
+  unfolding parent is_leaf is_member changes update place_in children_to said_between
+  goes_on = record {
+    none = record {
+      new_world = record {
+        up = λ y. refl;
+        limits = λ c limits is. Rattle.std.proofs.Common.ap (λ (o : Option Rattle.pm_base.specs.declared.limits.Limits.Limits).
+            Rattle.std.specs.Prelude.unwrap_or o Rattle.pm_system.specs.Worked.small_limits) is;
+        relay_kept = λ c. refl;
+        root_kept = refl;
+        agent_kept = λ d. refl;
+        bids_sent = λ x. refl;
+        prices_sent = λ x. refl;
+        setpoints = λ d. refl;
+        let_go = λ d. refl;
+      };
+      steps = refl;
+    };
+    last = scene_3;
+    happen = (scene_1, happens_1, (scene_2, happens_2, (scene_3, happens_3, refl)));
+    bid = refl;
+  }
