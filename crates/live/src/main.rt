@@ -4,7 +4,7 @@
 //! the code of its ending. It prints nothing itself.
 #![tactic(auto)]
 
-use pm_io::{ArgumentsFault, StdSink, StdSource, arguments_of};
+use pm_io::{ArgumentsFault, StdSink, StdSource, SystemMemory, arguments_of};
 use pm_live::live;
 use std::process::ExitCode;
 
@@ -19,7 +19,9 @@ fn main(rt: HostRuntime) -> ExitCode {
         Ok(arguments) => {
             let mut source = StdSource::new(rt.stdin());
             let mut sink = StdSink::new(rt.stdout());
-            ExitCode::from(live(rt.alloc(), &arguments, &mut source, &mut sink).code())
+            let mut memory = SystemMemory::new(rt.alloc());
+            let ending = live(rt.alloc(), &mut memory, &arguments, &mut source, &mut sink);
+            ExitCode::from(ending.code())
         }
         Err(ArgumentsFault::NoMemory) => ExitCode::from(NO_MEMORY),
         Err(ArgumentsFault::Refused) => ExitCode::from(ARGUMENTS_REFUSED),

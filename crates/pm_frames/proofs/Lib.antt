@@ -10,5 +10,6 @@ pub mod OneOffer
 pub mod OneDeviceFrame
 pub mod ReadNodes
 pub mod ReadOffers
+pub mod PointArrays
 pub mod Written
 pub mod Prices

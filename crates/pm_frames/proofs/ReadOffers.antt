@@ -37,23 +37,6 @@ use Rattle.pm_frames.specs.declared.form.OfferForm.TheVariants as forms
 use Rattle.pm_frames.specs.declared.device.DeviceFrame.TheVariants as devices
 use Rattle.pm_frames.proofs.OneOffer.{points_sized}
 
--- ---- bids
-
--- demands that never rise, of which each is small, are a bid
-pub is_bid : (demand : List ℤ) → 1 ≤ length demand → NeverRises demand → AllWithinLimit demand_limit demand →
-    checked_bid (length demand) demand ≡ Ok demand
-is_bid demand some falls within =
-    let never : length demand ≡ first_rising demand =
-    first_rising_none demand some (λ k inside. not_below (demand_at demand k) (demand_at demand (k + 1)) (falls k inside)) in
-    let small : (k : ℕ) → k < length demand → is_too_large (demand_at demand k) ≡ false = λ k inside.
-    let its : IsWithin demand_limit (demand_at demand k) = within k inside in
-    grind (arith, ints) in
-    let none : first_too_large demand ≡ length demand =
-    position_or_len_is is_too_large demand (length demand) (pos 0) (omega arith) small (λ h. absurd (omega arith)) in
-    let least : length demand ≤ first_rising demand = omega arith in
-    let largest : length demand ≤ first_too_large demand = omega arith in
-    grind (arith, nat_tests)
-
 -- ---- an array
 
 -- an Offer whose demands are no bid is refused

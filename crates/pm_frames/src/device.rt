@@ -1,6 +1,7 @@
 //! The frames of the stream to a device's agent.
 
 ghost use Rattle.std.specs.Prelude.{◌≡◌, ◌+◌, ◌*◌, ◌%◌, ◌≤◌, ◌∷◌, ◌↔◌, IsTrue, length, Some, IfOk};
+ghost use Rattle.pm_io.specs.Causes.{HasCause};
 ghost use Rattle.pm_base.specs.Limits.{AreSteps};
 ghost use Rattle.pm_wire.specs.Kinds.{hello_kind};
 ghost use Rattle.pm_wire.specs.Spelling.{IsOne};
@@ -22,8 +23,9 @@ use crate::place::{NodePlace, Stage};
 use crate::stored::StoredAgent;
 use pm_basis::Basis;
 use pm_bid::ArrayBid;
+use pm_io::Memory;
 use pm_wire::{Frame, StreamFrame, read_u32};
-use std::alloc::{AllocError, Global};
+use std::alloc::AllocError;
 
 /// A frame of the stream to a device's agent.
 #[derive(Drop)]
@@ -94,16 +96,17 @@ fn size_at(stage: Stage, kind: u8) -> Option<usize>
 }
 
 /// Reads the fields of Hello.
-fn read_hello(
-    alloc: Global,
+fn read_hello<M: Memory>(
+    memory: &mut M,
     place: NodePlace,
     body: &[u8],
 ) -> Result<Option<DeviceFrame>, AllocError>
     requires start { place.stage ≡ Stage.Start }
     requires size { length body.now ≡ 10 }
-    ensures { IfOk result (IsOne device_framing place (hello_kind ∷ body.now)) }
+    ensures one { IfOk result (IsOne device_framing place (hello_kind ∷ body.now)) }
+    ensures cause { HasCause (M.refusals memory.old) (M.refusals memory.new) result }
 {
-    let Some(frame) = Frame::read(alloc, None, HELLO, body)? else {
+    let Some(frame) = Frame::read(memory, None, HELLO, body)? else {
         return Ok(None);
     };
     match &frame {
@@ -141,20 +144,21 @@ fn is_offered(stage: Stage, number: u32, basis: &NamedBasis) -> bool
 }
 
 /// Reads the fields of Resume.
-fn read_resume(
-    alloc: Global,
+fn read_resume<M: Memory>(
+    memory: &mut M,
     place: NodePlace,
     body: &[u8],
 ) -> Result<Option<DeviceFrame>, AllocError>
     requires stage { IsStage place.stage }
     requires fresh { IsFresh place.stage }
     requires size { length body.now ≡ 18 + 4 * steps_at place.stage }
-    ensures { IfOk result (IsOne device_framing place (resume_kind ∷ body.now)) }
+    ensures one { IfOk result (IsOne device_framing place (resume_kind ∷ body.now)) }
+    ensures cause { HasCause (M.refusals memory.old) (M.refusals memory.new) result }
 {
     let (number, rest) = read_u32(body);
     let (index, rest) = read_u32(rest);
     let (basis, rest) = read_basis(rest);
-    let Some(demand) = read_offered(alloc, place.stage.steps(), rest)? else {
+    let Some(demand) = read_offered(memory, place.stage.steps(), rest)? else {
         return Ok(None);
     };
     if !is_offered(place.stage, number, &basis) {
@@ -199,26 +203,27 @@ fn read_from_parent(place: NodePlace, kind: u8, body: &[u8]) -> Option<DeviceFra
 }
 
 /// Reads the fields of a frame of this kind.
-fn read_body(
-    alloc: Global,
+fn read_body<M: Memory>(
+    memory: &mut M,
     place: NodePlace,
     kind: u8,
     body: &[u8],
 ) -> Result<Option<DeviceFrame>, AllocError>
     requires place { IsNodePlace place }
     requires size { device_size place.stage kind ≡ Some (length body.now + 1) }
-    ensures { IfOk result (IsOne device_framing place (kind ∷ body.now)) }
+    ensures one { IfOk result (IsOne device_framing place (kind ∷ body.now)) }
+    ensures cause { HasCause (M.refusals memory.old) (M.refusals memory.new) result }
 {
     match kind {
-        HELLO => read_hello(alloc, place, body),
-        RESUME => read_resume(alloc, place, body),
+        HELLO => read_hello(memory, place, body),
+        RESUME => read_resume(memory, place, body),
         RESUME_GONE => Ok(read_resume_gone(place, body)),
-        OFFER => read_offer(alloc, place, body),
+        OFFER => read_offer(memory, place, body),
         KIND => Ok(read_device_kind(place, body)),
-        STATE => read_state(alloc, place, body),
+        STATE => read_state(memory, place, body),
         LEAVE => Ok(Some(DeviceFrame::Leave)),
         PRICE | OLD => Ok(read_from_parent(place, kind, body)),
-        _ => read_points(alloc, place, kind, body),
+        _ => read_points(memory, place, kind, body),
     }
 }
 
@@ -231,13 +236,13 @@ impl StreamFrame for DeviceFrame {
         size_at(place.stage, kind)
     }
 
-    fn read(
-        alloc: Global,
+    fn read<M: Memory>(
+        memory: &mut M,
         place: NodePlace,
         kind: u8,
         body: &[u8],
     ) -> Result<Option<DeviceFrame>, AllocError> {
-        read_body(alloc, place, kind, body)
+        read_body(memory, place, kind, body)
     }
 
     fn place_after(&self, place: NodePlace) -> NodePlace {

@@ -2,6 +2,7 @@
 
 ghost use Rattle.std.specs.Prelude.{◌≡◌, ◌≢◌, ◌+◌, ◌≤◌, ◌∷◌, ◌↔◌, ◌==◌, if◌then◌else◌, IsTrue, length};
 ghost use Rattle.std.specs.Prelude.{Some, None, IfOk};
+ghost use Rattle.pm_io.specs.Causes.{HasCause};
 ghost use Rattle.pm_base.specs.Limits.{most_steps};
 ghost use Rattle.pm_wire.specs.Kinds.{clear_kind};
 ghost use Rattle.pm_wire.specs.Frames.{size_at as bid_size_at};
@@ -26,8 +27,9 @@ use crate::place::{RelayPlace, Stage};
 use crate::stored::{StoredRelay, read_stored_relay};
 use crate::terms::RelayTerms;
 use pm_base::{Limits, MOST_NODES};
+use pm_io::Memory;
 use pm_wire::{Frame, StreamFrame};
-use std::alloc::{AllocError, Global};
+use std::alloc::AllocError;
 
 /// A frame of the stream to a relay.
 #[derive(Drop)]
@@ -112,8 +114,8 @@ fn is_for_child(terms: &RelayTerms, frame: &Frame) -> bool
 }
 
 /// Reads the fields of Hello, or of the Bid or Gone of a child.
-fn read_child(
-    alloc: Global,
+fn read_child<M: Memory>(
+    memory: &mut M,
     place: RelayPlace,
     kind: u8,
     body: &[u8],
@@ -121,9 +123,10 @@ fn read_child(
     requires stage { IsStage place.stage }
     requires size { bid_size_at (bid_place place.stage) kind ≡ Some (length body.now + 1) }
     requires kind { kind ≢ clear_kind }
-    ensures { IfOk result (IsOne relay_framing place (kind ∷ body.now)) }
+    ensures one { IfOk result (IsOne relay_framing place (kind ∷ body.now)) }
+    ensures cause { HasCause (M.refusals memory.old) (M.refusals memory.new) result }
 {
-    let Some(frame) = Frame::read(alloc, place.stage.bid_place(), kind, body)? else {
+    let Some(frame) = Frame::read(memory, place.stage.bid_place(), kind, body)? else {
         return Ok(None);
     };
     if !is_for_child(&place.terms, &frame) {
@@ -143,16 +146,17 @@ fn read_from_parent(place: RelayPlace, kind: u8, body: &[u8]) -> Option<RelayFra
 }
 
 /// Reads the fields of Resume.
-fn read_resume(
-    alloc: Global,
+fn read_resume<M: Memory>(
+    memory: &mut M,
     place: RelayPlace,
     body: &[u8],
 ) -> Result<Option<RelayFrame>, AllocError>
     requires fresh { IsFresh place.stage }
     requires size { relay_resume_size ≡ length body.now + 1 }
-    ensures { IfOk result (IsOne relay_framing place (resume_kind ∷ body.now)) }
+    ensures one { IfOk result (IsOne relay_framing place (resume_kind ∷ body.now)) }
+    ensures cause { HasCause (M.refusals memory.old) (M.refusals memory.new) result }
 {
-    let stored = read_stored_relay(alloc, body)?;
+    let stored = read_stored_relay(memory, body)?;
     if !stored.is_accepted(place.stage, &place.terms) {
         return Ok(None);
     }
@@ -220,24 +224,25 @@ fn read_child_bound(place: RelayPlace, body: &[u8]) -> Option<RelayFrame>
 }
 
 /// Reads the fields of a frame of this kind.
-fn read_body(
-    alloc: Global,
+fn read_body<M: Memory>(
+    memory: &mut M,
     place: RelayPlace,
     kind: u8,
     body: &[u8],
 ) -> Result<Option<RelayFrame>, AllocError>
     requires stage { IsStage place.stage }
     requires size { relay_size place.stage kind ≡ Some (length body.now + 1) }
-    ensures { IfOk result (IsOne relay_framing place (kind ∷ body.now)) }
+    ensures one { IfOk result (IsOne relay_framing place (kind ∷ body.now)) }
+    ensures cause { HasCause (M.refusals memory.old) (M.refusals memory.new) result }
 {
     match kind {
-        RESUME => read_resume(alloc, place, body),
+        RESUME => read_resume(memory, place, body),
         SEND => Ok(Some(RelayFrame::Send)),
         EXPIRE => Ok(read_expire(place, body)),
         LIMITS => Ok(read_new_limits(place, body)),
         BOUND => Ok(read_child_bound(place, body)),
         PRICE | OLD => Ok(read_from_parent(place, kind, body)),
-        _ => read_child(alloc, place, kind, body),
+        _ => read_child(memory, place, kind, body),
     }
 }
 
@@ -250,13 +255,13 @@ impl StreamFrame for RelayFrame {
         size_at(place.stage, kind)
     }
 
-    fn read(
-        alloc: Global,
+    fn read<M: Memory>(
+        memory: &mut M,
         place: RelayPlace,
         kind: u8,
         body: &[u8],
     ) -> Result<Option<RelayFrame>, AllocError> {
-        read_body(alloc, place, kind, body)
+        read_body(memory, place, kind, body)
     }
 
     fn place_after(&self, place: RelayPlace) -> RelayPlace {

@@ -2,6 +2,7 @@
 
 ghost use Rattle.std.specs.Prelude.{◌≡◌, ◌+◌, ◌∷◌, length, Some, IfOk};
 ghost use Rattle.pm_wire.specs.Frames.{size_at as bid_size_at};
+ghost use Rattle.pm_io.specs.Causes.{HasCause};
 ghost use Rattle.pm_wire.specs.Spelling.{IsOne};
 ghost use Rattle.pm_frames.specs.Kinds.{resume_kind, expire_kind, bound_kind, bound_size};
 ghost use Rattle.pm_frames.specs.Places.{bid_place, IsOpen, IsFresh, IsStage};
@@ -14,8 +15,9 @@ use crate::limits::{is_bound, read_bound};
 use crate::place::Stage;
 use crate::stored::{StoredRoot, read_stored_root};
 use pm_base::{Limits, MOST_NODES};
+use pm_io::Memory;
 use pm_wire::{Frame, StreamFrame};
-use std::alloc::{AllocError, Global};
+use std::alloc::AllocError;
 
 /// A frame of the stream to an auctioneer.
 #[derive(Drop)]
@@ -46,29 +48,35 @@ fn size_at(stage: Stage, kind: u8) -> Option<usize>
 }
 
 /// Reads the fields of a frame of a stream of bids.
-fn read_market(
-    alloc: Global,
+fn read_market<M: Memory>(
+    memory: &mut M,
     stage: Stage,
     kind: u8,
     body: &[u8],
 ) -> Result<Option<RootFrame>, AllocError>
     requires stage { IsStage stage }
     requires size { bid_size_at (bid_place stage) kind ≡ Some (length body.now + 1) }
-    ensures { IfOk result (IsOne root_framing stage (kind ∷ body.now)) }
+    ensures one { IfOk result (IsOne root_framing stage (kind ∷ body.now)) }
+    ensures cause { HasCause (M.refusals memory.old) (M.refusals memory.new) result }
 {
-    match Frame::read(alloc, stage.bid_place(), kind, body)? {
+    match Frame::read(memory, stage.bid_place(), kind, body)? {
         Some(frame) => Ok(Some(RootFrame::Market(frame))),
         None => Ok(None),
     }
 }
 
 /// Reads the fields of Resume.
-fn read_resume(alloc: Global, stage: Stage, body: &[u8]) -> Result<Option<RootFrame>, AllocError>
+fn read_resume<M: Memory>(
+    memory: &mut M,
+    stage: Stage,
+    body: &[u8],
+) -> Result<Option<RootFrame>, AllocError>
     requires fresh { IsFresh stage }
     requires size { root_resume_size ≡ length body.now + 1 }
-    ensures { IfOk result (IsOne root_framing stage (resume_kind ∷ body.now)) }
+    ensures one { IfOk result (IsOne root_framing stage (resume_kind ∷ body.now)) }
+    ensures cause { HasCause (M.refusals memory.old) (M.refusals memory.new) result }
 {
-    let stored = read_stored_root(alloc, body)?;
+    let stored = read_stored_root(memory, body)?;
     if !stored.is_accepted(stage) {
         return Ok(None);
     }
@@ -102,18 +110,19 @@ fn read_child_bound(stage: Stage, body: &[u8]) -> Option<RootFrame>
 }
 
 /// Reads the fields of a frame of this kind.
-fn read_body(
-    alloc: Global,
+fn read_body<M: Memory>(
+    memory: &mut M,
     stage: Stage,
     kind: u8,
     body: &[u8],
 ) -> Result<Option<RootFrame>, AllocError>
     requires stage { IsStage stage }
     requires size { root_size stage kind ≡ Some (length body.now + 1) }
-    ensures { IfOk result (IsOne root_framing stage (kind ∷ body.now)) }
+    ensures one { IfOk result (IsOne root_framing stage (kind ∷ body.now)) }
+    ensures cause { HasCause (M.refusals memory.old) (M.refusals memory.new) result }
 {
     if kind == RESUME {
-        return read_resume(alloc, stage, body);
+        return read_resume(memory, stage, body);
     }
     if kind == EXPIRE {
         return Ok(read_expire(stage, body));
@@ -121,7 +130,7 @@ fn read_body(
     if kind == BOUND {
         return Ok(read_child_bound(stage, body));
     }
-    read_market(alloc, stage, kind, body)
+    read_market(memory, stage, kind, body)
 }
 
 impl StreamFrame for RootFrame {
@@ -133,13 +142,13 @@ impl StreamFrame for RootFrame {
         size_at(place, kind)
     }
 
-    fn read(
-        alloc: Global,
+    fn read<M: Memory>(
+        memory: &mut M,
         place: Stage,
         kind: u8,
         body: &[u8],
     ) -> Result<Option<RootFrame>, AllocError> {
-        read_body(alloc, place, kind, body)
+        read_body(memory, place, kind, body)
     }
 
     fn place_after(&self, place: Stage) -> Stage {

@@ -1,6 +1,7 @@
 //! What a node keeps over a restart, and reads when it comes back.
 
 ghost use Rattle.std.specs.Prelude.{◌≡◌, ◌+◌, ◌*◌, ◌<◌, ◌≤◌, ◌∷◌, ◌↔◌, IsTrue, length, IfOk};
+ghost use Rattle.pm_io.specs.Causes.{HasCause};
 ghost use Rattle.pm_base.specs.Limits.{most_nodes};
 ghost use Rattle.pm_relay.specs.Numbers.{child_number};
 ghost use Rattle.pm_frames.specs.Kinds.{resume_kind};
@@ -13,9 +14,10 @@ use crate::place::Stage;
 use crate::terms::RelayTerms;
 use pm_base::{Limits, MOST_NODES};
 use pm_bid::ArrayBid;
+use pm_io::Memory;
 use pm_relay::Resume;
 use pm_wire::{read_u16, read_u32};
-use std::alloc::{AllocError, Global};
+use std::alloc::AllocError;
 use std::marker::Model;
 
 /// What a relay comes back with.
@@ -148,26 +150,33 @@ impl StoredRoot {
 }
 
 /// The numbers of the children that the bytes are, four bytes each.
-fn read_numbers(alloc: Global, bytes: &[u8]) -> Result<Vec<u32>, AllocError>
+fn read_numbers<M: Memory>(memory: &mut M, bytes: &[u8]) -> Result<Vec<u32>, AllocError>
     requires { length bytes.now ≡ 4 * most_nodes }
     ensures bytes { IfOk result (λ numbers. bytes.now ≡ number_bytes numbers.items) }
     ensures are { IfOk result (λ numbers. AreChildNumbers numbers.items) }
+    ensures cause { HasCause (M.refusals memory.old) (M.refusals memory.new) result }
 {
-    let mut numbers = Vec::with_capacity(alloc, MOST_NODES)?;
+    let mut numbers = memory.list(MOST_NODES)?;
     let mut rest = bytes;
     for _child in 0..MOST_NODES {
         let (number, after) = read_u32(rest);
-        numbers.push(number)?;
+        let Ok(()) = numbers.push(number) else {
+            unreachable!()
+        };
         rest = after;
     }
     Ok(numbers)
 }
 
 /// What a relay comes back with, by the bytes after the kind.
-pub(crate) fn read_stored_relay(alloc: Global, body: &[u8]) -> Result<StoredRelay, AllocError>
+pub(crate) fn read_stored_relay<M: Memory>(
+    memory: &mut M,
+    body: &[u8],
+) -> Result<StoredRelay, AllocError>
     requires { length body.now ≡ 40 + 4 * most_nodes }
     ensures spelled { IfOk result (λ stored. resume_kind ∷ body.now ≡ relay_resume_bytes stored) }
     ensures stored { IfOk result IsRelayStored }
+    ensures cause { HasCause (M.refusals memory.old) (M.refusals memory.new) result }
 {
     let (last, rest) = read_u32(body);
     let (answered, rest) = read_u32(rest);
@@ -176,7 +185,7 @@ pub(crate) fn read_stored_relay(alloc: Global, body: &[u8]) -> Result<StoredRela
     let (first, rest) = read_floor_and_ceiling(rest);
     let (giver, rest) = read_u16(rest);
     let (limits, rest) = read_floor_and_ceiling(rest);
-    let numbers = read_numbers(alloc, rest)?;
+    let numbers = read_numbers(memory, rest)?;
     Ok(StoredRelay {
         last,
         answered,
@@ -190,14 +199,18 @@ pub(crate) fn read_stored_relay(alloc: Global, body: &[u8]) -> Result<StoredRela
 }
 
 /// What an auctioneer comes back with, by the bytes after the kind.
-pub(crate) fn read_stored_root(alloc: Global, body: &[u8]) -> Result<StoredRoot, AllocError>
+pub(crate) fn read_stored_root<M: Memory>(
+    memory: &mut M,
+    body: &[u8],
+) -> Result<StoredRoot, AllocError>
     requires { length body.now ≡ 14 + 4 * most_nodes }
     ensures spelled { IfOk result (λ stored. resume_kind ∷ body.now ≡ root_resume_bytes stored) }
     ensures stored { IfOk result IsRootStored }
+    ensures cause { HasCause (M.refusals memory.old) (M.refusals memory.new) result }
 {
     let (last, rest) = read_u32(body);
     let (basis, rest) = read_basis(rest);
-    let numbers = read_numbers(alloc, rest)?;
+    let numbers = read_numbers(memory, rest)?;
     Ok(StoredRoot {
         last,
         basis,

@@ -10,6 +10,8 @@ use Rattle.pm_frames.specs.RelayFrames.{relay_framing}
 use Rattle.pm_frames.specs.RootFrames.{root_framing}
 use Rattle.pm_frames.specs.DeviceFrames.{device_framing}
 use Rattle.pm_frames.specs.declared.place.Stage.TheVariants.{Start}
+use Rattle.pm_wire.specs.SettingUp.{piece_size, EndsSettingUp}
+use Rattle.pm_services.specs.SettingUp.{SetsUpRelay, SetsUpRoot, SetsUpDevice}
 use Rattle.pm_services.specs.RelayAnswers.{AnswersRelay}
 use Rattle.pm_services.specs.RootAnswers.{AnswersRoot}
 use Rattle.pm_services.specs.DeviceAnswers.{AnswersDevice}
@@ -44,3 +46,9 @@ EndsNodeAsDue Auctioneer all old new held holds rose_source rose_sink served =
     EndsAsDue root_framing Start (AnswersFrom AnswersRoot None) all old new held holds rose_source rose_sink served
 EndsNodeAsDue (Device child) all old new held holds rose_source rose_sink served =
     EndsAsDue device_framing (stream_start child) (AnswersFrom AnswersDevice (new_device_service child)) all old new held holds rose_source rose_sink served
+
+-- behind the frames that were whole before the last piece was read, one that came with this piece sets the node up
+abbrev pub EndsNodeSettingUp : LiveNode → (old new : Option (List ℕ)) → Type 0
+EndsNodeSettingUp (Relay child terms) old new = EndsSettingUp relay_framing (relay_start child terms) SetsUpRelay piece_size old new
+EndsNodeSettingUp Auctioneer old new = EndsSettingUp root_framing Start SetsUpRoot piece_size old new
+EndsNodeSettingUp (Device child) old new = EndsSettingUp device_framing (stream_start child) SetsUpDevice piece_size old new

@@ -1,13 +1,14 @@
 //! Serves a node from the start of its stream, whatever its frames are.
 
-ghost use Rattle.std.specs.Prelude.{◌≡◌, ◌≤◌, ℕ, List, Some};
+ghost use Rattle.std.specs.Prelude.{◌≡◌, ◌⊎◌, ◌≤◌, ℕ, List, Some};
 ghost use Rattle.pm_io.specs.Causes.{Rose};
 ghost use Rattle.pm_wire.specs.Services.{EndsSo};
 ghost use Rattle.pm_wire.specs.Due.{EndsAsDue};
 ghost use Rattle.pm_wire.specs.Moments.{AsksWhatIsDue};
+ghost use Rattle.pm_wire.specs.SettingUp.{piece_size, EndsSettingUp};
 ghost use Rattle.pm_wire.specs.Taking.{AnswersFrom};
 
-use pm_io::Peer;
+use pm_io::{Memory, Peer};
 use pm_wire::{Served, Service, StreamFrame, serve_peer};
 use std::alloc::Global;
 
@@ -15,8 +16,9 @@ use std::alloc::Global;
 const PIECE: usize = 16_384;
 
 /// Serves a stream whose first frame is to stand at this place, and tells how it ended.
-pub(crate) fn serve_from_start<F: StreamFrame, V: Service<F>, W: Peer>(
+pub(crate) fn serve_from_start<F: StreamFrame, V: Service<F>, W: Peer, M: Memory>(
     alloc: Global,
+    memory: &mut M,
     wire: &mut W,
     place: F::Place,
     service: &mut V,
@@ -34,10 +36,14 @@ pub(crate) fn serve_from_start<F: StreamFrame, V: Service<F>, W: Peer>(
         (W.left wire.old) (W.left wire.new) (W.held wire.old) (W.held wire.new)
         (Rose (W.read_faults wire.old) (W.read_faults wire.new))
         (Rose (W.write_faults wire.old) (W.write_faults wire.new)) result }
+    ensures no_memory { result ≡ Served.NoMemory
+        → Rose (M.refusals memory.old) (M.refusals memory.new)
+        ⊎ EndsSettingUp F.framing place V.sets_up piece_size (W.left wire.old) (W.left wire.new) }
     ensures becomes { W.becomes wire.old wire.new }
     ensures source_count { W.read_faults wire.old ≤ W.read_faults wire.new }
     ensures sink_count { W.write_faults wire.old ≤ W.write_faults wire.new }
+    ensures memory_count { M.refusals memory.old ≤ M.refusals memory.new }
 {
     let mut piece = [0u8; PIECE];
-    serve_peer(alloc, wire, place, service, &mut piece)
+    serve_peer(alloc, memory, wire, place, service, &mut piece)
 }

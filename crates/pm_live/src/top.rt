@@ -7,7 +7,7 @@ ghost use Rattle.pm_io.specs.Peers.{MayWriteAll};
 ghost use Rattle.pm_live.specs.Asks.{AsksNode};
 ghost use Rattle.pm_live.specs.LiveNodes.{IsNamed, MayBe};
 ghost use Rattle.pm_live.specs.Processes.{IsProcessBetween};
-ghost use Rattle.pm_live.specs.Serving.{node_usage_line, WrotePartOfUsage, ServesNode, EndsNodeAsDue};
+ghost use Rattle.pm_live.specs.Serving.{node_usage_line, WrotePartOfUsage, ServesNode, EndsNodeAsDue, EndsNodeSettingUp};
 ghost use Rattle.pm_processes.specs.Kept.{HistoriesKeepTheLaw};
 ghost use Rattle.pm_wire.specs.declared.stream.Served.{Served};
 
@@ -15,7 +15,7 @@ use crate::ending::Ending;
 use crate::named::{LiveNode, named_node};
 use crate::serving::serve_from_start;
 use pm_frames::{NodePlace, RelayPlace, Stage};
-use pm_io::{Peer, Sink, Source, Wire, tell_all, write_all};
+use pm_io::{Memory, Peer, Sink, Source, Wire, tell_all, write_all};
 use pm_processes::histories_keep_the_law;
 use pm_services::{DeviceService, RelayService, RootService};
 use pm_wire::Served;
@@ -60,7 +60,12 @@ fn append_usage<K: Sink>(sink: &mut K) -> Ending
 }
 
 /// Serves a node that there may be.
-fn serve_named<W: Peer>(alloc: Global, node: LiveNode, wire: &mut W) -> Served
+fn serve_named<W: Peer, M: Memory>(
+    alloc: Global,
+    memory: &mut M,
+    node: LiveNode,
+    wire: &mut W,
+) -> Served
     requires node { MayBe node }
     requires asks { AsksNode W.left W.held W.becomes W.may_read W.may_write node wire.old }
     ensures serves { ServesNode node (W.left wire.old) (W.left wire.new) (W.held wire.old)
@@ -70,9 +75,13 @@ fn serve_named<W: Peer>(alloc: Global, node: LiveNode, wire: &mut W) -> Served
         EndsNodeAsDue node all (W.left wire.old) (W.left wire.new) (W.held wire.old)
         (W.held wire.new) (Rose (W.read_faults wire.old) (W.read_faults wire.new))
         (Rose (W.write_faults wire.old) (W.write_faults wire.new)) result }
+    ensures no_memory { result ≡ Served.NoMemory
+        → Rose (M.refusals memory.old) (M.refusals memory.new)
+        ⊎ EndsNodeSettingUp node (W.left wire.old) (W.left wire.new) }
     ensures becomes { W.becomes wire.old wire.new }
     ensures source_count { W.read_faults wire.old ≤ W.read_faults wire.new }
     ensures sink_count { W.write_faults wire.old ≤ W.write_faults wire.new }
+    ensures memory_count { M.refusals memory.old ≤ M.refusals memory.new }
 {
     match node {
         LiveNode::Relay { child, terms } => {
@@ -82,11 +91,11 @@ fn serve_named<W: Peer>(alloc: Global, node: LiveNode, wire: &mut W) -> Served
                 stage: Stage::Start,
             };
             let mut relay = RelayService::new(alloc, child, terms);
-            serve_from_start(alloc, wire, place, &mut relay)
+            serve_from_start(alloc, memory, wire, place, &mut relay)
         }
         LiveNode::Auctioneer => {
             let mut root = RootService::new(alloc);
-            serve_from_start(alloc, wire, Stage::Start, &mut root)
+            serve_from_start(alloc, memory, wire, Stage::Start, &mut root)
         }
         LiveNode::Device { child } => {
             let place = NodePlace {
@@ -95,7 +104,7 @@ fn serve_named<W: Peer>(alloc: Global, node: LiveNode, wire: &mut W) -> Served
                 kind: None,
             };
             let mut device = DeviceService::new(alloc, child);
-            serve_from_start(alloc, wire, place, &mut device)
+            serve_from_start(alloc, memory, wire, place, &mut device)
         }
     }
 }
@@ -107,7 +116,12 @@ fn serve_named<W: Peer>(alloc: Global, node: LiveNode, wire: &mut W) -> Served
 /// prices, and writes bids and setpoints. Each reads what it comes back with directly after Hello, and writes what it is to come back
 /// with. The answers to a piece of the stream are written before the next piece is read. All other arguments name no node, and the usage
 /// line is appended.
-pub fn live_peer<W: Peer>(alloc: Global, arguments: &[String], wire: &mut W) -> Ending
+pub fn live_peer<W: Peer, M: Memory>(
+    alloc: Global,
+    memory: &mut M,
+    arguments: &[String],
+    wire: &mut W,
+) -> Ending
     // At each moment, whether the call returns or not: at each read all whole frames of the bytes taken were answered, and at
     // each write what was written, with what is written now, is what is due for them. A peer may ask for what follows from that.
     requires asks { (node : LiveNode) → IsNamed (map string_bytes arguments.now) node →
@@ -129,6 +143,14 @@ pub fn live_peer<W: Peer>(alloc: Global, arguments: &[String], wire: &mut W) -> 
         × EndsNodeAsDue node all (W.left wire.old) (W.left wire.new) (W.held wire.old)
         (W.held wire.new) (Rose (W.read_faults wire.old) (W.read_faults wire.new))
         (Rose (W.write_faults wire.old) (W.write_faults wire.new)) served }
+
+    // Want of memory ends it only where memory was refused, but within the piece in which Hello, or what the node comes back with,
+    // sets it up.
+    ensures no_memory { (node : LiveNode) → IsNamed (map string_bytes arguments.now) node →
+        result ≡ Ending.Served Served.NoMemory →
+        Rose (M.refusals memory.old) (M.refusals memory.new)
+        ⊎ EndsNodeSettingUp node (W.left wire.old) (W.left wire.new) }
+    ensures memory_count { M.refusals memory.old ≤ M.refusals memory.new }
 
     // What was read and written is a process of the node. Processes of all nodes of a market, ended at any byte, keep its law if
     // their carriers keep their promises.
@@ -154,7 +176,7 @@ pub fn live_peer<W: Peer>(alloc: Global, arguments: &[String], wire: &mut W) -> 
     // The call tells a fact: the law of a whole market.
     histories_keep_the_law();
     match named_node(arguments) {
-        Some(node) => Ending::Served(serve_named(alloc, node, wire)),
+        Some(node) => Ending::Served(serve_named(alloc, memory, node, wire)),
         None => tell_usage(wire),
     }
 }
@@ -166,8 +188,9 @@ pub fn live_peer<W: Peer>(alloc: Global, arguments: &[String], wire: &mut W) -> 
 /// prices, and writes bids and setpoints. Each reads what it comes back with directly after Hello, and writes what it is to come back
 /// with. The answers to a piece of the stream are written before the next piece is read. All other arguments name no node, and the usage
 /// line is appended.
-pub fn live<S: Source, K: Sink>(
+pub fn live<S: Source, K: Sink, M: Memory>(
     alloc: Global,
+    memory: &mut M,
     arguments: &[String],
     source: &mut S,
     sink: &mut K,
@@ -186,6 +209,14 @@ pub fn live<S: Source, K: Sink>(
         × EndsNodeAsDue node all (S.left source.old) (S.left source.new) (K.held sink.old)
         (K.held sink.new) (Rose (S.faults source.old) (S.faults source.new))
         (Rose (K.faults sink.old) (K.faults sink.new)) served }
+
+    // Want of memory ends it only where memory was refused, but within the piece in which Hello, or what the node comes back with,
+    // sets it up.
+    ensures no_memory { (node : LiveNode) → IsNamed (map string_bytes arguments.now) node →
+        result ≡ Ending.Served Served.NoMemory →
+        Rose (M.refusals memory.old) (M.refusals memory.new)
+        ⊎ EndsNodeSettingUp node (S.left source.old) (S.left source.new) }
+    ensures memory_count { M.refusals memory.old ≤ M.refusals memory.new }
 
     // What was read and written is a process of the node. Processes of all nodes of a market, ended at any byte, keep its law if
     // their carriers keep their promises.
@@ -211,7 +242,7 @@ pub fn live<S: Source, K: Sink>(
     match named_node(arguments) {
         Some(_node) => {
             let mut wire = Wire { source, sink };
-            live_peer(alloc, arguments, &mut wire)
+            live_peer(alloc, memory, arguments, &mut wire)
         }
         None => append_usage(sink),
     }

@@ -15,3 +15,4 @@ pub mod HeldRootFields
 pub mod OpenRootFields
 pub mod DeviceAnswers
 pub mod DeviceServiceFields
+pub mod SettingUp

@@ -3,10 +3,12 @@
 ghost use Rattle.std.specs.Prelude.{◌≡◌, None};
 ghost use Rattle.pm_services.specs.Limits.{device_reply_limit};
 ghost use Rattle.pm_services.specs.DeviceAnswers.{AnswersDevice, IsDeviceStart};
+ghost use Rattle.pm_services.specs.SettingUp.{SetsUpDevice};
 
 use crate::open_device::OpenDevice;
 use pm_base::MOST_STEPS;
 use pm_frames::DeviceFrame;
+use pm_io::Memory;
 use pm_wire::Service;
 use std::alloc::{AllocError, Global};
 use std::marker::Model;
@@ -54,11 +56,18 @@ impl Service<DeviceFrame> for DeviceService {
 
     ghost most_answers = { device_reply_limit };
 
-    fn answer(&mut self, frame: &DeviceFrame, out: &mut Vec<u8>) -> Result<(), AllocError> {
+    ghost sets_up = { SetsUpDevice };
+
+    fn answer<M: Memory>(
+        &mut self,
+        memory: &mut M,
+        frame: &DeviceFrame,
+        out: &mut Vec<u8>,
+    ) -> Result<(), AllocError> {
         // The room comes first, so that want of memory changes nothing.
-        out.reserve(REPLY_LIMIT)?;
+        memory.reserve(out, REPLY_LIMIT)?;
         if let Some(device) = &mut self.device {
-            return device.take(self.alloc, self.child, frame, out);
+            return device.take(self.alloc, memory, self.child, frame, out);
         }
         if let DeviceFrame::Hello { basis } = frame {
             self.device = Some(OpenDevice::new(self.alloc, basis)?);

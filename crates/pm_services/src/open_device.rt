@@ -1,8 +1,9 @@
 //! A device's agent after Hello: what it makes of each frame, and the bytes of its answers.
 
-ghost use Rattle.std.specs.Prelude.{◌≡◌, ◌+◌, ◌<◌, ◌≤◌, ◌^◌, ◌++◌, length, vec_len, vec_capacity, IfOk};
+ghost use Rattle.std.specs.Prelude.{◌≡◌, ◌⊎◌, ◌+◌, ◌<◌, ◌≤◌, ◌^◌, ◌++◌, length, vec_len, vec_capacity, IfOk};
 ghost use Rattle.std.specs.Prelude.{OnOk, OnErr, MatchOption};
 ghost use Rattle.std.specs.Option.{option_copied};
+ghost use Rattle.pm_io.specs.Causes.{HasCause, Rose};
 ghost use Rattle.pm_base.specs.Limits.{demand_limit, most_steps};
 ghost use Rattle.pm_bid.specs.Bids.{AllWithinLimit};
 ghost use Rattle.pm_net.specs.Agents.{new_agent, after_price};
@@ -14,6 +15,7 @@ ghost use Rattle.pm_services.specs.DeviceAnswers.{own_resume_bytes, after_asking
 ghost use Rattle.pm_services.specs.DeviceAnswers.{price_reply, sent_again, old_reply, with_held_agent, after_price_of, price_reply_of, open_device_after};
 ghost use Rattle.pm_services.specs.DeviceAnswers.{device_reply};
 ghost use Rattle.pm_services.specs.DeviceServiceFields.{HasSmallDemand, IsSmall};
+ghost use Rattle.pm_services.specs.SettingUp.{SetsUpDevice};
 
 use pm_basis::Basis;
 use pm_bid::{ArrayBid, uncounted};
@@ -23,7 +25,9 @@ use pm_frames::{
     write_dropped, write_gone, write_other_basis, write_out_of_numbers, write_setpoint,
     write_window_full,
 };
+use pm_io::Memory;
 use pm_session::PriceUpdate;
+use pm_wire::zero_bid;
 use std::alloc::{AllocError, Global};
 use std::marker::Model;
 
@@ -49,24 +53,28 @@ impl Model for OpenDevice {
 }
 
 /// A copy of a bid, which has at most 1000 steps.
-fn copy_of(alloc: Global, demand: &ArrayBid) -> Result<ArrayBid, AllocError>
+fn copy_of<M: Memory>(memory: &mut M, demand: &ArrayBid) -> Result<ArrayBid, AllocError>
     ensures copy { IfOk result (λ copy. copy ≡ demand.now) }
     ensures steps { length demand.now ≤ most_steps }
+    ensures cause { HasCause (M.refusals memory.old) (M.refusals memory.new) result }
 {
-    let mut counter = uncounted();
-    let mut copy = ArrayBid::zero(alloc, demand.steps(), &mut counter)?;
-    demand.copy_into(&mut copy, &mut counter);
+    let mut copy = zero_bid(memory, demand.steps())?;
+    demand.copy_into(&mut copy, &mut uncounted());
     Ok(copy)
 }
 
 /// A copy of a bid, where there is one.
-fn copy_if_some(alloc: Global, demand: Option<&ArrayBid>) -> Result<Option<ArrayBid>, AllocError>
-    ensures { IfOk result (λ copy. copy ≡ option_copied demand.entry) }
+fn copy_if_some<M: Memory>(
+    memory: &mut M,
+    demand: Option<&ArrayBid>,
+) -> Result<Option<ArrayBid>, AllocError>
+    ensures copy { IfOk result (λ copy. copy ≡ option_copied demand.entry) }
+    ensures cause { HasCause (M.refusals memory.old) (M.refusals memory.new) result }
 {
     let Some(demand) = demand else {
         return Ok(None);
     };
-    let copy = copy_of(alloc, demand)?;
+    let copy = copy_of(memory, demand)?;
     Ok(Some(copy))
 }
 
@@ -113,9 +121,10 @@ impl OpenDevice {
 
     /// Takes a frame after Hello, and appends the answers to it. Where an allocation fails nothing changes and nothing is
     /// appended.
-    pub(crate) fn take(
+    pub(crate) fn take<M: Memory>(
         &mut self,
         alloc: Global,
+        memory: &mut M,
         child: u16,
         frame: &DeviceFrame,
         out: &mut Vec<u8>,
@@ -127,9 +136,12 @@ impl OpenDevice {
             ++ device_reply child self.old frame.now) }
         ensures unchanged { OnErr result ((self.new ≡ self.old) × (out.new.items ≡ out.old.items)) }
         ensures few { length out.new.items ≤ length out.old.items + device_reply_limit }
+        ensures cause { OnErr result (SetsUpDevice frame.now
+            ⊎ Rose (M.refusals memory.old) (M.refusals memory.new)) }
+        ensures count { M.refusals memory.old ≤ M.refusals memory.new }
     {
         match frame {
-            DeviceFrame::Offer { demand, .. } => self.offer(alloc, child, demand, out),
+            DeviceFrame::Offer { demand, .. } => self.offer(memory, child, demand, out),
             DeviceFrame::Leave => {
                 self.leave(child, out);
                 Ok(())
@@ -151,7 +163,7 @@ impl OpenDevice {
                 self.take_price_of(price, basis, out);
                 Ok(())
             }
-            DeviceFrame::Resume(stored) => self.come_back(alloc, child, stored, out),
+            DeviceFrame::Resume(stored) => self.come_back(alloc, memory, child, stored, out),
             DeviceFrame::Parent(ParentFrame::Old { kept, .. }) => {
                 self.take_old(child, *kept, out);
                 Ok(())
@@ -176,9 +188,9 @@ impl OpenDevice {
     }
 
     /// Makes an offer, and appends its Bid with what the agent keeps over a restart before it, or why there is none.
-    fn offer(
+    fn offer<M: Memory>(
         &mut self,
-        alloc: Global,
+        memory: &mut M,
         child: u16,
         demand: &ArrayBid,
         out: &mut Vec<u8>,
@@ -191,8 +203,9 @@ impl OpenDevice {
             ++ offer_reply child self.old.basis self.old.agent demand.now) }
         ensures unchanged { OnErr result ((self.new ≡ self.old) × (out.new.items ≡ out.old.items)) }
         ensures few { length out.new.items ≤ length out.old.items + device_reply_limit }
+        ensures cause { HasCause (M.refusals memory.old) (M.refusals memory.new) result }
     {
-        let kept = copy_of(alloc, demand)?;
+        let kept = copy_of(memory, demand)?;
         self.send_offer(child, kept, demand, out);
         Ok(())
     }
@@ -304,9 +317,10 @@ impl OpenDevice {
     }
 
     /// Comes back with what an agent gave before a restart, and appends its newest Bid or Gone again.
-    fn come_back(
+    fn come_back<M: Memory>(
         &mut self,
         alloc: Global,
+        memory: &mut M,
         child: u16,
         stored: &StoredAgent,
         out: &mut Vec<u8>,
@@ -319,8 +333,9 @@ impl OpenDevice {
             ++ sent_again child stored.now.number stored.now.newest) }
         ensures unchanged { OnErr result ((self.new ≡ self.old) × (out.new.items ≡ out.old.items)) }
         ensures few { length out.new.items ≤ length out.old.items + device_reply_limit }
+        ensures count { M.refusals memory.old ≤ M.refusals memory.new }
     {
-        let newest = copy_if_some(alloc, stored.newest.as_ref())?;
+        let newest = copy_if_some(memory, stored.newest.as_ref())?;
         self.agent = ControlAgent::resumed(alloc, stored.number, newest, stored.index)?;
         send_again(child, stored, out);
         Ok(())

@@ -9,6 +9,7 @@ ghost use Rattle.pm_services.specs.Receipts.{Appended};
 ghost use Rattle.pm_services.specs.RelayAnswers.{AnswersOpen, AnswersRelayFrame, AnswersBounded, AnswersGiven, AnswersTold, AnswersKept, RelayComesUp};
 ghost use Rattle.pm_services.specs.RelayAnswers.{RelayComesUpAgain, HasStored, with_childs_bound};
 ghost use Rattle.pm_services.specs.RelayStands.{MayStandWithSteps};
+ghost use Rattle.pm_services.specs.SettingUp.{SetsUpRelay};
 ghost use Rattle.pm_wire.specs.declared.frame.Frame.{Frame};
 ghost use Rattle.pm_frames.specs.declared.relay.RelayFrame.{RelayFrame};
 
@@ -86,6 +87,7 @@ impl OpenRelay {
             (Some self.new)) relay_reply_limit out.old.items out.new.items) }
         ensures unchanged { OnErr result (self.new ≡ self.old) }
         ensures nothing_appended { OnErr result (out.new.items ≡ out.old.items) }
+        ensures cause { OnErr result (SetsUpRelay frame.now) }
     {
         match frame {
             RelayFrame::Child(

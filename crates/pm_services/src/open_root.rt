@@ -7,6 +7,7 @@ ghost use Rattle.pm_services.specs.Limits.{root_reply_limit};
 ghost use Rattle.pm_services.specs.Receipts.{Appended};
 ghost use Rattle.pm_services.specs.RootAnswers.{AnswersOpenRoot, AnswersRootFrame, AnswersRootBounded, RootComesUp};
 ghost use Rattle.pm_services.specs.RootStands.{MayStandWithSteps};
+ghost use Rattle.pm_services.specs.SettingUp.{SetsUpRoot};
 ghost use Rattle.pm_wire.specs.declared.frame.Frame.{Frame};
 ghost use Rattle.pm_frames.specs.declared.root.RootFrame.{RootFrame};
 
@@ -70,6 +71,7 @@ impl OpenRoot {
             out.new.items) }
         ensures unchanged { OnErr result (self.new ≡ self.old) }
         ensures nothing_appended { OnErr result (out.new.items ≡ out.old.items) }
+        ensures cause { OnErr result (SetsUpRoot frame.now) }
     {
         match frame {
             RootFrame::Market(

@@ -4,11 +4,13 @@ ghost use Rattle.std.specs.Prelude.{◌≡◌, None};
 ghost use Rattle.pm_frames.specs.Terms.{AreTerms};
 ghost use Rattle.pm_services.specs.Limits.{relay_reply_limit};
 ghost use Rattle.pm_services.specs.RelayAnswers.{AnswersRelay, IsRelayStart};
+ghost use Rattle.pm_services.specs.SettingUp.{SetsUpRelay};
 
 use crate::open_relay::OpenRelay;
 use crate::setup::RelaySetup;
 use pm_base::{MOST_NODES, MOST_STEPS};
 use pm_frames::{RelayFrame, RelayTerms};
+use pm_io::Memory;
 use pm_wire::{Frame, Service};
 use std::alloc::{AllocError, Global};
 use std::marker::Model;
@@ -68,9 +70,16 @@ impl Service<RelayFrame> for RelayService {
 
     ghost most_answers = { relay_reply_limit };
 
-    fn answer(&mut self, frame: &RelayFrame, out: &mut Vec<u8>) -> Result<(), AllocError> {
+    ghost sets_up = { SetsUpRelay };
+
+    fn answer<M: Memory>(
+        &mut self,
+        memory: &mut M,
+        frame: &RelayFrame,
+        out: &mut Vec<u8>,
+    ) -> Result<(), AllocError> {
         // The room comes first, so that want of memory changes nothing.
-        out.reserve(REPLY_LIMIT)?;
+        memory.reserve(out, REPLY_LIMIT)?;
         if let Some(relay) = &mut self.relay {
             return relay.take(self.alloc, frame, out);
         }

@@ -3,10 +3,12 @@
 ghost use Rattle.std.specs.Prelude.{◌≡◌, None};
 ghost use Rattle.pm_services.specs.Limits.{root_reply_limit};
 ghost use Rattle.pm_services.specs.RootAnswers.{AnswersRoot, IsRootStart};
+ghost use Rattle.pm_services.specs.SettingUp.{SetsUpRoot};
 
 use crate::open_root::OpenRoot;
 use pm_base::MOST_NODES;
 use pm_frames::RootFrame;
+use pm_io::Memory;
 use pm_wire::{Frame, Service};
 use std::alloc::{AllocError, Global};
 use std::marker::Model;
@@ -48,9 +50,16 @@ impl Service<RootFrame> for RootService {
 
     ghost most_answers = { root_reply_limit };
 
-    fn answer(&mut self, frame: &RootFrame, out: &mut Vec<u8>) -> Result<(), AllocError> {
+    ghost sets_up = { SetsUpRoot };
+
+    fn answer<M: Memory>(
+        &mut self,
+        memory: &mut M,
+        frame: &RootFrame,
+        out: &mut Vec<u8>,
+    ) -> Result<(), AllocError> {
         // The room comes first, so that want of memory changes nothing.
-        out.reserve(REPLY_LIMIT)?;
+        memory.reserve(out, REPLY_LIMIT)?;
         if let Some(root) = &mut self.root {
             return root.take(self.alloc, frame, out);
         }

@@ -7,6 +7,8 @@ pub mod Fed
 pub mod Replies
 pub mod Markets
 mod Falling
+pub mod ZeroBids
+pub mod SettingUp
 pub mod Known
 pub mod OneReading
 pub mod Taking

@@ -14,3 +14,4 @@ pub mod Memory
 pub mod Calls
 pub mod Newest
 pub mod Moments
+pub mod SettingUp

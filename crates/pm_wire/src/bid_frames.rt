@@ -3,6 +3,7 @@
 ghost use Rattle.std.specs.Prelude.{◌≡◌, ◌+◌, ◌∷◌, ◌≤◌, ◌*◌, length, IsTrue, ◌↔◌, IfOk, IfSome, Some, None, FitsSigned};
 ghost use Rattle.std.specs.Int.{w32};
 ghost use Rattle.std.specs.List.{AllByRecursion};
+ghost use Rattle.pm_io.specs.Causes.{HasCause};
 ghost use Rattle.pm_base.specs.Limits.{AreSteps};
 ghost use Rattle.pm_bid.specs.Checks.{checked_bid};
 ghost use Rattle.pm_wire.specs.Kinds.{hello_kind, bid_kind, gone_kind};
@@ -13,10 +14,12 @@ use crate::frame::Frame;
 use crate::kinds::{BID, BID_HEAD_SIZE, CLEAR, CLEAR_SIZE, GONE, GONE_SIZE, HELLO, HELLO_SIZE};
 use crate::number_fields::{read_i32, read_u16, read_u32};
 use crate::stream_frame::StreamFrame;
+use crate::zeros::zero_bid;
 use pm_base::{DEMAND_LIMIT, MOST_NODES};
 use pm_basis::Basis;
 use pm_bid::{ArrayBid, uncounted};
-use std::alloc::{AllocError, Global};
+use pm_io::Memory;
+use std::alloc::AllocError;
 
 /// How many bytes a frame of this kind has, if it may stand at this place: before Hello, or behind it.
 fn size_at(steps: Option<usize>, kind: u8) -> Option<usize>
@@ -93,14 +96,19 @@ fn fill(bid: &mut ArrayBid, bytes: &[u8]) -> bool
 }
 
 /// Reads the fields of a bid of so many steps.
-fn read_bid(alloc: Global, steps: usize, body: &[u8]) -> Result<Option<Frame>, AllocError>
+fn read_bid<M: Memory>(
+    memory: &mut M,
+    steps: usize,
+    body: &[u8],
+) -> Result<Option<Frame>, AllocError>
     requires steps { AreSteps steps }
     requires length { length body.now ≡ 6 + 4 * steps }
-    ensures { IfOk result (IsOne bid_framing (Some steps) (bid_kind ∷ body.now)) }
+    ensures one { IfOk result (IsOne bid_framing (Some steps) (bid_kind ∷ body.now)) }
+    ensures cause { HasCause (M.refusals memory.old) (M.refusals memory.new) result }
 {
     let (child, rest) = read_u16(body);
     let (number, rest) = read_u32(rest);
-    let mut demand = ArrayBid::zero(alloc, steps, &mut uncounted())?;
+    let mut demand = zero_bid(memory, steps)?;
     if !fill(&mut demand, rest) {
         return Ok(None);
     }
@@ -128,21 +136,22 @@ fn read_gone(steps: usize, body: &[u8]) -> Option<Frame>
 }
 
 /// Reads the fields of a frame of this kind.
-fn read_body(
-    alloc: Global,
+fn read_body<M: Memory>(
+    memory: &mut M,
     place: Option<usize>,
     kind: u8,
     body: &[u8],
 ) -> Result<Option<Frame>, AllocError>
     requires steps { IfSome place AreSteps }
     requires size { size_at place kind ≡ Some (length body.now + 1) }
-    ensures { IfOk result (IsOne bid_framing place (kind ∷ body.now)) }
+    ensures one { IfOk result (IsOne bid_framing place (kind ∷ body.now)) }
+    ensures cause { HasCause (M.refusals memory.old) (M.refusals memory.new) result }
 {
     let Some(steps) = place else {
         return Ok(read_hello(body));
     };
     if kind == BID {
-        return read_bid(alloc, steps, body);
+        return read_bid(memory, steps, body);
     }
     if kind == GONE {
         return Ok(read_gone(steps, body));
@@ -159,13 +168,13 @@ impl StreamFrame for Frame {
         size_at(place, kind)
     }
 
-    fn read(
-        alloc: Global,
+    fn read<M: Memory>(
+        memory: &mut M,
         place: Option<usize>,
         kind: u8,
         body: &[u8],
     ) -> Result<Option<Frame>, AllocError> {
-        read_body(alloc, place, kind, body)
+        read_body(memory, place, kind, body)
     }
 
     fn place_after(&self, place: Option<usize>) -> Option<usize> {

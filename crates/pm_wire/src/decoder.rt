@@ -1,7 +1,8 @@
 //! Takes a stream in pieces of any size, and gives its whole frames.
 
 ghost use Rattle.std.specs.Prelude.{◌≡◌, ◌+◌, ◌*◌, ◌<◌, ◌≤◌, ◌++◌, ◌⊎◌, ℕ, List, true, length, drop, vec_len};
-ghost use Rattle.std.specs.Prelude.{IfOk, IfErr, IfSome, IfNone, OnOk, OnErr};
+ghost use Rattle.std.specs.Prelude.{IfOk, IfErr, IfSome, IfNone, OnOk, OnErr, is_ok, if◌then◌else◌};
+ghost use Rattle.pm_io.specs.Causes.{HasCause, Rose};
 ghost use Rattle.pm_wire.specs.Framing.{MayStand, IsUnfinished, BeginsBadly};
 ghost use Rattle.pm_wire.specs.Calls.{MakesCall, feed_call, next_call};
 ghost use Rattle.pm_wire.specs.Decoding.{nothing_fed_at, nothing_fed, with_piece, with_refusal, GivesFrame, HoldsLittle};
@@ -10,6 +11,7 @@ use crate::fault::DecodeFault;
 use crate::frame::Frame;
 use crate::front_frame::{Reading, read_frame};
 use crate::stream_frame::StreamFrame;
+use pm_io::{Memory, SystemMemory};
 use std::alloc::{AllocError, Global};
 use std::marker::Model;
 
@@ -67,6 +69,23 @@ fn drop_given(buffer: &mut Vec<u8>, start: usize) -> usize
     0
 }
 
+/// Appends a piece to the bytes in memory, for which it asks room.
+fn append_piece<M: Memory>(
+    memory: &mut M,
+    buffer: &mut Vec<u8>,
+    piece: &[u8],
+) -> Result<(), AllocError>
+    ensures items { buffer.new.items
+        ≡ (if is_ok result then buffer.old.items ++ piece.now else buffer.old.items) }
+    ensures cause { HasCause (M.refusals memory.old) (M.refusals memory.new) result }
+{
+    memory.reserve(buffer, piece.len())?;
+    let Ok(()) = buffer.extend_from_slice(piece) else {
+        unreachable!()
+    };
+    Ok(())
+}
+
 impl FrameDecoder<Frame> {
     /// A decoder to which nothing was fed. It takes no memory.
     pub fn new(alloc: Global) -> Decoder
@@ -103,7 +122,24 @@ impl<F: StreamFrame> FrameDecoder<F> {
         // The call as one of a list ([`frames_given_are_those_fed`]).
         ensures call { MakesCall F.framing self.old (feed_call piece.now result) self.new }
     {
-        self.buffer.extend_from_slice(piece)
+        let mut memory = SystemMemory::new(self.alloc);
+        self.feed_from(&mut memory, piece)
+    }
+
+    /// Takes the next piece as [`FrameDecoder::feed`] does, and asks this memory for its room.
+    pub fn feed_from<M: Memory>(&mut self, memory: &mut M, piece: &[u8]) -> Result<(), AllocError>
+        requires { self.old.offset + length self.old.rest + length piece.now ≤ 4294967296 }
+        ensures fed { OnOk result (self.new ≡ with_piece self.old piece.now) }
+        ensures unchanged { OnErr result (self.new ≡ self.old) }
+        ensures little { HoldsLittle self.new }
+
+        // It fails only where memory was refused.
+        ensures cause { HasCause (M.refusals memory.old) (M.refusals memory.new) result }
+
+        // The call as one of a list ([`frames_given_are_those_fed`]).
+        ensures call { MakesCall F.framing self.old (feed_call piece.now result) self.new }
+    {
+        append_piece(memory, &mut self.buffer, piece)
     }
 
     /// Gives the next frame, or None where the bytes left are less than a frame and no bad frame shows. Where a bad frame is
@@ -141,11 +177,54 @@ impl<F: StreamFrame> FrameDecoder<F> {
         // The call as one of a list ([`frames_given_are_those_fed`]).
         ensures call { MakesCall F.framing self.old (next_call result) self.new }
     {
+        let mut memory = SystemMemory::new(self.alloc);
+        self.next_from(&mut memory)
+    }
+
+    /// Gives the next frame as [`FrameDecoder::next`] does, and asks this memory for what the frame holds.
+    pub fn next_from<M: Memory>(&mut self, memory: &mut M) -> Result<Option<F>, DecodeFault>
+        requires { self.old.offset + length self.old.rest ≤ 4294967296 }
+        ensures given { IfOk result (λ next. IfSome next
+            (λ frame. GivesFrame F.framing self.old frame self.new)) }
+        ensures nothing { IfOk result (λ next. IfNone next
+            (IsUnfinished F.framing self.old.place self.old.rest × (self.new ≡ self.old))) }
+        ensures bad { IfErr result (λ fault. (at : ℕ) → fault ≡ DecodeFault.Bad at →
+            (at ≡ self.old.offset)
+            × BeginsBadly F.framing self.old.place self.old.rest
+            × (self.new ≡ with_refusal self.old)) }
+        ensures no_memory { result ≡ Err DecodeFault.NoMemory → self.new ≡ self.old }
+
+        // Each of these answers comes wherever its cause stands, or an allocation failed.
+        ensures gives { (frame : F) (more : List ℕ) → MayStand F.framing self.old.place frame
+            → self.old.rest ≡ F.framing.frame_bytes frame ++ more
+            → (result ≡ Ok (Some frame)) ⊎ (result ≡ Err DecodeFault.NoMemory) }
+        ensures waits { IsUnfinished F.framing self.old.place self.old.rest
+            → (result ≡ Ok None) ⊎ (result ≡ Err DecodeFault.NoMemory) }
+        ensures refuses { BeginsBadly F.framing self.old.place self.old.rest
+            → (result ≡ Err (DecodeFault.Bad self.old.offset))
+            ⊎ (result ≡ Err DecodeFault.NoMemory) }
+
+        // A bad frame that was told once is told always.
+        ensures always { self.old.refused ≡ true → result ≡ Err (DecodeFault.Bad self.old.offset) }
+
+        // The bytes of frames given are let go, and None leaves less than a frame.
+        ensures little { HoldsLittle self.new }
+        ensures short { IfOk result (λ next. IfNone next
+            (length self.new.rest < F.framing.most_bytes)) }
+
+        // Want of memory is told only where memory was refused.
+        ensures cause { result ≡ Err DecodeFault.NoMemory
+            → Rose (M.refusals memory.old) (M.refusals memory.new) }
+        ensures count { M.refusals memory.old ≤ M.refusals memory.new }
+
+        // The call as one of a list ([`frames_given_are_those_fed`]).
+        ensures call { MakesCall F.framing self.old (next_call result) self.new }
+    {
         F::is_framing();
         if self.refused {
             return Err(DecodeFault::Bad { at: self.offset });
         }
-        match read_frame::<F>(self.alloc, self.place, &self.buffer[self.start..])? {
+        match read_frame::<F, M>(memory, self.place, &self.buffer[self.start..])? {
             Reading::Whole { frame, size } => {
                 self.start = drop_given(&mut self.buffer, self.start + size);
                 self.offset += size as u64;

@@ -34,6 +34,7 @@ mod server;
 mod service;
 mod stream;
 mod stream_frame;
+mod zeros;
 
 pub use answer::Reply;
 pub use auctioneer::{serve, serve_market};
@@ -50,3 +51,4 @@ pub use server::Server;
 pub use service::Service;
 pub use stream::{STREAM_LIMIT, Served, serve_peer};
 pub use stream_frame::StreamFrame;
+pub use zeros::zero_bid;

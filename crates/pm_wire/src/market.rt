@@ -24,7 +24,7 @@ use std::alloc::{AllocError, Global};
 use std::marker::Model;
 
 /// The most bytes of the answers to a frame: a price for each child.
-const REPLY_LIMIT: usize = BARE_PRICE_SIZE * MOST_NODES;
+pub(crate) const REPLY_LIMIT: usize = BARE_PRICE_SIZE * MOST_NODES;
 
 /// The auctioneer once it has a basis.
 ///

@@ -6,10 +6,12 @@ ghost use Rattle.pm_base.specs.Limits.{most_nodes};
 ghost use Rattle.pm_wire.specs.Frames.{MayStand};
 ghost use Rattle.pm_wire.specs.Answers.{market_after, answers_to, reply_bytes, place_known, AnswersFrame, IsAtStart};
 ghost use Rattle.pm_wire.specs.Memory.{reply_limit};
+ghost use Rattle.pm_wire.specs.SettingUp.{IsHello};
 
 use crate::frame::Frame;
-use crate::market::OpenMarket;
+use crate::market::{OpenMarket, REPLY_LIMIT};
 use crate::service::Service;
+use pm_io::Memory;
 use std::alloc::{AllocError, Global};
 use std::marker::Model;
 
@@ -61,6 +63,10 @@ impl Server {
         ensures full { OnErr result
             ((self.old ≡ None) ⊎ (vec_capacity out.old < vec_len out.old + reply_limit)) }
 
+        // So it is refused only at Hello, or where there is no such room.
+        ensures wants { OnErr result
+            (IsHello frame.now ⊎ (vec_capacity out.old < vec_len out.old + reply_limit)) }
+
         // What is in memory: the answers to a frame are few bytes, and the market has an entry for each child.
         ensures few { length out.new.items ≤ length out.old.items + reply_limit }
         ensures children { IfSome self.new (λ market. length market.cache.heads ≡ most_nodes) }
@@ -82,7 +88,15 @@ impl Service<Frame> for Server {
 
     ghost most_answers = { reply_limit };
 
-    fn answer(&mut self, frame: &Frame, out: &mut Vec<u8>) -> Result<(), AllocError> {
+    ghost sets_up = { IsHello };
+
+    fn answer<M: Memory>(
+        &mut self,
+        memory: &mut M,
+        frame: &Frame,
+        out: &mut Vec<u8>,
+    ) -> Result<(), AllocError> {
+        memory.reserve(out, REPLY_LIMIT)?;
         self.take(frame, out)
     }
 }

@@ -10,6 +10,7 @@ ghost use Rattle.pm_wire.specs.Taking.{AnswersFrom};
 ghost use Rattle.pm_wire.specs.Services.{fault_bytes, EndsSo};
 ghost use Rattle.pm_wire.specs.Due.{EndsAsDue};
 ghost use Rattle.pm_wire.specs.Moments.{AsksWhatIsDue};
+ghost use Rattle.pm_wire.specs.SettingUp.{EndsSettingUp};
 
 use crate::answer::Reply;
 use crate::decoder::FrameDecoder;
@@ -17,11 +18,14 @@ use crate::fault::DecodeFault;
 use crate::pieces::take_piece;
 use crate::service::Service;
 use crate::stream_frame::StreamFrame;
-use pm_io::{Peer, WriteFault, tell_all};
+use pm_io::{Memory, Peer, WriteFault, tell_all};
 use std::alloc::Global;
 
 /// The most bytes of a stream.
 pub const STREAM_LIMIT: usize = 1_073_741_824;
+
+/// How many bytes a fault has.
+const FAULT_SIZE: usize = 9;
 
 /// How the service of a stream ended.
 #[derive(Clone, Copy, Debug, PartialEq, Eq)]
@@ -61,7 +65,12 @@ fn flush<W: Peer>(wire: &mut W, out: &mut Vec<u8>) -> Result<(), WriteFault>
 }
 
 /// Appends the fault of the frame at this offset to the answers, and writes them.
-fn refuse<W: Peer>(wire: &mut W, out: &mut Vec<u8>, offset: u64) -> Served
+fn refuse<W: Peer, M: Memory>(
+    memory: &mut M,
+    wire: &mut W,
+    out: &mut Vec<u8>,
+    offset: u64,
+) -> Served
     requires next { MayWriteAll W.left W.held W.becomes W.may_write wire.old
         (out.old.items ++ fault_bytes offset) }
     ensures either { (result ≡ Served.Refused) ⊎ (result ≡ Served.WriteFault)
@@ -75,14 +84,20 @@ fn refuse<W: Peer>(wire: &mut W, out: &mut Vec<u8>, offset: u64) -> Served
         × Appends (W.held wire.old) (W.held wire.new)
         (take written (out.old.items ++ fault_bytes offset))) }
     ensures no_memory { result ≡ Served.NoMemory → wire.new ≡ wire.old }
+    ensures cause { result ≡ Served.NoMemory
+        → Rose (M.refusals memory.old) (M.refusals memory.new) }
+    ensures memory_count { M.refusals memory.old ≤ M.refusals memory.new }
     ensures left { W.left wire.new ≡ W.left wire.old }
     ensures becomes { W.becomes wire.old wire.new }
     ensures read_faults { W.read_faults wire.new ≡ W.read_faults wire.old }
     ensures count { W.write_faults wire.old ≤ W.write_faults wire.new }
 {
-    if (Reply::Fault { offset }).write(out).is_err() {
+    if memory.reserve(out, FAULT_SIZE).is_err() {
         return Served::NoMemory;
     }
+    let Ok(()) = (Reply::Fault { offset }).write(out) else {
+        unreachable!()
+    };
     match flush(wire, out) {
         Ok(()) => Served::Refused,
         Err(_) => Served::WriteFault,
@@ -90,7 +105,8 @@ fn refuse<W: Peer>(wire: &mut W, out: &mut Vec<u8>, offset: u64) -> Served
 }
 
 /// Serves the stream by a decoder and a service that took nothing, and tells how it ended.
-fn run<F: StreamFrame, V: Service<F>, W: Peer>(
+fn run<F: StreamFrame, V: Service<F>, W: Peer, M: Memory>(
+    memory: &mut M,
     wire: &mut W,
     decoder: &mut FrameDecoder<F>,
     service: &mut V,
@@ -109,9 +125,14 @@ fn run<F: StreamFrame, V: Service<F>, W: Peer>(
         (W.left wire.old) (W.left wire.new) (W.held wire.old) (W.held wire.new)
         (Rose (W.read_faults wire.old) (W.read_faults wire.new))
         (Rose (W.write_faults wire.old) (W.write_faults wire.new)) result }
+    ensures no_memory { result ≡ Served.NoMemory
+        → Rose (M.refusals memory.old) (M.refusals memory.new)
+        ⊎ EndsSettingUp F.framing decoder.old.place V.sets_up (length piece.old)
+        (W.left wire.old) (W.left wire.new) }
     ensures becomes { W.becomes wire.old wire.new }
     ensures source_count { W.read_faults wire.old ≤ W.read_faults wire.new }
     ensures sink_count { W.write_faults wire.old ≤ W.write_faults wire.new }
+    ensures memory_count { M.refusals memory.old ≤ M.refusals memory.new }
 {
     F::is_framing();
     let mut taken = 0;
@@ -123,14 +144,14 @@ fn run<F: StreamFrame, V: Service<F>, W: Peer>(
         if count == 0 {
             let rest = decoder.rest();
             if rest > 0 {
-                return refuse(wire, out, (taken - rest) as u64);
+                return refuse(memory, wire, out, (taken - rest) as u64);
             }
             return Served::Done;
         }
         taken += count;
-        match take_piece(decoder, service, &piece[..count], out) {
+        match take_piece(decoder, service, memory, &piece[..count], out) {
             Ok(()) => {}
-            Err(DecodeFault::Bad { at }) => return refuse(wire, out, at),
+            Err(DecodeFault::Bad { at }) => return refuse(memory, wire, out, at),
             Err(DecodeFault::NoMemory) => return Served::NoMemory,
         }
         if flush(wire, out).is_err() {
@@ -142,9 +163,10 @@ fn run<F: StreamFrame, V: Service<F>, W: Peer>(
 
 /// Serves a stream of frames from a place on: takes one after the other, and appends the answers of the service to the sink. The
 /// answers to a piece of the stream are written before the next piece is read into `piece`, which has at most 65,536 bytes. The
-/// memory that is taken beside it is bounded by a piece, a frame and its answers, and not by the stream.
-pub fn serve_peer<F: StreamFrame, V: Service<F>, W: Peer>(
+/// memory that is asked for beside it is bounded by a piece, a frame and its answers, and not by the stream.
+pub fn serve_peer<F: StreamFrame, V: Service<F>, W: Peer, M: Memory>(
     alloc: Global,
+    memory: &mut M,
     wire: &mut W,
     place: F::Place,
     service: &mut V,
@@ -172,12 +194,19 @@ pub fn serve_peer<F: StreamFrame, V: Service<F>, W: Peer>(
         (W.left wire.old) (W.left wire.new) (W.held wire.old) (W.held wire.new)
         (Rose (W.read_faults wire.old) (W.read_faults wire.new))
         (Rose (W.write_faults wire.old) (W.write_faults wire.new)) result }
+
+    // Want of memory ends it only where memory was refused, but within the piece in which a frame sets the service up.
+    ensures no_memory { result ≡ Served.NoMemory
+        → Rose (M.refusals memory.old) (M.refusals memory.new)
+        ⊎ EndsSettingUp F.framing place V.sets_up (length piece.old)
+        (W.left wire.old) (W.left wire.new) }
     ensures becomes { W.becomes wire.old wire.new }
     ensures source_count { W.read_faults wire.old ≤ W.read_faults wire.new }
     ensures sink_count { W.write_faults wire.old ≤ W.write_faults wire.new }
+    ensures memory_count { M.refusals memory.old ≤ M.refusals memory.new }
 {
     F::is_framing();
     let mut decoder = FrameDecoder::at(alloc, place);
     let mut out = Vec::new(alloc);
-    run(wire, &mut decoder, service, piece, &mut out)
+    run(memory, wire, &mut decoder, service, piece, &mut out)
 }

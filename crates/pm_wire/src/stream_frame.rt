@@ -1,10 +1,12 @@
 //! What a sort of frames has to offer, so that a decoder can take it off a stream.
 
 ghost use Rattle.std.specs.Prelude.{◌≡◌, ◌+◌, ◌∷◌, length, IfOk, Some};
+ghost use Rattle.pm_io.specs.Causes.{HasCause};
 ghost use Rattle.pm_wire.specs.Framing.{Framing, IsFraming, MayStand};
 ghost use Rattle.pm_wire.specs.Spelling.{IsOne};
 
-use std::alloc::{AllocError, Global};
+use pm_io::Memory;
+use std::alloc::AllocError;
 
 /// A sort of frames that stand one behind the other in a stream of bytes. The first byte of a frame tells its kind, and the
 /// kind how many bytes it has.
@@ -21,16 +23,17 @@ pub trait StreamFrame: Drop {
         ensures { result ≡ framing.size_at place kind };
 
     /// Reads the fields of a frame of this kind from the bytes behind the first one: the frame, or None where a field is
-    /// refused.
-    fn read(
-        alloc: Global,
+    /// refused. What it holds is asked of this memory.
+    fn read<M: Memory>(
+        memory: &mut M,
         place: Self::Place,
         kind: u8,
         body: &[u8],
     ) -> Result<Option<Self>, AllocError>
         requires place { framing.IsPlace place }
         requires size { framing.size_at place kind ≡ Some (length body.now + 1) }
-        ensures { IfOk result (IsOne framing place (kind ∷ body.now)) };
+        ensures one { IfOk result (IsOne framing place (kind ∷ body.now)) }
+        ensures cause { HasCause (M.refusals memory.old) (M.refusals memory.new) result };
 
     /// The place after the frame, which may stand at this one.
     fn place_after(&self, place: Self::Place) -> Self::Place

@@ -23,6 +23,8 @@ mod root;
 #[cfg(test)]
 mod same;
 #[cfg(test)]
+mod scarce;
+#[cfg(test)]
 mod session;
 #[cfg(test)]
 mod shared;

@@ -6,7 +6,7 @@ ghost use Rattle.test_parts.specs.Watching.{HasWhatIsDue, GetsWhatIsDue, SameByt
 
 use crate::same::same;
 use crate::wire::{STREAMS, input_of};
-use pm_io::{Failed, MemSink, MemSource, Peer, Sink, Source};
+use pm_io::{Failed, MemSink, MemSource, Peer, Sink, Source, SystemMemory};
 use pm_wire::{Served, serve_market};
 use std::alloc::Global;
 use std::test::Fail;
@@ -59,7 +59,8 @@ fn serve_watched(alloc: Global, watch: &mut Watch) -> Served
     requires fresh { watch.old.source.left ≡ watch.old.bytes.items }
     requires empty { watch.old.sink.held ≡ [] }
 {
-    serve_market(alloc, watch)
+    let mut memory = SystemMemory::new(alloc);
+    serve_market(alloc, &mut memory, watch)
 }
 
 /// A peer that asks at each moment for all that is due is served as any other, one byte a read and one a write.

@@ -4,7 +4,7 @@ ghost use Rattle.std.specs.Prelude.{◌≡◌, ◌+◌, ◌≤◌, length};
 
 use crate::same::same;
 use crate::shared::may_be_shared;
-use pm_io::{MemSink, MemSource, Wire};
+use pm_io::{MemSink, MemSource, SystemMemory, Wire};
 use pm_wire::{
     DecodeFault, Decoder, Frame, FrameDecoder, Reply, Served, Server, frames_given_are_those_fed,
     serve, serve_peer, the_greatest_number_counts,
@@ -214,8 +214,10 @@ fn serves_by_bytes(
         source: &mut source,
         sink: &mut sink,
     };
-    let ended = serve_peer::<Frame, Server, Wire<'_, MemSource, MemSink>>(
+    let mut memory = SystemMemory::new(alloc);
+    let ended = serve_peer::<Frame, Server, Wire<'_, MemSource, MemSink>, SystemMemory>(
         alloc,
+        &mut memory,
         &mut wire,
         None,
         &mut server,

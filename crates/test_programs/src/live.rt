@@ -2,7 +2,7 @@
 
 ghost use Rattle.std.specs.Prelude.{◌≤◌};
 
-use pm_io::{MemSink, MemSource};
+use pm_io::{MemSink, MemSource, SystemMemory};
 use pm_live::{Ending, live};
 use pm_wire::Served;
 use std::alloc::{AllocError, Global};
@@ -270,7 +270,8 @@ fn must_serve<R: Abort>(rt: &R, alloc: Global, row: &Row, piece: usize) -> Resul
     let words = words_of(alloc, line)?;
     let mut source = MemSource::new(joined(alloc, input)?, piece, Vec::new(alloc));
     let mut sink = MemSink::new(alloc, 1_048_576, piece, Vec::new(alloc))?;
-    let ended = live(alloc, &words, &mut source, &mut sink);
+    let mut memory = SystemMemory::new(alloc);
+    let ended = live(alloc, &mut memory, &words, &mut source, &mut sink);
     let due = joined(alloc, due)?;
     assert_eq!(rt;
         (ended, sink.bytes()),

@@ -10,14 +10,14 @@ use Rattle.pm_frames.proofs.OneOffer.{points_more, fit_more, pushed_wide}
 use Rattle.pm_frames.proofs.offer.read_point_list.Goals as goal
 
 pub loop-point-preserved : goal.loop-point-preserved
-loop-point-preserved c =
+loop-point-preserved g c =
     let price = c.read_i32-price.result.0 in
     let middle = c.read_i32-price.result.1.now in
     let demand = c.read_i32-demand.result.0 in
     let after = c.read_i32-demand.result.1.now in
     let before : List Point = c.loop-point.points.items in
     let pushed : c.push.new.self.items ≡ before ++ (price, demand) ∷ [] =
-    pushed_wide before _ price demand c.read_i32-price.ensures.fits c.read_i32-demand.ensures.fits c.in_ok-push.ensures.items in
+    pushed_wide before _ price demand c.read_i32-price.ensures.fits c.read_i32-demand.ensures.fits c.in-Ok.ensures.items in
     let first : length c.loop-point.rest.now ≡ 4 + length middle = ap length c.read_i32-price.ensures.bytes ∙ length-append (signed_bytes price) middle in
     let second : length middle ≡ 4 + length after = ap length c.read_i32-demand.ensures.bytes ∙ length-append (signed_bytes demand) after in
     record {
@@ -27,7 +27,9 @@ loop-point-preserved c =
       fit = subst (λ l. AllByRecursion PointFits l) (sym pushed)
           (fit_more before (price, demand) c.loop-point.invariant.fit (c.read_i32-price.ensures.fits, c.read_i32-demand.ensures.fits));
       count = ap length pushed ∙ omega (arith, length-append before ((price, demand) ∷ []), c.loop-point.invariant.count);
+      filled = omega (arith, c.in-Ok.ensures.len, c.loop-point.invariant.filled);
+      room = omega (arith, c.in-Ok.ensures.capacity, c.loop-point.invariant.room);
     }
 
 pub returns-clause-bytes : goal.returns-clause-bytes
-returns-clause-bytes c = grind (arith, common_steps)
+returns-clause-bytes g c = grind (arith, common_steps)

@@ -1,7 +1,7 @@
--- Of `live_peer`: its clauses `serves`, `process` and `due`.
-use Rattle.std.proofs.Common.{◌≡◌, refl, subst}
+-- Of `live_peer`: its clauses `serves`, `process`, `due` and `no_memory`.
+use Rattle.std.proofs.Common.{◌≡◌, ◌⊎◌, refl, subst}
 use Rattle.pm_io.specs.Causes.{Rose}
-use Rattle.pm_live.specs.Serving.{ServesNode, EndsNodeAsDue}
+use Rattle.pm_live.specs.Serving.{ServesNode, EndsNodeAsDue, EndsNodeSettingUp}
 use Rattle.pm_live.specs.declared.named.LiveNode.{LiveNode}
 use Rattle.pm_live.proofs.OneNode.{one_node}
 use Rattle.pm_live.proofs.Processes.{served_process}
@@ -29,3 +29,10 @@ returns-in-Some-clause-due g c = λ node all named told.
     (Rose (g.W.Peer.read_faults c.args.wire.now) (g.W.Peer.read_faults c.serve_named.new.wire))
     (Rose (g.W.Peer.write_faults c.args.wire.now) (g.W.Peer.write_faults c.serve_named.new.wire)) c.serve_named.result in
     (c.serve_named.result, refl, subst P same (c.serve_named.ensures.due all told))
+
+pub returns-in-Some-clause-no_memory : goal.returns-in-Some-clause-no_memory
+returns-in-Some-clause-no_memory g c = λ node named ended.
+    let same : c.in-Some.node ≡ node = one_node _ c.in-Some.node node c.in-Some.ensures.named named in
+    let P : LiveNode → Type 0 = λ it. Rose (g.M.Memory.refusals c.args.memory.now) (g.M.Memory.refusals c.serve_named.new.memory)
+    ⊎ EndsNodeSettingUp it (g.W.Peer.left c.args.wire.now) (g.W.Peer.left c.serve_named.new.wire) in
+    subst P same (c.serve_named.ensures.no_memory (cc ended))

@@ -8,7 +8,7 @@ use Rattle.pm_wire.proofs.OneField.{demands_more, fit_more, wide}
 use Rattle.pm_wire.proofs.number_fields.read_demands.Goals as goal
 
 pub loop-place-preserved : goal.loop-place-preserved
-loop-place-preserved c =
+loop-place-preserved g c =
     let demand = c.read_i32-demand.result.0 in
     let step = c.loop-place.place-index in
     let passed = take step c.loop-place.place-items in

@@ -8,6 +8,7 @@ invariant-loop-frame g l = record {
   taken : TakesSome g.F.StreamFrame.framing g.V.Service.answers l.fn.decoder l.decoder l.fn.service l.service l.fn.out.items l.out.items;
   answers : length l.out.items + g.V.Service.most_answers * length l.decoder.rest
       ≤ length l.fn.out.items + g.V.Service.most_answers * length l.fn.decoder.rest;
+  refusals : g.M.Memory.refusals l.fn.memory ≤ g.M.Memory.refusals l.memory;
 }
 
 abbrev pub decreases-loop-frame : goal.decreases-loop-frame

@@ -1,9 +1,11 @@
--- Of `run`: its clause `ends`; what the calls of `read`, `take_piece`, `flush` and `refuse` require; the turns of its loop over `taken`.
-use Rattle.std.proofs.Common.{◌∙◌, sym, ap, refl, arith, length}
+-- Of `run`: its clauses `ends` and `no_memory`; what the calls of `read`, `take_piece`, `flush` and `refuse` require; the turns of its loop over `taken`.
+use Rattle.std.proofs.Common.{rules, ◌∙◌, sym, ap, refl, arith, length}
+use Rattle.std.proofs.lemmas.List.{length-take}
 use Rattle.pm_wire.proofs.Taking.{follows_agrees}
 use Rattle.pm_wire.proofs.Ending.{bad_refused, bad_cut_short, begun_by, piece_cut_short, serving_none, serving_more, end_refused, end_cut_short, none_read}
 use Rattle.pm_wire.proofs.Ending.{rose_later, failed, not_failed, told_text, told_prefix, told_proper, refuse_ends}
 use Rattle.pm_wire.proofs.Ending.{may_write_all, bad_next, piece_next, end_next, answered_all, serving_held, serving_left, ends_at, cut_at, told_due}
+use Rattle.pm_wire.proofs.SettingUp.{wants_first, ends_at_piece}
 use Rattle.pm_wire.proofs.stream.run.Goals as goal
 
 pub loop-taken-init : goal.loop-taken-init
@@ -18,6 +20,7 @@ loop-taken-init g c =
       becomes = g.met.W.Peer.stays _;
       source_count = omega arith;
       sink_count = omega arith;
+      refusals = omega arith;
     }
 
 pub read-requires : goal.read-requires
@@ -142,4 +145,14 @@ loop-taken-preserved g c =
       becomes = g.met.W.Peer.goes_on _ _ _ kept.becomes (g.met.W.Peer.goes_on _ _ _ c.read.ensures.becomes c.flush.ensures.becomes);
       source_count = omega (arith, kept.source_count, c.in-Ok.ensures.cause.later, c.flush.ensures.read_faults);
       sink_count = omega (arith, kept.sink_count, c.read.ensures.write_faults, c.flush.ensures.count);
+      refusals = omega (arith, kept.refusals, c.take_piece.ensures.count);
     }
+
+pub returns-in-Err-NoMemory-clause-no_memory : goal.returns-in-Err-NoMemory-clause-no_memory
+returns-in-Err-NoMemory-clause-no_memory g c = λ is.
+    let framing = g.F.StreamFrame.framing in
+    let kept = c.loop-taken.invariant in
+    wants_first _ _ _ _ _ kept.refusals
+    (λ stops. ends_at_piece framing _ _ _ _ _ _ _ _ _ _ _ _ _ _ _ kept.serving c.in-Ok.ensures.bytes.0
+    (omega (arith, length-take c.in-Ok.count c.read.new.buf, c.loop-taken.auto.piece, c.read.auto.buf)) stops)
+    (c.take_piece.ensures.no_memory (search rules))

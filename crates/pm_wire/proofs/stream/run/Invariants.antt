@@ -15,6 +15,7 @@ invariant-loop-taken g l = record {
   becomes : g.W.Peer.becomes l.initial.wire l.wire;
   source_count : g.W.Peer.read_faults l.initial.wire ≤ g.W.Peer.read_faults l.wire;
   sink_count : g.W.Peer.write_faults l.initial.wire ≤ g.W.Peer.write_faults l.wire;
+  refusals : g.M.Memory.refusals l.initial.memory ≤ g.M.Memory.refusals l.memory;
 }
 
 abbrev pub decreases-loop-taken : goal.decreases-loop-taken

@@ -3,4 +3,4 @@ use Rattle.pm_services.proofs.DeviceFrames.{taken_small}
 use Rattle.pm_services.proofs.device.DeviceServiceServiceDeviceFrame.answer.Goals as goal
 
 pub take-requires-clause-small : goal.take-requires-clause-small
-take-requires-clause-small c = taken_small _ _ c.requires
+take-requires-clause-small g c = taken_small _ _ c.requires

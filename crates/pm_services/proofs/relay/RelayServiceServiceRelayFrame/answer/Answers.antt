@@ -21,12 +21,12 @@ answered_before service frame child new closed is answers = record {
 }
 
 pub take-requires-clause-stands : goal.take-requires-clause-stands
-take-requires-clause-stands c =
+take-requires-clause-stands g c =
     subst (λ known. MayStandWithSteps (steps_known known) c.args.frame.now)
     (sym (ap (λ (service : RelayServiceValue). service.relay) c.self.view_is) ∙ c.in-Some.is) (relay_stands c.args.self.now c.args.frame.now c.requires)
 
 pub returns-in_ok-new-clause-taken : goal.returns-in_ok-new-clause-taken
-returns-in_ok-new-clause-taken c =
+returns-in_ok-new-clause-taken g c =
     let old : RelayServiceValue = record { child = c.self.inside.child; terms = c.self.inside.terms; relay = c.self.inside.relay } in
     let hello : c.in-Child-Hello.field-0 ≡ Hello c.in-Child-Hello.basis = rw c.in-Child-Hello.is at c.in-Child-Hello.field-0-is in
     let answers = subst (λ (child : Frame). AnswersClosed old.child old.terms (Child child) (Some c.in_ok-new.field-0) []) (sym hello)

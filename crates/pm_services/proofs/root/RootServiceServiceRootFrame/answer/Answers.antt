@@ -11,7 +11,7 @@ use Rattle.pm_services.proofs.RootPlaces.{known_stands}
 use Rattle.pm_services.proofs.root.RootServiceServiceRootFrame.answer.Goals as goal
 
 pub take-requires-clause-stands : goal.take-requires-clause-stands
-take-requires-clause-stands c =
+take-requires-clause-stands g c =
     subst (λ (known : Option OpenRoot). MayStandWithSteps (steps_known known) c.args.frame.now) (sym c.self.view_is ∙ c.in-Some.is)
     (known_stands c.args.self.now c.args.frame.now c.requires)
 
@@ -23,7 +23,7 @@ answered_before service frame first new closed is answers =
     (subst (λ (it : RootFrame). AnswersClosedRoot it (Some new) []) (sym is) answers)
 
 pub returns-in_ok-new-clause-taken : goal.returns-in_ok-new-clause-taken
-returns-in_ok-new-clause-taken c =
+returns-in_ok-new-clause-taken g c =
     let hello : c.in-Market-Hello.field-0 ≡ Hello c.in-Market-Hello.basis = rw c.in-Market-Hello.is at c.in-Market-Hello.field-0-is in
     let answers = subst (λ (first : Frame). AnswersClosedRoot (Market first) (Some c.in_ok-new.field-0) []) (sym hello) (c.in_ok-new.ensures.opens, refl) in
     record {

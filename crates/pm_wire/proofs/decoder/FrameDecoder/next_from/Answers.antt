@@ -1,4 +1,4 @@
--- Of `FrameDecoder::next`: its clauses `gives`, `waits`, `refuses` and 3 more; what the type keeps.
+-- Of `FrameDecoder::next_from`: its clauses `gives`, `waits`, `refuses` and 3 more; what the type keeps.
 use Rattle.std.proofs.Common.{◌≡◌, ◌∙◌, ◌-◌, ap, sym, subst, List, ℕ, inl, Ok, Some, length, take, drop, refl}
 use Rattle.std.proofs.lemmas.List.{take_rest}
 use Rattle.pm_wire.specs.Framing.{Framing, BeginsBadly}
@@ -6,7 +6,7 @@ use Rattle.pm_wire.specs.Decoding.{Decoding}
 use Rattle.pm_wire.specs.Readings.{IsReading}
 use Rattle.pm_wire.specs.declared.front_frame.Reading.{Reading}
 use Rattle.pm_wire.proofs.Places.{whole_not_bad, whole_not_unfinished, bad_not_unfinished, whole_same}
-use Rattle.pm_wire.proofs.decoder.FrameDecoder.next.Goals as goal
+use Rattle.pm_wire.proofs.decoder.FrameDecoder.next_from.Goals as goal
 
 -- what was read stands at the front of the bytes left
 read_at : {P F : Type 0} (framing : Framing P F) (old new : Decoding P) (buffer bytes : List ℕ) (start : ℕ) (was is : Reading F) → old ≡ new →
@@ -30,35 +30,35 @@ returns-then-self-clause-waits g c =
 
 pub returns-in-Whole-clause-gives : goal.returns-in-Whole-clause-gives
 returns-in-Whole-clause-gives g c = λ frame more stands e.
-    let whole = read_at g.F.StreamFrame.framing _ _ _ _ _ _ _ c.self.view_is refl c.deref.ensures.value c.in-Whole.is c.in_ok-frame.ensures in
+    let whole = read_at g.F.StreamFrame.framing _ _ _ _ _ _ _ c.self.view_is refl c.deref.ensures.value c.in-Whole.is c.in_ok-frame.ensures.reading in
     inl (ap (λ f. Ok (Some f)) (whole_same _ c.is_framing.ensures _ _ _ _ _ _ whole.stands stands whole.spelled e).0)
 
 pub returns-in-Whole-clause-waits : goal.returns-in-Whole-clause-waits
 returns-in-Whole-clause-waits g c = λ unfinished.
-    let whole = read_at g.F.StreamFrame.framing _ _ _ _ _ _ _ c.self.view_is refl c.deref.ensures.value c.in-Whole.is c.in_ok-frame.ensures in
+    let whole = read_at g.F.StreamFrame.framing _ _ _ _ _ _ _ c.self.view_is refl c.deref.ensures.value c.in-Whole.is c.in_ok-frame.ensures.reading in
     absurd (whole_not_unfinished _ c.is_framing.ensures _ _ _ _ whole.stands whole.spelled unfinished)
 
 pub returns-in-Whole-clause-refuses : goal.returns-in-Whole-clause-refuses
 returns-in-Whole-clause-refuses g c = λ bad.
-    let whole = read_at g.F.StreamFrame.framing _ _ _ _ _ _ _ c.self.view_is refl c.deref.ensures.value c.in-Whole.is c.in_ok-frame.ensures in
+    let whole = read_at g.F.StreamFrame.framing _ _ _ _ _ _ _ c.self.view_is refl c.deref.ensures.value c.in-Whole.is c.in_ok-frame.ensures.reading in
     absurd (whole_not_bad _ c.is_framing.ensures _ _ _ _ whole.stands whole.spelled bad)
 
 pub returns-in-Unfinished-clause-gives : goal.returns-in-Unfinished-clause-gives
 returns-in-Unfinished-clause-gives g c = λ frame more stands e.
     absurd (whole_not_unfinished _ c.is_framing.ensures _ _ _ _ stands e
-    (read_at g.F.StreamFrame.framing _ _ _ _ _ _ _ c.self.view_is refl c.deref.ensures.value c.in-Unfinished.is c.in_ok-frame.ensures))
+    (read_at g.F.StreamFrame.framing _ _ _ _ _ _ _ c.self.view_is refl c.deref.ensures.value c.in-Unfinished.is c.in_ok-frame.ensures.reading))
 
 pub returns-in-Unfinished-clause-refuses : goal.returns-in-Unfinished-clause-refuses
 returns-in-Unfinished-clause-refuses g c = λ bad.
     absurd (bad_not_unfinished _ c.is_framing.ensures _ _ bad
-    (read_at g.F.StreamFrame.framing _ _ _ _ _ _ _ c.self.view_is refl c.deref.ensures.value c.in-Unfinished.is c.in_ok-frame.ensures))
+    (read_at g.F.StreamFrame.framing _ _ _ _ _ _ _ c.self.view_is refl c.deref.ensures.value c.in-Unfinished.is c.in_ok-frame.ensures.reading))
 
 pub returns-in-Bad-clause-gives : goal.returns-in-Bad-clause-gives
 returns-in-Bad-clause-gives g c = λ frame more stands e.
     absurd (whole_not_bad _ c.is_framing.ensures _ _ _ _ stands e
-    (read_at g.F.StreamFrame.framing _ _ _ _ _ _ _ c.self.view_is refl c.deref.ensures.value c.in-Bad.is c.in_ok-frame.ensures))
+    (read_at g.F.StreamFrame.framing _ _ _ _ _ _ _ c.self.view_is refl c.deref.ensures.value c.in-Bad.is c.in_ok-frame.ensures.reading))
 
 pub returns-in-Bad-clause-waits : goal.returns-in-Bad-clause-waits
 returns-in-Bad-clause-waits g c = λ unfinished.
     absurd (bad_not_unfinished _ c.is_framing.ensures _ _
-    (read_at g.F.StreamFrame.framing _ _ _ _ _ _ _ c.self.view_is refl c.deref.ensures.value c.in-Bad.is c.in_ok-frame.ensures) unfinished)
+    (read_at g.F.StreamFrame.framing _ _ _ _ _ _ _ c.self.view_is refl c.deref.ensures.value c.in-Bad.is c.in_ok-frame.ensures.reading) unfinished)
