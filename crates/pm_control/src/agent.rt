@@ -22,7 +22,7 @@ const PLACES: usize = WINDOW_SIZE as usize + 1;
 
 /// The agent of a device.
 ///
-/// It gives each second number: the one after each is its parent's, which counts the device as gone under it.
+/// It gives every second number. The number after each is its parent's: under it the parent counts the device as gone.
 ///
 /// Contracts see the number given last, the number answered last, the offers that are kept, and the index of the last price.
 #[derive(Drop)]
@@ -95,7 +95,7 @@ impl ControlAgent {
         }
     }
 
-    /// Gives the offer of this demand the second number after the last, which is the answer, and keeps it. A fault comes exactly for its
+    /// Keeps an offer of this demand under the second number after the last, which is the answer. A fault comes exactly for its
     /// cause, and nothing changes then.
     pub fn offer(&mut self, demand: ArrayBid) -> Result<u32, OfferFault>
         ensures may { IfOk result (λ _. (may_offer self.old ≡ true) × HasNumbers self.old) }
@@ -118,9 +118,8 @@ impl ControlAgent {
         Ok(number)
     }
 
-    /// Gives leaving the second number after the last, which is the answer. No offer before it counts any more. None comes
-    /// exactly where no such number is left with one for the parent after it. No offer takes the last, so a device can always
-    /// leave once.
+    /// Leaves under the second number after the last, which is the answer. No offer before it counts any more. None comes exactly
+    /// if no such number is left with one for the parent after it. No offer takes the last one, so a device can always leave once.
     pub fn leave(&mut self) -> Option<u32>
         ensures answer { MatchOption result (HasNumber self.old → ⊥)
             (λ number. HasNumber self.old × (number ≡ self.old.number + 2)) }
@@ -136,10 +135,10 @@ impl ControlAgent {
         Some(self.number)
     }
 
-    /// Takes it that the parent keeps this number of the device. Where it is above the last one that the agent gave, the parent
-    /// let the device go. Then the agent leaves, of which nothing is sent, and makes its newest offer anew, whose number is the
-    /// answer. None comes if the number is not above the last one, if the device offers nothing, or if no numbers are left;
-    /// nothing changes then.
+    /// Hears that the parent keeps this number of the device. If it is above the last one that the agent gave, the parent let the
+    /// device go. Then the agent leaves without sending that, and makes its newest offer anew, whose number is the answer. None
+    /// comes if the number is not above the last one, if the device offers nothing, or if no numbers are left; nothing changes
+    /// then.
     pub fn take_old(&mut self, kept: u32) -> Option<u32>
         ensures after { self.new ≡ after_old self.old kept }
         ensures answer { MatchOption result (self.new ≡ self.old)

@@ -159,9 +159,9 @@ impl Relay {
         answer
     }
 
-    /// Lets a child go that is a device: it counts as gone from now on, under the number that is the answer. This is the odd
-    /// number that is not below the newest one known of the child, be it heard or in the newest bid. The child gives even
-    /// numbers alone; so it is of no bid, and the child's next bid is newer. A child that is a relay is never let go.
+    /// Lets go of a child that is a device: it counts as gone from now on, under the number that is the answer. This is the
+    /// first odd number not below the newest number known of the child, whether heard or in the newest bid. A device gives
+    /// even numbers alone, so no bid has this number, and the device's next bid is newer. A relay is never let go.
     pub fn expire(&mut self, child: usize) -> u32
         requires child { child < most_nodes }
         ensures number { result ≡ parents_number (known_number self.old.recorded
@@ -250,8 +250,8 @@ impl Relay {
         self.concentrator.learn(child, number, demand)
     }
 
-    /// Makes what was heard the record of the newest bid again, where that record was lost and each child's number is the one
-    /// in it.
+    /// If the record of the newest bid was lost, and each child's number is the one in it, what was heard becomes this record
+    /// again.
     fn look_for_record(&mut self)
         ensures { LooksForRecord self.old self.new }
     {
@@ -372,8 +372,8 @@ impl Relay {
         1 <= number && self.answered <= number && number <= self.last()
     }
 
-    /// What a price is for each child that is not gone in the record of the number that the price names: the price with the
-    /// child's number in that record, and the step for which the relay settles by the record's sum and limits.
+    /// The prices for the children, by the record of the number that the price names. Each child that is not gone in this record
+    /// gets the number that it has there, and the step for which the relay settles by the record's sum and limits.
     pub fn prices(&self, price: PriceUpdate) -> Prices<'_>
         requires record { HasRecord self.now price.number }
         requires step { price.step < self.now.gathered.cache.steps }

@@ -153,7 +153,7 @@ impl Window {
         self.last = number;
     }
 
-    /// The record of a number that is kept. The older records are dropped, this one is kept.
+    /// Notes that a number is answered, and gives its record, which is kept. The older records are dropped, this one stays.
     pub fn answered(&mut self, number: u32) -> &Record
         requires kept { Keeps self.old number }
 

@@ -181,7 +181,7 @@ pub fn market<R: Threads + Wait + Sync, S: Source, K: Sink, G: Gate>(
     sink: &mut K,
     gate: &G,
 ) -> Status
-    // Done, Invalid, Usage, TooLong and Refused come only where their causes stand, and their texts are appended, whole.
+    // Done, Invalid, Usage, TooLong and Refused come only if their causes hold, and their texts are appended, whole.
     ensures written { WroteItsText (command (map string_bytes arguments.now))
         (S.left source.old) (S.left source.new) (K.held sink.old) (K.held sink.new) result }
 
@@ -196,32 +196,32 @@ pub fn market<R: Threads + Wait + Sync, S: Source, K: Sink, G: Gate>(
         (S.left source.new) text
         × Appends (K.held sink.old) (K.held sink.new) text }
 
-    // The two faults come only where a count rose.
+    // The two faults come only if a count rose.
     ensures read_fault { result ≡ Status.ReadFault →
         Rose (S.faults source.old) (S.faults source.new) }
     ensures write_fault { result ≡ Status.WriteFault →
         Rose (K.faults sink.old) (K.faults sink.new) }
 
-    // What a failure leaves in the sink: all as it was, or a part of the text due; but for a service, which writes while it reads.
+    // What a failure leaves in the sink, except for a service, which writes while it reads: all as it was, or a part of the text due.
     ensures fails { FailsCleanly K.held (command (map string_bytes arguments.now))
         (S.left source.old) (S.left source.new) sink.old sink.new result }
 
-    // Nothing is read but for a file or a service.
+    // Nothing is read except for a file or a service.
     ensures reads_nothing { ((asked : FileCommand) →
         command (map string_bytes arguments.now) ≢ Some (Command.File asked))
         → command (map string_bytes arguments.now) ≢ Some Command.Serve → source.new ≡ source.old }
 
-    // Where the cause of Usage, TooLong, Refused or Invalid stands, and the source tells what it has, this is the answer, or a
-    // fault or an allocation failure.
+    // If the cause of Usage, TooLong, Refused or Invalid holds, and the source tells what it has, this is the answer, or a fault
+    // or an allocation failure.
     ensures by_cause { EndsByCause (command (map string_bytes arguments.now))
         (S.left source.old) (S.left source.new) (K.held sink.old) (K.held sink.new) result }
 
-    // With no fault of either the answer is what the arguments and the input say, or an allocation failed.
+    // If neither the source nor the sink failed, the answer is what the arguments and the input say, or an allocation failed.
     ensures complete { EndsWithoutFault (command (map string_bytes arguments.now))
         (S.left source.old) (Rose (S.faults source.old) (S.faults source.new))
         (Rose (K.faults sink.old) (K.faults sink.new)) result }
 
-    // A service ends as its status says; which status that is follows from what the source has, but for a failure.
+    // A service ends as its status says. The status follows from what the source has, except for a failure.
     ensures served { command (map string_bytes arguments.now) ≡ Some Command.Serve
         → ServesBids (S.left source.old) (S.left source.new) (K.held sink.old)
         (K.held sink.new) (Rose (S.faults source.old) (S.faults source.new))

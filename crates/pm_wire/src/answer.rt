@@ -31,8 +31,8 @@ pub enum Reply {
 }
 
 impl Reply {
-    /// Appends the bytes of the answer. Where an allocation fails nothing is appended. That comes only where there was no
-    /// room for them.
+    /// Appends the bytes of the answer. If an allocation fails, nothing is appended. This happens only if there was no room
+    /// for them.
     pub fn write(&self, out: &mut Vec<u8>) -> Result<(), AllocError>
         ensures written { OnOk result (out.new.items ≡ out.old.items ++ answer_bytes self.now) }
         ensures unchanged { OnErr result (out.new.items ≡ out.old.items) }

@@ -24,8 +24,9 @@ const PIECE: usize = 16_384;
 /// What is written on Done and Refused is a function of the bytes that the peer had, however it cut them
 /// ([`replies_are_of_the_bytes`](crate::replies_are_of_the_bytes)).
 pub fn serve_market<W: Peer, M: Memory>(alloc: Global, memory: &mut M, wire: &mut W) -> Served
-    // At each read all whole frames of the bytes taken were answered, and at each write what was written, with what is written
-    // now, is what is due for them. A peer may ask for what follows from that, whether the call returns or not.
+    // At each read, all whole frames of the bytes taken were answered. At each write, what was written before and what is
+    // written now are together what is due for these frames. A peer may ask for what follows from that, whether the call
+    // returns or not.
     requires { AsksWhatIsDue W.left W.held W.becomes W.may_read W.may_write bid_framing None
         AreReplies wire.old }
 
@@ -35,7 +36,7 @@ pub fn serve_market<W: Peer, M: Memory>(alloc: Global, memory: &mut M, wire: &mu
         (Rose (W.read_faults wire.old) (W.read_faults wire.new))
         (Rose (W.write_faults wire.old) (W.write_faults wire.new)) result }
 
-    // Where the source tells what it has, that says how it ends, but for a failure.
+    // If the source tells what it has, this decides how the service ends, except for a failure.
     ensures due { (all : List ℕ) → W.left wire.old ≡ Some all →
         EndsAsDue bid_framing None AreReplies all
         (W.left wire.old) (W.left wire.new) (W.held wire.old) (W.held wire.new)
@@ -65,7 +66,7 @@ pub fn serve<S: Source, K: Sink>(alloc: Global, source: &mut S, sink: &mut K) ->
         (Rose (S.faults source.old) (S.faults source.new))
         (Rose (K.faults sink.old) (K.faults sink.new)) result }
 
-    // Where the source tells what it has, that says how it ends, but for a failure.
+    // If the source tells what it has, this decides how the service ends, except for a failure.
     ensures due { (all : List ℕ) → S.left source.old ≡ Some all →
         EndsAsDue bid_framing None AreReplies all
         (S.left source.old) (S.left source.new) (K.held sink.old) (K.held sink.new)

@@ -69,10 +69,10 @@ fn read_hello(body: &[u8]) -> Option<Frame>
     }
 }
 
-/// Makes the bid the demands that these bytes are, four bytes each, and tells whether they may be
-/// one: no demand is above the one before, and each is within the limit of a demand.
+/// Fills the bid with the demands of these bytes, four bytes each, and tells whether they are a
+/// bid: no demand is above the one before, and each is within the limit of a demand.
 ///
-/// One pass finds both: where no demand is above the one before, the first is the greatest and the
+/// One pass finds both: if no demand is above the one before, the first is the greatest and the
 /// last the least.
 fn fill(bid: &mut ArrayBid, bytes: &[u8]) -> bool
     requires { length bytes.now ≡ 4 * length bid.old }

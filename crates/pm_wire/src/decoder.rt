@@ -19,8 +19,8 @@ use std::marker::Model;
 ///
 /// Contracts see how many bytes the frames given have, the place behind them (as before Hello, or behind a Hello of so many
 /// steps), the bytes fed that belong to no frame given, whether a bad frame was told, and how many bytes are in memory.
-/// Bytes of frames given are let go, so that at no time more than half of the bytes in memory are of these, and each byte is
-/// copied a bounded number of times, however the stream is cut.
+/// Bytes of frames given are let go: at no time are they more than half of the bytes in memory. Each byte is copied a bounded
+/// number of times, however the stream is cut.
 #[derive(Drop)]
 pub struct FrameDecoder<F: StreamFrame> {
     alloc: Global,
@@ -52,8 +52,8 @@ impl<F: StreamFrame> Model for FrameDecoder<F> {
 /// The decoder of a stream of bids.
 pub type Decoder = FrameDecoder<Frame>;
 
-/// Takes the first `start` bytes off where they are at least as many as the others, so that each byte is moved at most once
-/// for each byte taken off. The answer is where the others begin now: in the first half of what is left.
+/// Takes the first `start` bytes off if they are at least as many as the others. So for each byte taken off, at most one is
+/// moved. The answer is where the others begin now: in the first half of what is left.
 fn drop_given(buffer: &mut Vec<u8>, start: usize) -> usize
     requires { start ≤ vec_len buffer.old }
     ensures rest { drop result buffer.new.items ≡ drop start buffer.old.items }
@@ -156,7 +156,7 @@ impl<F: StreamFrame> FrameDecoder<F> {
             × (self.new ≡ with_refusal self.old)) }
         ensures no_memory { result ≡ Err DecodeFault.NoMemory → self.new ≡ self.old }
 
-        // Each of these answers comes wherever its cause stands, or an allocation failed.
+        // If the cause of one of these answers holds, that answer comes, or an allocation failed.
         ensures gives { (frame : F) (more : List ℕ) → MayStand F.framing self.old.place frame
             → self.old.rest ≡ F.framing.frame_bytes frame ++ more
             → (result ≡ Ok (Some frame)) ⊎ (result ≡ Err DecodeFault.NoMemory) }
@@ -166,7 +166,7 @@ impl<F: StreamFrame> FrameDecoder<F> {
             → (result ≡ Err (DecodeFault.Bad self.old.offset))
             ⊎ (result ≡ Err DecodeFault.NoMemory) }
 
-        // A bad frame that was told once is told always.
+        // Once a bad frame was told, each later call tells it again.
         ensures always { self.old.refused ≡ true → result ≡ Err (DecodeFault.Bad self.old.offset) }
 
         // The bytes of frames given are let go, and None leaves less than a frame.

@@ -28,7 +28,7 @@ pub(crate) const REPLY_LIMIT: usize = BARE_PRICE_SIZE * MOST_NODES;
 
 /// The auctioneer once it has a basis.
 ///
-/// Contracts see the newest Bid or Gone of each child that counted, the index of the last clearing, 0 where there is none,
+/// Contracts see the newest Bid or Gone of each child that counted, the index of the last clearing, 0 if there is none,
 /// and whether a Bid or Gone counted since.
 #[derive(Drop)]
 pub(crate) struct OpenMarket {
@@ -97,7 +97,7 @@ impl OpenMarket {
         Ok(OpenMarket { auctioneer })
     }
 
-    /// Takes a child's Bid, or its Gone where there is no demand, and appends its receipt.
+    /// Takes a child's Bid, or its Gone if there is no demand, and appends its receipt.
     fn count(
         &mut self,
         child: u16,
@@ -139,7 +139,7 @@ impl OpenMarket {
         ensures full { OnErr result (vec_capacity out.old < vec_len out.old + reply_limit) }
         ensures sound { IsMarket self.new }
     {
-        // The room for the prices comes first, so that want of memory makes no clearing.
+        // The room for the prices is taken first: if memory runs out, the market is not cleared.
         out.reserve(REPLY_LIMIT)?;
         match self.auctioneer.next_clearing() {
             Ok(_cleared) => {

@@ -22,7 +22,7 @@ pub(crate) fn take_frames<F: StreamFrame, V: Service<F>, M: Memory>(
 ) -> Result<(), DecodeFault>
     requires agrees { Agrees F.framing V.begins V.answers decoder.old service.old }
     requires fits { decoder.old.offset + length decoder.old.rest < count_limit }
-    // What is in memory: fewer bytes than this when a piece was fed, and than this when its frames were taken.
+    // What is in memory: fewer than `held_limit` bytes once a piece was fed, and fewer than `rest_limit` once its frames were taken.
     requires held { decoder.old.held < held_limit F.framing.most_bytes }
     ensures rest { OnOk result (length decoder.new.rest < F.framing.most_bytes) }
     ensures held { OnOk result (decoder.new.held < rest_limit F.framing.most_bytes) }
@@ -57,7 +57,7 @@ pub(crate) fn take_piece<F: StreamFrame, V: Service<F>, M: Memory>(
     requires agrees { Agrees F.framing V.begins V.answers decoder.old service.old }
     requires fits { decoder.old.offset + length decoder.old.rest + length piece.now < count_limit }
     requires empty { length out.old.items ≡ 0 }
-    // What is in memory before a piece may be in memory behind it, and the answers to it have so many bytes at most.
+    // The bound on what is in memory before a piece holds again behind it, and the answers to it have so many bytes at most.
     requires piece { length piece.now ≤ piece_limit }
     requires rest { length decoder.old.rest < F.framing.most_bytes }
     requires held { decoder.old.held < rest_limit F.framing.most_bytes }

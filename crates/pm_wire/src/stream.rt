@@ -177,8 +177,8 @@ pub fn serve_peer<F: StreamFrame, V: Service<F>, W: Peer, M: Memory>(
     requires some { 1 ≤ length piece.old }
     requires few { length piece.old ≤ piece_limit }
 
-    // At each read all whole frames of the bytes taken were answered, and at each write what was written, with what is
-    // written now, is what is due for them: a peer that asks no more may come, and watch.
+    // At each read, all whole frames of the bytes taken were answered. At each write, what was written before and what is
+    // written now are together what is due for these frames. A peer may ask for what follows from that, and for no more.
     requires asks { AsksWhatIsDue W.left W.held W.becomes W.may_read W.may_write F.framing place
         (AnswersFrom V.answers service.old) wire.old }
 
@@ -188,7 +188,7 @@ pub fn serve_peer<F: StreamFrame, V: Service<F>, W: Peer, M: Memory>(
         (Rose (W.read_faults wire.old) (W.read_faults wire.new))
         (Rose (W.write_faults wire.old) (W.write_faults wire.new)) result }
 
-    // Where the source tells what it has, that says how it ends, but for a failure.
+    // If the source tells what it has, this decides how the service ends, except for a failure.
     ensures due { (all : List ℕ) → W.left wire.old ≡ Some all →
         EndsAsDue F.framing place (AnswersFrom V.answers service.old) all
         (W.left wire.old) (W.left wire.new) (W.held wire.old) (W.held wire.new)
