@@ -12,6 +12,7 @@ mod WorldStands
 mod Learnt
 mod LearntWorlds
 mod LettingGo
+mod LivingSteps
 mod Living
 pub mod Answering
 pub mod Carrying
