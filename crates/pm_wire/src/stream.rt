@@ -24,7 +24,7 @@ use std::alloc::Global;
 /// The most bytes of a stream.
 pub const STREAM_LIMIT: usize = 1_073_741_824;
 
-/// How many bytes a fault has.
+/// How many bytes a fault has: its kind, and the offset.
 const FAULT_SIZE: usize = 9;
 
 /// How the service of a stream ended.
