@@ -81,7 +81,6 @@ OTHER_MEANINGS = [
     ("pm_frames/specs/Kinds.antt", "the first bytes of frames"),
     ("pm_frames/src/kinds.rt", "the first bytes of frames"),
     ("pm_frames/src/limits.rt", "the bytes of frames"),
-    ("pm_wire/src/stream.rt", "the bytes of a fault"),
     ("pm_frames/src/answers.rt", "the bytes of frames"),
     ("pm_frames/src/offer.rt", "the bytes of points"),
     ("pm_frames/specs/OfferForms.antt", "the bytes of points"),

@@ -1,19 +1,12 @@
 -- What the readers of a control's frames have read.
-use Rattle.std.proofs.Common.{◌≡◌, ◌∙◌, sym, ap, subst, refl, ℕ, ◌<◌, ◌≤◌, ℤ, pos, Bool, true, false, List, [], ◌∷◌}
+use Rattle.std.proofs.Common.{◌≡◌, ◌∙◌, sym, ap, subst, refl, ℕ, ℤ, Bool, true, false, List, [], ◌∷◌}
 use Rattle.std.proofs.Common.{length, Option, Some, None, Ok, arith, FitsSigned, ◌+◌, ◌++◌, length-append}
 use Rattle.std.proofs.lemmas.List.{append-nil}
 use Rattle.std.specs.Prelude.{◌-◌, ◌==◌, nat_lt, if◌then◌else◌, Result, Err}
 use Rattle.std.specs.Int.{w32, w64, cast_signed, cast_unsigned}
 use Rattle.std.specs.List.{AllByRecursion}
-use Rattle.std.proofs.lemmas.Int.{ints}
-use Rattle.std.proofs.lemmas.Bool.Decides.{nat_tests}
-use Rattle.std.proofs.lemmas.List.Sums.{position_or_len_is}
-use Rattle.pm_base.specs.Limits.{demand_limit, IsWithin}
-use Rattle.pm_base.proofs.Ints.{not_below}
 use Rattle.pm_basis.specs.Prices.{BasisValue}
-use Rattle.pm_bid.specs.Bids.{demand_at, NeverRises, AllWithinLimit}
-use Rattle.pm_bid.specs.Checks.{checked_bid, first_rising, first_too_large, is_too_large}
-use Rattle.pm_bid.proofs.FoundStep.{first_rising_none}
+use Rattle.pm_bid.specs.Checks.{checked_bid}
 use Rattle.pm_points.specs.Points.{Point, array_of_points, max_points}
 use Rattle.pm_points.specs.Checks.{checked_points, first_price_fall, first_rise, first_large_demand, first_outside}
 use Rattle.pm_points.specs.declared.fault.PointFault.{PointFault}

@@ -1,5 +1,5 @@
 -- What a relay after Hello answers, by what the relay that it holds answers.
-use Rattle.std.proofs.Common.{◌≡◌, ◌∙◌, sym, ap, subst, refl, ℕ, ◌<◌, ◌≤◌, ℤ, List, [], ◌++◌, length, Option, None}
+use Rattle.std.proofs.Common.{◌≡◌, sym, subst, refl, ℕ, ◌<◌, ℤ, List, [], ◌++◌, Option, None}
 use Rattle.std.proofs.Common.{Some, inl, inr, arith}
 use Rattle.std.proofs.lemmas.List.{append-nil}
 use Rattle.pm_base.specs.declared.limits.Limits.{Limits}

@@ -1,5 +1,5 @@
 -- What an auctioneer after Hello answers, by what the auctioneer that it holds answers.
-use Rattle.std.proofs.Common.{◌≡◌, sym, refl, ℕ, ◌+◌, ℤ, List, [], ◌++◌, length, None, Some, inl, inr, arith}
+use Rattle.std.proofs.Common.{◌≡◌, sym, refl, ℕ, ◌+◌, ℤ, List, [], ◌++◌, None, Some, inl, inr, arith}
 use Rattle.std.proofs.lemmas.List.{append-nil}
 use Rattle.pm_relay.specs.Roots.{RootValue, RootComesBack}
 use Rattle.pm_wire.specs.declared.frame.Frame.TheVariants.{Gone, Clear}

@@ -22,7 +22,7 @@ use Rattle.pm_frames.specs.declared.relay.RelayFrame.TheVariants.{Child, Parent,
 use Rattle.pm_frames.specs.declared.relay.RelayFrame.TheVariants as given
 use Rattle.pm_frames.proofs.NodePlaces.{same_bid_place}
 use Rattle.pm_services.specs.RelaySetups.{RelaySetup}
-use Rattle.pm_services.specs.RelayAnswers.{OpenRelay, WaitingRelay, RelayServiceValue, Holds, AnswersRelayFrame, AnswersGivenIn, AnswersKeptIn}
+use Rattle.pm_services.specs.RelayAnswers.{OpenRelay, RelayServiceValue, AnswersRelayFrame, AnswersGivenIn, AnswersKeptIn}
 use Rattle.pm_services.specs.RelayAnswers.{AnswersNow, AnswersRelay, IsRelayStart}
 use Rattle.pm_services.specs.RelayStands.{steps_known, MayStandWithSteps}
 

@@ -1,14 +1,14 @@
 -- How many bytes the answers of an auctioneer have, and which prices it sends again.
-use Rattle.std.proofs.Common.{◌≡◌, ◌∙◌, sym, ap, refl, ℕ, ◌+◌, ◌≤◌, ℤ, Bool, true, false, List, [], ◌++◌}
-use Rattle.std.proofs.Common.{length, Option, Some, None, arith, length-append, append_assoc}
+use Rattle.std.proofs.Common.{◌≡◌, ◌∙◌, ap, refl, ℕ, ◌+◌, ◌≤◌, ℤ, Bool, true, false, List, [], ◌++◌}
+use Rattle.std.proofs.Common.{length, Option, arith, length-append, append_assoc}
 use Rattle.std.proofs.Common.{inl, inr}
-use Rattle.std.specs.Prelude.{◌==◌, ◌&&◌, ◌||◌, not, nat_le, if◌then◌else◌, replicate}
+use Rattle.std.specs.Prelude.{◌==◌, ◌&&◌, ◌||◌, not, nat_le, if◌then◌else◌}
 use Rattle.std.proofs.lemmas.Bool.Decides.{nat_tests}
 use Rattle.pm_base.specs.Limits.{most_nodes}
 use Rattle.pm_basis.specs.Prices.{BasisValue}
 use Rattle.pm_frames.proofs.Prices.{prices_few}
 use Rattle.pm_cache.specs.Cache.{kept_number}
-use Rattle.pm_relay.specs.Roots.{RootValue, newest_index, with_root_bid, RootComesBack, LooksForClearing, RootCleared, NotCleared}
+use Rattle.pm_relay.specs.Roots.{RootValue, newest_index, with_root_bid, LooksForClearing, RootCleared, NotCleared}
 use Rattle.pm_relay.specs.declared.fault.RootFault.{RootFault}
 use Rattle.pm_frames.specs.Stored.{StoredRoot, root_resume_bytes, root_resume_size}
 use Rattle.pm_frames.proofs.OneNumber.{length-number_bytes}

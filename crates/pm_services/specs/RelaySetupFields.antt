@@ -1,5 +1,4 @@
 -- What the fields of a relay's setup stand for, and what they keep.
-use Rattle.pm_basis.specs.Prices.{IsBasis}
 use Rattle.pm_frames.specs.Terms.{AreTerms}
 use Rattle.pm_services.specs.RelaySetups.{RelaySetup}
 use Rattle.pm_services.specs.declared.setup.RelaySetup.TheInside.{Inside}

@@ -43,9 +43,8 @@ HasNothingToSend r = (fault : SendFault) × NotSent r fault × (fault ≡ send_f
 abbrev pub HasNothingToClear : RootValue → Type 0
 HasNothingToClear r = (fault : RootFault) × NotCleared r fault × (fault ≡ root_fault.OutOfNumbers → ⊥)
 
--- Each parent holds the newest bid of its child, or the newest that it gave for it; each node took the newest price that was sent to it; the root
--- sent the price of
--- its newest clearing to each child that is not gone; and no relay has anything to send, nor the root anything to clear.
+-- Each parent holds the newest bid of its child, or the newest that it gave for it. Each node took the newest price that was sent to it. The root
+-- sent the price of its newest clearing to each child that is not gone. No relay has anything to send, nor the root anything to clear.
 pub record IsSettledSystem (lists : Lists) (numbering : Numbering) (sys : System) : Type 0 where
   pub bids : (x : ℕ) → IsNode lists x → number_made lists sys x ≤ number_held lists numbering sys x
   pub expired : (d : ℕ) → IsLeaf lists d → All (λ (bid : BidMessage). bid.number ≤ number_held lists numbering sys d) (sys.bids_sent d)

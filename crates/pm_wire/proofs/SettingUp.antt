@@ -1,6 +1,6 @@
 -- That want of memory comes only where some was refused, or where a frame sets the service up.
-use Rattle.std.proofs.Common.{◌≡◌, ◌∙◌, sym, ap, subst, ℕ, ◌<◌, ◌≤◌, List, [], ◌∷◌, ◌++◌, length, Option, append_assoc}
-use Rattle.std.proofs.Common.{inl, inr, ◌⊎◌}
+use Rattle.std.proofs.Common.{◌≡◌, ◌∙◌, sym, ap, subst, ℕ, ◌≤◌, List, [], ◌∷◌, ◌++◌, length, Option}
+use Rattle.std.proofs.Common.{append_assoc, inl, inr, ◌⊎◌}
 use Rattle.std.specs.Io.KnownBytes.{Consumes}
 use Rattle.std.proofs.KnownBytes.{Consumes-trans}
 use Rattle.std.proofs.lemmas.List.{append-nil}
@@ -25,8 +25,7 @@ begins-append framing start bytes mid rest fs gs first second = record {
 
 -- a frame that was given behind frames that were taken
 pub stops_at : {P F S : Type 0} (framing : Framing P F) (Answers : S → F → S → List ℕ → Type 0) (SetsUp : F → Type 0) (frame : F)
-    (a b c : Decoding P)
-    (m n : S) (out out' : List ℕ) → TakesSome framing Answers a b m n out out' → GivesFrame framing b frame c → SetsUp frame →
+    (a b c : Decoding P) (m n : S) (out out' : List ℕ) → TakesSome framing Answers a b m n out out' → GivesFrame framing b frame c → SetsUp frame →
     StopsSettingUp framing SetsUp a c
 stops_at {P = P} framing Answers SetsUp frame a b c m n out out' taken gives sets = record {
   frames = taken.frames;

@@ -41,3 +41,6 @@ pub const OLD_SIZE: usize = 7;
 
 /// The kind of a Fault.
 pub const FAULT: u8 = 8;
+
+/// How many bytes a fault has.
+pub const FAULT_SIZE: usize = 9;

@@ -15,6 +15,7 @@ ghost use Rattle.pm_wire.specs.SettingUp.{EndsSettingUp};
 use crate::answer::Reply;
 use crate::decoder::FrameDecoder;
 use crate::fault::DecodeFault;
+use crate::kinds::FAULT_SIZE;
 use crate::pieces::take_piece;
 use crate::service::Service;
 use crate::stream_frame::StreamFrame;
@@ -23,9 +24,6 @@ use std::alloc::Global;
 
 /// The most bytes of a stream.
 pub const STREAM_LIMIT: usize = 1_073_741_824;
-
-/// How many bytes a fault has: its kind, and the offset.
-const FAULT_SIZE: usize = 9;
 
 /// How the service of a stream ended.
 #[derive(Clone, Copy, Debug, PartialEq, Eq)]

@@ -1,5 +1,5 @@
 -- Of `tell_all`: what its loop over `written` keeps.
-use Rattle.std.proofs.Common.{length, ◌-◌, ◌≤◌, ◌≡◌, take, ℕ}
+use Rattle.std.proofs.Common.{length, ◌-◌, ◌≤◌, ◌≡◌, take}
 use Rattle.std.specs.Io.KnownBytes.{Appends}
 use Rattle.pm_io.proofs.peer.tell_all.Given as goal
 

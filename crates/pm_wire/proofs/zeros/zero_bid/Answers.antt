@@ -9,5 +9,5 @@ pub unreachable-requires : goal.unreachable-requires
 unreachable-requires g c =
     let made : c.new.result ≡ Ok (zeros c.args.steps) =
     c.new.ensures.bid ∙ ap (λ l. checked_bid c.args.steps l) c.in_ok-demands.ensures.zeros
-        ∙ zeros_are_bid c.args.steps (omega (arith, c.requires.least)) in
+    ∙ zeros_are_bid c.args.steps (omega (arith, c.requires.least)) in
     cc (made, c.in_default.is)

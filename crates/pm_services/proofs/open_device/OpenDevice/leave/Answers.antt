@@ -1,5 +1,5 @@
 -- Of `OpenDevice::leave`: its clause `answered`.
-use Rattle.std.proofs.Common.{◌≡◌, ◌∙◌, sym, ap, subst, refl, arith, ℕ, ◌+◌, ◌^◌, Bool, true, false, List, ◌++◌, append_assoc}
+use Rattle.std.proofs.Common.{◌≡◌, ◌∙◌, ap, subst, refl, arith, ℕ, ◌+◌, ◌^◌, Bool, true, false, List, ◌++◌, append_assoc}
 use Rattle.std.specs.Prelude.{nat_lt, if◌then◌else◌}
 use Rattle.std.proofs.lemmas.Bool.Decides.{nat_tests}
 use Rattle.pm_basis.specs.Prices.{BasisValue}

@@ -1,9 +1,8 @@
 -- Of `OpenRelay::come_back`: what it ensures.
-use Rattle.std.proofs.Common.{◌≡◌, ◌∙◌, sym, ap, subst, arith, Option, Some, None, ℕ}
-use Rattle.pm_services.specs.RelayAnswers.{WaitingRelay, Opens}
+use Rattle.std.proofs.Common.{subst}
 use Rattle.pm_services.specs.Limits.{relay_reply_limit}
 use Rattle.pm_services.specs.Receipts.{Appended}
-use Rattle.pm_services.specs.RelayAnswers.{OpenRelay, RelayComesUpAgain, AnswersKept}
+use Rattle.pm_services.specs.RelayAnswers.{OpenRelay, RelayComesUpAgain}
 use Rattle.pm_services.proofs.OpenRelays.{comes_back}
 use Rattle.pm_services.proofs.open_relay.OpenRelay.come_back.Goals as goal
 

@@ -1,5 +1,5 @@
 -- Of `OpenRelay::learn_kept`: what it ensures.
-use Rattle.std.proofs.Common.{◌≡◌, ◌∙◌, sym, ap, subst, arith, Option, Some, None, ℕ}
+use Rattle.std.proofs.Common.{◌≡◌, ◌∙◌, sym, ap, subst, arith, ℕ}
 use Rattle.pm_services.specs.Limits.{relay_reply_limit}
 use Rattle.pm_relay.specs.Numbers.{child_number}
 use Rattle.pm_services.specs.Receipts.{Appended, sender_place}

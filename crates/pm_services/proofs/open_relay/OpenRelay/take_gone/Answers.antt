@@ -1,5 +1,5 @@
 -- Of `OpenRelay::take_gone`: what it ensures.
-use Rattle.std.proofs.Common.{◌≡◌, ◌∙◌, sym, ap, subst, arith, Option, Some, None, ℕ}
+use Rattle.std.proofs.Common.{subst}
 use Rattle.pm_wire.specs.declared.frame.Frame.TheVariants.{Gone}
 use Rattle.pm_frames.specs.declared.relay.RelayFrame.TheVariants.{Child}
 use Rattle.pm_services.specs.Limits.{relay_reply_limit}

@@ -1,5 +1,5 @@
 -- Of `OpenRelay::take_limits`: what it ensures.
-use Rattle.std.proofs.Common.{◌≡◌, ◌∙◌, sym, ap, subst, arith, Option, Some, None, ℕ}
+use Rattle.std.proofs.Common.{◌∙◌, sym, subst}
 use Rattle.pm_services.specs.Limits.{relay_reply_limit}
 use Rattle.pm_services.specs.Receipts.{Appended}
 use Rattle.pm_services.specs.RelayAnswers.{OpenRelay, AnswersGiven}

@@ -1,5 +1,5 @@
 -- Of `OpenRelay::take_price`: what the call of `take_price` requires; what it ensures.
-use Rattle.std.proofs.Common.{◌≡◌, ◌∙◌, sym, ap, subst, arith, Option, Some, None, ℕ}
+use Rattle.std.proofs.Common.{ap, subst, arith}
 use Rattle.pm_basis.specs.Prices.{BasisValue}
 use Rattle.pm_frames.proofs.ReadNodes.{fails, passes}
 use Rattle.pm_services.specs.Limits.{relay_reply_limit}

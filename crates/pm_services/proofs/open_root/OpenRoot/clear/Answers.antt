@@ -1,5 +1,5 @@
 -- Of `OpenRoot::clear`: what it ensures.
-use Rattle.std.proofs.Common.{◌≡◌, ◌∙◌, sym, ap, subst, arith, ℕ}
+use Rattle.std.proofs.Common.{subst}
 use Rattle.pm_wire.specs.declared.frame.Frame.TheVariants.{Clear}
 use Rattle.pm_frames.specs.declared.root.RootFrame.TheVariants.{Market}
 use Rattle.pm_services.specs.Limits.{root_reply_limit}

@@ -1,5 +1,5 @@
 -- Of `OpenRoot::come_back`: what it ensures.
-use Rattle.std.proofs.Common.{◌≡◌, ◌∙◌, sym, ap, subst, arith, ℕ}
+use Rattle.std.proofs.Common.{subst, ℕ}
 use Rattle.pm_relay.specs.Roots.{RootComesBack}
 use Rattle.pm_frames.specs.declared.root.RootFrame.TheVariants.{Resume}
 use Rattle.pm_services.specs.Limits.{root_reply_limit}

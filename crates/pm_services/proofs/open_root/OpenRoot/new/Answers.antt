@@ -1,5 +1,5 @@
 -- Of `OpenRoot::new`: what it ensures.
-use Rattle.std.proofs.Common.{◌≡◌, ap, subst, ℕ, List, Some, replicate}
+use Rattle.std.proofs.Common.{ap, subst, ℕ, List, Some, replicate}
 use Rattle.pm_base.specs.Limits.{most_nodes}
 use Rattle.pm_base.specs.declared.limits.Limits.{Limits}
 use Rattle.pm_relay.specs.Roots.{RootComesBack}

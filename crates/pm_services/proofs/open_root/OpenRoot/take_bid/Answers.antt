@@ -1,5 +1,5 @@
 -- Of `OpenRoot::take_bid`: what it ensures.
-use Rattle.std.proofs.Common.{◌≡◌, ◌∙◌, sym, ap, subst, arith, ℕ}
+use Rattle.std.proofs.Common.{subst}
 use Rattle.pm_frames.proofs.ReadNodes.{fails, passes}
 use Rattle.pm_services.specs.Limits.{root_reply_limit}
 use Rattle.pm_services.specs.Receipts.{Appended}

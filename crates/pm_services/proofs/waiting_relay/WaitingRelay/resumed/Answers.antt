@@ -1,5 +1,5 @@
 -- Of `WaitingRelay::resumed`: what it ensures.
-use Rattle.std.proofs.Common.{◌≡◌, ◌∙◌, sym, refl, subst, ap, None, Some}
+use Rattle.std.proofs.Common.{◌∙◌, sym, refl, subst, ap, None, Some}
 use Rattle.pm_base.specs.declared.limits.Limits.{Limits}
 use Rattle.pm_relay.specs.Relays.{limits_of_number}
 use Rattle.pm_base.specs.Limits.{most_nodes}
