@@ -2,9 +2,13 @@
 """Measures a market of nodes over MQTT: an auctioneer, R relays below it, R below each, and 256 devices below each of these.
 
     live_scale.py [--relays 1 4 16] [--low 5] [--high 500] [--seconds 30] ..
+    live_scale.py --relays 64 --below 16 --brokers 4 ..
 
 Broker, nodes and devices are in network namespaces of this machine, joined by a bridge. Nodes are those of `cogmaula site`, many in a
 process of Python and over one connection, each with a process of `live` of its own. Devices are simulated, thousands in a process.
+With --below so many relays are below each of the R. With --brokers the relays and their devices are divided among brokers, which bridges join
+with the first: it has the auctioneer.
+
 It prints, at a low and at a high rate of bids: bids, clearings and prices a second, the time from a device's bid to its
 setpoint, messages at the broker, and the processors that each part took. Then it prints the memory of each part.
 
@@ -37,7 +41,7 @@ PREFIX, CHILDREN = "market", 256
 # The seconds after which a part that does not answer has failed, and those within which a market has to come to rest.
 PATIENCE, REST = 300, 300
 # A broker whose limits are not those of one device: the connection of the simulation has thousands.
-LINES = ("sys_interval 1", "max_inflight_messages 0", "max_queued_messages 0", "set_tcp_nodelay true")
+LINES = ("sys_interval 1", "max_inflight_messages 20000", "max_queued_messages 0", "set_tcp_nodelay true")
 COUNTS = "$SYS/broker/messages/"
 
 
@@ -114,6 +118,15 @@ def tables_of(arguments, state, address, sort, name, parent=None, child=None):
     return {"sort": sort, "node": node, "basis": basis, "broker": broker, "prices": {"together": not arguments.single}}
 
 
+def bridge_lines(address, relays):
+    """The lines by which a broker hears the auctioneer at the first one, and tells what relays of these numbers say to it."""
+    inward = ["basis", *(f"auctioneer/{word}" for word in ("state", "heartbeat", "prices", "price/+", "lapsed/+", "refused/+"))]
+    outward = [f"auctioneer/bid/{number}" for number in relays] + [f"relay{number}/state" for number in relays] + ["+/site"]
+    first = ["connection first", f"address {address}:{PORT}", "bridge_protocol_version mqttv50", "cleansession true", "notifications false", "try_private false"]
+    topics = [(topic, way) for way, found in (("in", inward), ("out", outward)) for topic in found]
+    return [*first, "restart_timeout 1", *(f"topic {PREFIX}/{topic} {way} 1" for topic, way in topics)]
+
+
 def pieces(items, size):
     """Items in lists of at most so many."""
     return [items[at : at + size] for at in range(0, len(items), size)]
@@ -124,25 +137,36 @@ class Market:
 
     def __init__(self, arguments, relays, network, folder, log):
         self.arguments, self._network, self._log = arguments, network, log
-        self.broker = Mosquitto(network, folder / "broker", *LINES).start()
-        self.looker = Looker(network, self.broker.address)
-        above = [f"relay{number}" for number in range(1, relays + 1)]
-        self.lowest = [f"{name}-{number}" for name in above for number in range(1, relays + 1)]
-        make = lambda *words: tables_of(arguments, folder / "state", self.broker.address, *words)  # noqa: E731
-        settings = [make("relay", name, "auctioneer", child) for child, name in enumerate(above, 1)]
-        settings += [make("relay", name, name.split("-")[0], int(name.split("-")[1])) for name in self.lowest]
-        told = [] if arguments.broker_alone else [[make("auctioneer", "auctioneer")], *pieces(settings, arguments.nodes)]
+        numbers = range(1, relays + 1)
+        below = arguments.below or relays
+        first = Mosquitto(network, folder / "broker", *LINES).start()
+        self.brokers = [first]
+        for place in range(1, arguments.brokers):
+            bridge = bridge_lines(first.address, numbers[place :: arguments.brokers])
+            self.brokers.append(Mosquitto(network, folder / f"broker{place}", *LINES, *bridge, name=f"broker{place}").start())
+        self.looker = Looker(network, first.address)
+        told, self._at = [], []
+        make = lambda broker, *words: tables_of(arguments, folder / "state", broker.address, *words)  # noqa: E731
+        for place, broker in enumerate(self.brokers):
+            above = {f"relay{number}": number for number in numbers[place :: arguments.brokers]}
+            lowest = [(f"{name}-{number}", name, number) for name in above for number in range(1, below + 1)]
+            settings = [make(broker, "relay", name, "auctioneer", number) for name, number in above.items()]
+            told += pieces([*settings, *(make(broker, "relay", *words) for words in lowest)], arguments.nodes)
+            self._at.append([name for name, _, _ in lowest])
+        self.lowest = [name for names in self._at for name in names]
+        told = [] if arguments.broker_alone else [[make(first, "auctioneer", "auctioneer")], *told]
         profiles = [["-m", "cProfile", "-o", f"{arguments.profile}.{number}"] if arguments.profile else [] for number in range(len(told))]
         self.nodes = [self._started(f"nodes{number}", ["live_nodes.py"], profile) for number, profile in enumerate(profiles)]
         for number, (part, tables) in enumerate(zip(self.nodes, told, strict=True)):
             part.tell(json.dumps({"name": f"site{number}", "nodes": tables}))
         for node in self.nodes:
             node.answer()
-        batches = pieces(self.lowest, max(1, arguments.devices // CHILDREN))
-        broker = {"host": self.broker.address, "port": PORT, "prefix": PREFIX, "steps": arguments.steps, "children": CHILDREN}
+        size = max(1, arguments.devices // CHILDREN)
+        batches = [(broker, them) for broker, names in zip(self.brokers, self._at, strict=True) for them in pieces(names, size)]
+        market = {"port": PORT, "prefix": PREFIX, "steps": arguments.steps, "children": CHILDREN}
         self.devices = [
-            self._started(f"devices{number}", ["live_devices.py", json.dumps({**broker, "relays": them, "seed": number})])
-            for number, them in enumerate(batches)
+            self._started(f"devices{number}", ["live_devices.py", json.dumps({**market, "host": broker.address, "relays": them, "seed": number})])
+            for number, (broker, them) in enumerate(batches)
         ]
 
     def _started(self, name, words, options=()):
@@ -153,7 +177,7 @@ class Market:
         """The numbers of the processes by part."""
         nodes = [node.process.pid for node in self.nodes]
         return {
-            "broker": [self.broker.process.pid],
+            "broker": [broker.process.pid for broker in self.brokers],
             "nodes": nodes,
             "live": [child for number in nodes for child in children_of(number)],
             "simulation": [device.process.pid for device in self.devices],
@@ -288,7 +312,7 @@ def broker_alone(market, arguments, network):
     """Measures devices and broker without nodes: what the nodes' part is."""
     told = {"min": 0, "max": arguments.steps - 1, "steps": arguments.steps, "session": "0" * 16, "begun": "2026-01-01T00:00:00Z"}
     basis = json.dumps(told)
-    words = ["mosquitto_pub", "-h", market.broker.address, "-p", str(PORT), "-r", "-q", "1", "-t", f"{PREFIX}/basis", "-m", basis]
+    words = ["mosquitto_pub", "-h", market.brokers[0].address, "-p", str(PORT), "-r", "-q", "1", "-t", f"{PREFIX}/basis", "-m", basis]
     network.start("looker", words).wait()
     time.sleep(1)
     market.phase("devices and broker alone, as fast as it goes", -1, arguments.seconds)
@@ -297,7 +321,9 @@ def broker_alone(market, arguments, network):
 
 def words():
     parser = argparse.ArgumentParser(description=__doc__.splitlines()[0])
-    parser.add_argument("--relays", type=int, nargs="+", default=[1, 4, 16], metavar="R", help="the sizes, each 1 to 16")
+    parser.add_argument("--relays", type=int, nargs="+", default=[1, 4, 16], metavar="R", help="the sizes, each 1 to 256")
+    parser.add_argument("--below", type=int, help="how many relays are below each of the R, 1 to 256; R by default")
+    parser.add_argument("--brokers", type=int, default=1, help="how many brokers there are, joined by bridges")
     parser.add_argument("--steps", type=int, default=20, help="steps of the basis")
     parser.add_argument("--low", type=float, default=5, help="the low rate, bids a second of all devices together")
     parser.add_argument("--high", type=float, default=500, help="the high rate; -1 is as fast as it goes")

@@ -111,11 +111,11 @@ class Network:
 class Mosquitto:
     """A mosquitto in a namespace of its own, which may be killed and started again."""
 
-    def __init__(self, network, folder, *lines):
-        self._network, self._folder = network, Path(folder)
+    def __init__(self, network, folder, *lines, name="broker"):
+        self._network, self._folder, self._name = network, Path(folder), name
         self._folder.mkdir(parents=True)
-        network.add("broker")
-        self.address = network.addresses["broker"]
+        network.add(name)
+        self.address = network.addresses[name]
         first = [f"listener {PORT} 0.0.0.0", "allow_anonymous true", "user root", "log_dest file " + str(self._log)]
         (self._folder / "mosquitto.conf").write_text("\n".join([*first, *lines]) + "\n")
         self.process = None
@@ -128,7 +128,7 @@ class Mosquitto:
         """Starts it, and waits until it listens."""
         before = self._starts()
         command = ["mosquitto", "-c", str(self._folder / "mosquitto.conf")]
-        self.process = self._network.start("broker", command, stderr=subprocess.DEVNULL)
+        self.process = self._network.start(self._name, command, stderr=subprocess.DEVNULL)
         while self._starts() == before:
             if self.process.poll() is not None:
                 raise OSError(f"mosquitto has ended with status {self.process.returncode}: look at {self._log}")
