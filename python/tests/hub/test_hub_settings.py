@@ -88,7 +88,7 @@ def test_no_address(text):
         ({"gone": -1}, "hub.gone is -1"),
         ({"gone": 149}, "hub.gone is 149 and hub.validity 120: give a gone of 150 seconds or more"),
         ({"gone": "60"}, "hub.gone is '60': give a number"),
-        ({"pause": 0}, "pause is 0"),
+        ({"pause": -1}, "pause is -1"),
         ({"name": "a/b"}, "name is 'a/b'"),
         ({"agent": "x"}, "hub.agent is not known"),
         ({"basis": 1}, "the first two are tables"),
