@@ -1,7 +1,7 @@
 //! Memory that refuses a request: the service of a stream of bids ends for want of it, wherever it asks.
 
-ghost use Rattle.std.specs.Prelude.{◌≡◌, ◌≤◌, IsTrue};
-ghost use Rattle.pm_io.specs.Causes.{count_raised};
+ghost use Rattle.std.specs.Prelude.{◌≡◌, ◌≤◌};
+ghost use Rattle.pm_io.specs.Causes.{Rose};
 
 use crate::same::same;
 use crate::wire::{STREAMS, input_of};
@@ -23,7 +23,8 @@ struct Scarce {
 impl Scarce {
     /// Counts a refusal.
     fn refuse(&mut self) -> AllocError
-        ensures { self.new.refusals ≡ count_raised self.old.refusals }
+        ensures later { self.old.refusals ≤ self.new.refusals }
+        ensures rose { Rose self.old.refusals self.new.refusals }
     {
         self.refusals = self.refusals.saturating_add(1);
         AllocError
