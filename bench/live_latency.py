@@ -13,6 +13,7 @@ import json
 import os
 import queue
 import signal
+import socket
 import subprocess
 import sys
 import tempfile
@@ -61,6 +62,8 @@ class Control:
         self._client = mqtt.Client(protocol=mqtt.MQTTv5)
         self._client.on_message = self._take
         self._client.connect("127.0.0.1", PORT)
+        # Else the control's own offer waits for what the broker confirms late.
+        self._client.socket().setsockopt(socket.IPPROTO_TCP, socket.TCP_NODELAY, 1)
         self._client.subscribe([("market/+/setpoint", 1), ("market/+/state", 1)])
         self._client.loop_start()
 
