@@ -1,7 +1,7 @@
 """What a node records: each frame that its service was fed or wrote, in files of JSON lines. docs/JUDGE.md has the lines.
 
-Lines of JSON take twice the bytes of frames, and an auditor reads them without our programs. One line for the prices of a clearing would
-save a tenth, and needs frames in batches.
+Lines of JSON take twice the bytes of frames, and an auditor reads them without our programs. The prices of a clearing are one line: a line
+each took five times as long, and twice the bytes.
 
 A line is written before what it tells of is done, by one write, so that a killed process leaves whole lines and at most a part of
 the last. All lines are safe on disk before a Resume is stored: a recording holds all that a stored Resume stands on. A file that has
