@@ -6,6 +6,7 @@ Certificates are made by openssl, anew in each run. Without mosquitto, paho or t
 from __future__ import annotations
 
 import os
+import random
 import shutil
 import socket
 import subprocess
@@ -37,9 +38,15 @@ def live_program():
 
 
 def free_port():
-    with socket.socket() as one:
-        one.bind(("127.0.0.1", 0))
-        return one.getsockname()[1]
+    """A port at which nobody listens. It is below those that connections get, so a server that comes back has it again."""
+    for port in random.sample(range(10_000, 32_768), 100):
+        with socket.socket() as one:
+            try:
+                one.bind(("127.0.0.1", port))
+            except OSError:
+                continue
+            return port
+    raise OSError("no free port was found")
 
 
 def wait_until(holds, what, seconds=SECONDS):
