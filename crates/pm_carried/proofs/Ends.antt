@@ -1,7 +1,7 @@
 -- In a settled phase the end that is read of the nodes is the plain auction's.
-use Rattle.std.proofs.Common.{◌≡◌, ◌∙◌, sym, ap, ℕ, ◌<◌, ◌≤◌, ℤ, Bool, true, false, List, [], ◌∷◌, length, map, leb, Some}
+use Rattle.std.proofs.Common.{◌≡◌, ◌∙◌, sym, ap, ℕ, ◌<◌, ◌≤◌, ℤ, Bool, true, false, List, [], ◌∷◌, length, leb, Some}
 use Rattle.std.proofs.Common.{None, Contains, refl, arith, inl, inr}
-use Rattle.std.specs.Prelude.{filter, is_some, ◌&&◌}
+use Rattle.std.specs.Prelude.{is_some, ◌&&◌}
 use Rattle.std.proofs.Math.ListN.{get_or-eq_default}
 use Rattle.std.proofs.lemmas.List.Elements.{Contains-append_right}
 use Rattle.std.proofs.lemmas.Bool.{cases_Bool, cases_lt, both_ways, cond-true, le-leb}
@@ -24,6 +24,7 @@ use Rattle.pm_plan.proofs.MarketLists.{lawful, is_leaf-is}
 use Rattle.pm_plan.proofs.EndLines.{member_line_is, limited_line_is, end_is}
 use Rattle.pm_plan.proofs.Drafts.{limited_is_no_root}
 use Rattle.pm_offer.specs.Offers.{device_demand}
+use Rattle.pm_offer.proofs.Alike.{listed_alike}
 use Rattle.pm_offer.proofs.Laws as laws
 use Rattle.pm_offer.proofs.Offers.{limited_sum}
 use Rattle.pm_offer.proofs.Steps.{demand_is, no_member}
@@ -140,18 +141,6 @@ module _ (plan : PlanData) (is_plan : IsPlan plan) (cut : Cut) (c : Carried) (ke
       (λ d. is_member plan d (cut d)) joined_came member_came (node_numbers plan))
       (listed_alike (carried_limited plan c) (limited_line plan (state plan) cut) (is_limited plan) (is_limited plan) (λ g. refl) limited_came
       (node_numbers plan))
-    where
-      -- the values of those numbers of a list that pass, by two tests that agree and by values that agree on those
-      listed_alike : {X : Type 0} (f g : ℕ → X) (p q : ℕ → Bool) → ((n : ℕ) → p n ≡ q n) → ((n : ℕ) → p n ≡ true → f n ≡ g n) →
-          (ns : List ℕ) →
-          map f (filter p ns) ≡ map g (filter q ns)
-      listed_alike f g p q tests values [] = refl
-      listed_alike f g p q tests values (n ∷ ns) =
-          let rest = listed_alike f g p q tests values ns in
-          elim (cases_Bool (p n)) [
-            | inl has ↦ let also : q n ≡ true = sym (tests n) ∙ has in let here = values n has in rw has (rw also (cc (here, rest)))
-            | inr lacks ↦ let also : q n ≡ false = sym (tests n) ∙ lacks in rw lacks (rw also rest)
-          ]
 
 -- the law
 pub settled_end : (plan : PlanData) (cut : Cut) (c : Carried) → IsPlan plan → TellsByNumber plan c → IsSettledOver plan cut c →

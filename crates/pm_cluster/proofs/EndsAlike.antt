@@ -1,6 +1,5 @@
 -- The end over a cut is over the devices' changes alone.
-use Rattle.std.proofs.Common.{◌≡◌, ◌∙◌, sym, ap, refl, ℕ, Bool, true, false, List, [], ◌∷◌, map, inl, inr, arith}
-use Rattle.std.specs.Prelude.{filter}
+use Rattle.std.proofs.Common.{◌≡◌, ◌∙◌, sym, ap, refl, ℕ, true, inl, inr, arith}
 use Rattle.std.proofs.lemmas.Bool.{cases_Bool, false≢true}
 use Rattle.pm_base.specs.Cuts.{Cut}
 use Rattle.pm_basis.specs.Prices.{price_at}
@@ -19,24 +18,12 @@ use Rattle.pm_plan.specs.EndLines.{members_to, limited_to}
 use Rattle.pm_offer.specs.Offers.{children_sum}
 use Rattle.pm_offer.proofs.Offers.{limited_sum}
 use Rattle.pm_offer.proofs.Steps.{no_member}
-use Rattle.pm_offer.proofs.Alike.{sum_alike, total_alike, plain_alike, group_step_alike}
+use Rattle.pm_offer.proofs.Alike.{listed_alike, sum_alike, total_alike, plain_alike, group_step_alike}
 use Rattle.pm_stands.proofs.Caches.{cache_root}
 use Rattle.pm_stands.proofs.Demands.{demands_are}
 use Rattle.pm_stands.specs.Core.{Core, node_cache}
 use Rattle.pm_stands.specs.Stands.{StandsFor}
 use Rattle.pm_cluster.proofs.ClosesLegally.{power_alike}
-
--- the values of those numbers of a list that pass, by two tests that agree and by values that agree on those
-listed_alike : {X : Type 0} (f g : ℕ → X) (p q : ℕ → Bool) → ((n : ℕ) → p n ≡ q n) → ((n : ℕ) → p n ≡ true → f n ≡ g n) →
-    (ns : List ℕ) →
-    map f (filter p ns) ≡ map g (filter q ns)
-listed_alike f g p q tests values [] = refl
-listed_alike f g p q tests values (n ∷ ns) =
-    let rest = listed_alike f g p q tests values ns in
-    elim (cases_Bool (p n)) [
-      | inl has ↦ let also : q n ≡ true = sym (tests n) ∙ has in let here = values n has in rw has (rw also (cc (here, rest)))
-      | inr lacks ↦ let also : q n ≡ false = sym (tests n) ∙ lacks in rw lacks (rw also rest)
-    ]
 
 module _ (plan : PlanData) (is_plan : IsPlan plan) (a b : Cut) (same : (d : ℕ) → IsLeaf (plan_lists plan) d → a d ≡ b d) where
   same_below : (x : ℕ) → SameOn (plan_lists plan) x a b

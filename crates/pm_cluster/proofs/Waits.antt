@@ -1,7 +1,7 @@
 -- Whether something waits on a link, by the numbers offered and taken, and whether a node has nothing to do.
 use Rattle.std.proofs.Common.{◌≡◌, sym, subst, ℕ, ◌<◌, ◌≤◌, Bool, false, ◌↔◌, List, length, None, refl, arith}
 use Rattle.pm_tree.specs.Entries.{children_of, place_of}
-use Rattle.pm_session.specs.Links.{Session, IsSession}
+use Rattle.pm_session.specs.Links.{Session, IsSession, IsTaken}
 use Rattle.pm_session.specs.Prices.{session_at}
 use Rattle.pm_concentrator.specs.Concentrators.{Gathered}
 use Rattle.pm_market.specs.Lists.{nodes, parent, IsNode, IsConcentrator}
@@ -14,7 +14,7 @@ use Rattle.pm_stands.specs.Quiet.{IsQuiet}
 use Rattle.pm_stands.specs.Rows.{CannotPublish}
 use Rattle.pm_plan.proofs.MarketLists.{child_node}
 use Rattle.pm_stands.proofs.Places.{placed, at_node, from_node}
-use Rattle.pm_cluster.specs.Waiting.{NoBids, NothingToSend, NoPrice, IsTaken, NothingBelow, IsAtRest}
+use Rattle.pm_cluster.specs.Waiting.{NoBids, NothingToSend, NoPrice, NothingBelow, IsAtRest}
 
 -- no bid waits exactly where the bid that was offered last was taken
 pub bid_waits_is : (z : Session) (waits : Bool) → IsSession z → (waits ≡ false) ↔ (z.up.waiting ≡ None) → (waits ≡ false)

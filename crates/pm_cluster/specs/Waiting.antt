@@ -4,7 +4,7 @@ use Rattle.pm_tree.specs.Entries.{children_of}
 use Rattle.pm_market.specs.Lists.{IsNode, IsConcentrator}
 use Rattle.pm_plan.specs.Plans.{PlanData}
 use Rattle.pm_plan.specs.Market.{plan_lists}
-use Rattle.pm_session.specs.Links.{Session}
+use Rattle.pm_session.specs.Links.{IsTaken}
 use Rattle.pm_stands.specs.Core.{Core, link_at, uplink_of, concentrator_of}
 use Rattle.pm_stands.specs.Rows.{CannotPublish}
 
@@ -20,11 +20,6 @@ pub record NothingToSend (plan : PlanData) (c : Core) (x : ℕ) : Type 0 where
 -- no price waits to be taken
 abbrev pub NoPrice : PlanData → Core → ℕ → Type 0
 NoPrice plan c x = IsNode (plan_lists plan) x → (uplink_of plan c x).down.offered ≡ (uplink_of plan c x).down.taken
-
--- the bid and the price that were offered last on a link were taken
-pub record IsTaken (link : Session) : Type 0 where
-  pub bid : link.up.offered ≡ link.up.taken
-  pub price : link.down.offered ≡ link.down.taken
 
 -- nothing waits on the links of a node to its children
 abbrev pub NothingBelow : PlanData → Core → ℕ → Type 0

@@ -6,6 +6,7 @@ ghost use Rattle.pm_cache.specs.Cache.{aggregate_of};
 ghost use Rattle.pm_market.specs.Lists.{nodes, IsLeaf, is_member};
 ghost use Rattle.pm_market.specs.State.{State, knowledge, clearings, cleared_cut};
 ghost use Rattle.pm_market.specs.Moves.{Idle};
+ghost use Rattle.pm_session.specs.Links.{IsTaken};
 ghost use Rattle.pm_session.specs.Prices.{session_at};
 ghost use Rattle.pm_plan.specs.Auction.{total, plain_step};
 ghost use Rattle.pm_plan.specs.States.{state};
@@ -18,7 +19,7 @@ ghost use Rattle.pm_stands.specs.Still.{IsStill};
 ghost use Rattle.pm_stands.specs.Stands.{StandsFor};
 ghost use Rattle.pm_stands.specs.Actors.{NoMoveOf};
 ghost use Rattle.pm_stands.specs.Current.{held_price, IsCurrent};
-ghost use Rattle.pm_cluster.specs.Waiting.{NoBids, NothingToSend, NoPrice, IsTaken, NothingBelow, IsAtRest};
+ghost use Rattle.pm_cluster.specs.Waiting.{NoBids, NothingToSend, NoPrice, NothingBelow, IsAtRest};
 
 use crate::cluster::Cluster;
 use crate::tree::{parent_of, place_in_row};
@@ -217,16 +218,9 @@ fn message_waits(row: &[Link]) -> bool
         ↔ ((k : ℕ) → k < length row.now → IsTaken (session_at row.now k)) }
 {
     for link in row {
-        if link_waits(link) {
+        if link.waits() {
             return true;
         }
     }
     false
-}
-
-/// Whether a bid or a price waits on a link.
-fn link_waits(link: &Link) -> bool
-    ensures none { IsFalse result ↔ IsTaken link.now }
-{
-    link.bids_waiting() || link.prices_waiting()
 }

@@ -1,5 +1,7 @@
--- Sums and steps of cuts that are the same on the leaves.
-use Rattle.std.proofs.Common.{◌≡◌, ◌∙◌, sym, ap, subst, ℕ, ◌<◌, ◌⊎◌, true, [], length, get_or, arith, inl, inr}
+-- Sums, steps and lists over cuts that are the same on the leaves.
+use Rattle.std.proofs.Common.{◌≡◌, ◌∙◌, sym, ap, subst, refl, ℕ, ◌<◌, ◌⊎◌, Bool, true, false, List, [], ◌∷◌, length, map, get_or, arith, inl, inr}
+use Rattle.std.specs.Prelude.{filter}
+use Rattle.std.proofs.lemmas.Bool.{cases_Bool}
 use Rattle.std.proofs.lemmas.List.{ext_get_or, get_or-map, length-map}
 use Rattle.pm_base.specs.Cuts.{Cut}
 use Rattle.pm_bid.specs.Bids.{sum_of}
@@ -19,6 +21,18 @@ use Rattle.pm_offer.proofs.Laws as laws
 use Rattle.pm_offer.proofs.Offers.{limited_sum}
 use Rattle.pm_offer.proofs.GroupNodes.{group_kind, nodes_are}
 use Rattle.pm_plan.proofs.MarketLists.{lawful, child_node}
+
+-- the values of those numbers of a list that pass, by two tests that agree and by values that agree on those
+pub listed_alike : {X : Type 0} (f g : ℕ → X) (p q : ℕ → Bool) → ((n : ℕ) → p n ≡ q n) → ((n : ℕ) → p n ≡ true → f n ≡ g n) →
+    (ns : List ℕ) →
+    map f (filter p ns) ≡ map g (filter q ns)
+listed_alike f g p q tests values [] = refl
+listed_alike f g p q tests values (n ∷ ns) =
+    let rest = listed_alike f g p q tests values ns in
+    elim (cases_Bool (p n)) [
+      | inl has ↦ let also : q n ≡ true = sym (tests n) ∙ has in let here = values n has in rw has (rw also (cc (here, rest)))
+      | inr lacks ↦ let also : q n ≡ false = sym (tests n) ∙ lacks in rw lacks (rw also rest)
+    ]
 
 -- the sum of offers sees the leaves alone
 pub sum_alike : (plan : PlanData) → IsPlan plan → (y : ℕ) (a b : Cut) → SameOn (plan_lists plan) y a b →

@@ -68,6 +68,11 @@ pub record NothingWaited {Message : Type 0} (way : Way Message) (old new : Sessi
   pub offered : way.offered ≡ way.taken
   pub same : new ≡ old
 
+-- the bid and the price that were offered last were taken
+pub record IsTaken (session : Session) : Type 0 where
+  pub bid : session.up.offered ≡ session.up.taken
+  pub price : session.down.offered ≡ session.down.taken
+
 -- what holds of each link
 pub record IsSession (session : Session) : Type 0 where
   pub basis : AreSteps session.steps

@@ -4,7 +4,7 @@ ghost use Rattle.std.specs.Prelude.{◌≡◌, ◌<◌, length, Some, None, IfOk
 ghost use Rattle.std.specs.Option.{option_copied};
 ghost use Rattle.pm_base.specs.Limits.{AreSteps};
 ghost use Rattle.pm_session.specs.Links.{UpBid, new_session, bid_offered, demand_offered, IsSession};
-ghost use Rattle.pm_session.specs.Links.{BidOffered, BidTaken, PriceOffered, PriceTaken, NothingWaited};
+ghost use Rattle.pm_session.specs.Links.{BidOffered, BidTaken, PriceOffered, PriceTaken, NothingWaited, IsTaken};
 ghost use Rattle.pm_session.specs.Ways.{Waits};
 
 use crate::price::PriceUpdate;
@@ -165,5 +165,12 @@ impl Link {
         ensures sound { IsSession self.now }
     {
         self.price.is_some()
+    }
+
+    /// Whether a bid or a price waits. Nothing waits exactly if the bid and the price offered last were taken.
+    pub fn waits(&self) -> bool
+        ensures none { IsFalse result ↔ IsTaken self.now }
+    {
+        self.bids_waiting() || self.prices_waiting()
     }
 }
