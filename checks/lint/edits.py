@@ -39,7 +39,7 @@ REFUSED = "refused, as it must be"
 NOTE = re.compile(r"(?:note: )?(?:\./)?(\S+?):(\d+):\d+: (?:error: )?(.*)")
 # The files that answer the goals of one function.
 OF_FUNCTION = re.compile(r"proofs/(.+)/(?:Answers|Invariants|Proof)\.antt")
-ROW = re.compile(r"\| `(\w+)` \| `([\w.-]+)` \| (.+) \| (.+) \|")
+ROW = re.compile(r"\| `(\w+)/([\w.-]+)` \| (.+) \| (.+) \|")
 
 
 @dataclass(frozen=True)
