@@ -1,6 +1,7 @@
 pub mod OneField
 pub mod OneFrame
 pub mod Places
+pub mod Nexts
 pub mod Lists
 pub mod ReadFrames
 pub mod Fed

@@ -1,7 +1,8 @@
 -- The calls of a decoder, one after the other, with what each answered.
-use Rattle.std.specs.Prelude.{◌≡◌, ℕ, List, [], ◌∷◌, ◌++◌, Option, Some, None, Result, Ok, Err}
-use Rattle.pm_wire.specs.Framing.{Framing, IsUnfinished, BeginsBadly}
-use Rattle.pm_wire.specs.Decoding.{Decoding, with_piece, with_refusal, GivesFrame}
+use Rattle.std.specs.Prelude.{◌≡◌, ◌⊎◌, ℕ, ◌<◌, true, List, [], ◌∷◌, ◌++◌, length, Option, Some, None, Result, Ok, Err}
+use Rattle.std.specs.Prelude.{IfOk, IfErr, IfSome, IfNone, OnOk, OnErr}
+use Rattle.pm_wire.specs.Framing.{Framing, MayStand, IsUnfinished, BeginsBadly}
+use Rattle.pm_wire.specs.Decoding.{Decoding, with_piece, with_refusal, GivesFrame, HoldsLittle}
 use Rattle.pm_wire.specs.declared.fault.DecodeFault.{DecodeFault}
 use Rattle.pm_wire.specs.declared.fault.DecodeFault.TheVariants.{Bad, NoMemory}
 
@@ -32,6 +33,40 @@ MakesCall framing old (gives frame) new = GivesFrame framing old frame new
 MakesCall framing old waits new = IsUnfinished framing old.place old.rest × (new ≡ old)
 MakesCall framing old (refuses at) new = (at ≡ old.offset) × BeginsBadly framing old.place old.rest × (new ≡ with_refusal old)
 MakesCall framing old fails new = new ≡ old
+
+-- ---- what a call says, whichever memory it asks
+
+-- What feeding a piece answers. Where an allocation fails nothing changes.
+pub record TakesPiece {P F E : Type 0} (framing : Framing P F) (old : Decoding P) (piece : List ℕ) (result : Result (Unit {0}) E) (new : Decoding P) :
+    Type 0 where
+  pub fed : OnOk result (new ≡ with_piece old piece)
+  pub unchanged : OnErr result (new ≡ old)
+  pub little : HoldsLittle new
+  -- the call as one of a list
+  pub call : MakesCall framing old (feed_call piece result) new
+
+-- What asking for the next frame answers: it, or None where the bytes left are less than a frame and no bad frame shows. Where a bad frame
+-- is next the answer is its offset. Where an allocation fails nothing changes.
+pub record GivesNext {P F : Type 0} (framing : Framing P F) (old : Decoding P) (result : Result (Option F) DecodeFault) (new : Decoding P) : Type 0 where
+  pub given : IfOk result (λ next. IfSome next (λ frame. GivesFrame framing old frame new))
+  pub nothing : IfOk result (λ next. IfNone next (IsUnfinished framing old.place old.rest × (new ≡ old)))
+  pub bad : IfErr result (λ fault. (at : ℕ) → fault ≡ Bad at →
+      (at ≡ old.offset) × BeginsBadly framing old.place old.rest × (new ≡ with_refusal old))
+  pub no_memory : result ≡ Err NoMemory → new ≡ old
+  -- if the cause of one of these answers holds, that answer comes, or an allocation failed
+  pub gives : (frame : F) (more : List ℕ) → MayStand framing old.place frame → old.rest ≡ framing.frame_bytes frame ++ more →
+      (result ≡ Ok (Some frame)) ⊎ (result ≡ Err NoMemory)
+  pub waits : IsUnfinished framing old.place old.rest → (result ≡ Ok None) ⊎ (result ≡ Err NoMemory)
+  pub refuses : BeginsBadly framing old.place old.rest → (result ≡ Err (Bad old.offset)) ⊎ (result ≡ Err NoMemory)
+  -- once a bad frame was told, each later call tells it again
+  pub always : old.refused ≡ true → result ≡ Err (Bad old.offset)
+  -- the bytes of frames given are let go, and None leaves less than a frame
+  pub little : HoldsLittle new
+  pub short : IfOk result (λ next. IfNone next (length new.rest < framing.most_bytes))
+  -- the call as one of a list
+  pub call : MakesCall framing old (next_call result) new
+
+-- ---- calls, one after the other
 
 -- what calls make of a decoder, one after the other
 abbrev pub MakeCalls : {P F : Type 0} → Framing P F → Decoding P → List (Call F) → Decoding P → Type 0

@@ -1,11 +1,9 @@
 //! Takes a stream in pieces of any size, and gives its whole frames.
 
-ghost use Rattle.std.specs.Prelude.{◌≡◌, ◌+◌, ◌*◌, ◌<◌, ◌≤◌, ◌++◌, ◌⊎◌, ℕ, List, true, length, drop, vec_len};
-ghost use Rattle.std.specs.Prelude.{IfOk, IfErr, IfSome, IfNone, OnOk, OnErr, is_ok, if◌then◌else◌};
+ghost use Rattle.std.specs.Prelude.{◌≡◌, ◌+◌, ◌*◌, ◌≤◌, ◌++◌, length, drop, vec_len, is_ok, if◌then◌else◌};
 ghost use Rattle.pm_io.specs.Causes.{HasCause, Rose};
-ghost use Rattle.pm_wire.specs.Framing.{MayStand, IsUnfinished, BeginsBadly};
-ghost use Rattle.pm_wire.specs.Calls.{MakesCall, feed_call, next_call};
-ghost use Rattle.pm_wire.specs.Decoding.{nothing_fed_at, nothing_fed, with_piece, with_refusal, GivesFrame, HoldsLittle};
+ghost use Rattle.pm_wire.specs.Calls.{TakesPiece, GivesNext};
+ghost use Rattle.pm_wire.specs.Decoding.{nothing_fed_at, nothing_fed, HoldsLittle};
 
 use crate::fault::DecodeFault;
 use crate::frame::Frame;
@@ -115,12 +113,7 @@ impl<F: StreamFrame> FrameDecoder<F> {
     /// changes.
     pub fn feed(&mut self, piece: &[u8]) -> Result<(), AllocError>
         requires { self.old.offset + length self.old.rest + length piece.now ≤ 4294967296 }
-        ensures fed { OnOk result (self.new ≡ with_piece self.old piece.now) }
-        ensures unchanged { OnErr result (self.new ≡ self.old) }
-        ensures little { HoldsLittle self.new }
-
-        // The call as one of a list ([`frames_given_are_those_fed`]).
-        ensures call { MakesCall F.framing self.old (feed_call piece.now result) self.new }
+        ensures { TakesPiece F.framing self.old piece.now result self.new }
     {
         let mut memory = SystemMemory::new(self.alloc);
         self.feed_from(&mut memory, piece)
@@ -129,15 +122,10 @@ impl<F: StreamFrame> FrameDecoder<F> {
     /// Takes the next piece as [`FrameDecoder::feed`] does, and asks this memory for its room.
     pub fn feed_from<M: Memory>(&mut self, memory: &mut M, piece: &[u8]) -> Result<(), AllocError>
         requires { self.old.offset + length self.old.rest + length piece.now ≤ 4294967296 }
-        ensures fed { OnOk result (self.new ≡ with_piece self.old piece.now) }
-        ensures unchanged { OnErr result (self.new ≡ self.old) }
-        ensures little { HoldsLittle self.new }
+        ensures takes { TakesPiece F.framing self.old piece.now result self.new }
 
         // It fails only where memory was refused.
         ensures cause { HasCause (M.refusals memory.old) (M.refusals memory.new) result }
-
-        // The call as one of a list ([`frames_given_are_those_fed`]).
-        ensures call { MakesCall F.framing self.old (feed_call piece.now result) self.new }
     {
         append_piece(memory, &mut self.buffer, piece)
     }
@@ -146,36 +134,7 @@ impl<F: StreamFrame> FrameDecoder<F> {
     /// next the answer is its offset, and it stays so. Where an allocation fails nothing changes.
     pub fn next(&mut self) -> Result<Option<F>, DecodeFault>
         requires { self.old.offset + length self.old.rest ≤ 4294967296 }
-        ensures given { IfOk result (λ next. IfSome next
-            (λ frame. GivesFrame F.framing self.old frame self.new)) }
-        ensures nothing { IfOk result (λ next. IfNone next
-            (IsUnfinished F.framing self.old.place self.old.rest × (self.new ≡ self.old))) }
-        ensures bad { IfErr result (λ fault. (at : ℕ) → fault ≡ DecodeFault.Bad at →
-            (at ≡ self.old.offset)
-            × BeginsBadly F.framing self.old.place self.old.rest
-            × (self.new ≡ with_refusal self.old)) }
-        ensures no_memory { result ≡ Err DecodeFault.NoMemory → self.new ≡ self.old }
-
-        // If the cause of one of these answers holds, that answer comes, or an allocation failed.
-        ensures gives { (frame : F) (more : List ℕ) → MayStand F.framing self.old.place frame
-            → self.old.rest ≡ F.framing.frame_bytes frame ++ more
-            → (result ≡ Ok (Some frame)) ⊎ (result ≡ Err DecodeFault.NoMemory) }
-        ensures waits { IsUnfinished F.framing self.old.place self.old.rest
-            → (result ≡ Ok None) ⊎ (result ≡ Err DecodeFault.NoMemory) }
-        ensures refuses { BeginsBadly F.framing self.old.place self.old.rest
-            → (result ≡ Err (DecodeFault.Bad self.old.offset))
-            ⊎ (result ≡ Err DecodeFault.NoMemory) }
-
-        // Once a bad frame was told, each later call tells it again.
-        ensures always { self.old.refused ≡ true → result ≡ Err (DecodeFault.Bad self.old.offset) }
-
-        // The bytes of frames given are let go, and None leaves less than a frame.
-        ensures little { HoldsLittle self.new }
-        ensures short { IfOk result (λ next. IfNone next
-            (length self.new.rest < F.framing.most_bytes)) }
-
-        // The call as one of a list ([`frames_given_are_those_fed`]).
-        ensures call { MakesCall F.framing self.old (next_call result) self.new }
+        ensures { GivesNext F.framing self.old result self.new }
     {
         let mut memory = SystemMemory::new(self.alloc);
         self.next_from(&mut memory)
@@ -184,41 +143,12 @@ impl<F: StreamFrame> FrameDecoder<F> {
     /// Gives the next frame as [`FrameDecoder::next`] does, and asks this memory for what the frame holds.
     pub fn next_from<M: Memory>(&mut self, memory: &mut M) -> Result<Option<F>, DecodeFault>
         requires { self.old.offset + length self.old.rest ≤ 4294967296 }
-        ensures given { IfOk result (λ next. IfSome next
-            (λ frame. GivesFrame F.framing self.old frame self.new)) }
-        ensures nothing { IfOk result (λ next. IfNone next
-            (IsUnfinished F.framing self.old.place self.old.rest × (self.new ≡ self.old))) }
-        ensures bad { IfErr result (λ fault. (at : ℕ) → fault ≡ DecodeFault.Bad at →
-            (at ≡ self.old.offset)
-            × BeginsBadly F.framing self.old.place self.old.rest
-            × (self.new ≡ with_refusal self.old)) }
-        ensures no_memory { result ≡ Err DecodeFault.NoMemory → self.new ≡ self.old }
-
-        // Each of these answers comes wherever its cause stands, or an allocation failed.
-        ensures gives { (frame : F) (more : List ℕ) → MayStand F.framing self.old.place frame
-            → self.old.rest ≡ F.framing.frame_bytes frame ++ more
-            → (result ≡ Ok (Some frame)) ⊎ (result ≡ Err DecodeFault.NoMemory) }
-        ensures waits { IsUnfinished F.framing self.old.place self.old.rest
-            → (result ≡ Ok None) ⊎ (result ≡ Err DecodeFault.NoMemory) }
-        ensures refuses { BeginsBadly F.framing self.old.place self.old.rest
-            → (result ≡ Err (DecodeFault.Bad self.old.offset))
-            ⊎ (result ≡ Err DecodeFault.NoMemory) }
-
-        // A bad frame that was told once is told always.
-        ensures always { self.old.refused ≡ true → result ≡ Err (DecodeFault.Bad self.old.offset) }
-
-        // The bytes of frames given are let go, and None leaves less than a frame.
-        ensures little { HoldsLittle self.new }
-        ensures short { IfOk result (λ next. IfNone next
-            (length self.new.rest < F.framing.most_bytes)) }
+        ensures next { GivesNext F.framing self.old result self.new }
 
         // Want of memory is told only where memory was refused.
         ensures cause { result ≡ Err DecodeFault.NoMemory
             → Rose (M.refusals memory.old) (M.refusals memory.new) }
         ensures count { M.refusals memory.old ≤ M.refusals memory.new }
-
-        // The call as one of a list ([`frames_given_are_those_fed`]).
-        ensures call { MakesCall F.framing self.old (next_call result) self.new }
     {
         F::is_framing();
         if self.refused {

@@ -1,11 +1,12 @@
--- Of `FrameDecoder::next_from`: its clauses `gives`, `waits`, `refuses` and 3 more; what the type keeps.
-use Rattle.std.proofs.Common.{◌≡◌, ◌∙◌, ◌-◌, ap, sym, subst, List, ℕ, inl, Ok, Some, length, take, drop, refl}
-use Rattle.std.proofs.lemmas.List.{take_rest}
+-- Of `FrameDecoder::next_from`: what it answers.
+use Rattle.std.proofs.Common.{◌≡◌, ◌∙◌, ◌-◌, ◌+◌, ◌*◌, ◌≤◌, ap, sym, subst, List, ◌++◌, ℕ, Bool, length, take, drop, refl, arith}
+use Rattle.std.proofs.lemmas.List.{take_rest, drop-drop}
 use Rattle.pm_wire.specs.Framing.{Framing, BeginsBadly}
-use Rattle.pm_wire.specs.Decoding.{Decoding}
+use Rattle.pm_wire.specs.Decoding.{Decoding, HoldsLittle, with_refusal}
 use Rattle.pm_wire.specs.Readings.{IsReading}
 use Rattle.pm_wire.specs.declared.front_frame.Reading.{Reading}
-use Rattle.pm_wire.proofs.Places.{whole_not_bad, whole_not_unfinished, bad_not_unfinished, whole_same}
+use Rattle.pm_wire.proofs.Places.{unfinished_short}
+use Rattle.pm_wire.proofs.Nexts.{holds_little, gives_whole, gives_none, gives_bad}
 use Rattle.pm_wire.proofs.decoder.FrameDecoder.next_from.Goals as goal
 
 -- what was read stands at the front of the bytes left
@@ -18,47 +19,60 @@ read_at {P = P} {F = F} framing old new buffer bytes start was is view rest same
     let C : List ℕ → Type 0 = λ l. IsReading framing old.place l was in
     subst A view (subst B e (subst C (take_rest bytes start ∙ ap (drop start) same ∙ sym rest) reading))
 
-pub returns-then-self-clause-gives : goal.returns-then-self-clause-gives
-returns-then-self-clause-gives g c =
-    let A : Decoding g.row.F-Place.Denot → Type 0 = λ d. BeginsBadly g.F.StreamFrame.framing d.place d.rest in
-    λ frame more stands e. absurd (whole_not_bad _ c.is_framing.ensures _ _ _ _ stands e (subst A c.self.view_is (c.self.invariant.bad c.if-self.true)))
+-- a bad frame was told before
+pub returns-then-self-clause-next : goal.returns-then-self-clause-next
+returns-then-self-clause-next g c =
+    let D = Decoding g.row.F-Place.Denot in
+    let A : D → Type 0 = λ d. BeginsBadly g.F.StreamFrame.framing d.place d.rest in
+    let L : D → Type 0 = λ d. HoldsLittle d in
+    let is = c.self.view_is in
+    gives_bad g.F.StreamFrame.framing c.is_framing.ensures _ _ (subst L is (holds_little _ _ c.self.invariant.half)) _ (ap (λ (d : D). d.offset) is)
+    (subst A is (c.self.invariant.bad c.if-self.true))
+    (sym is ∙ ap (λ (r : Bool). record {
+      offset = c.self.inside.offset;
+      place = c.self.inside.place;
+      rest = drop c.self.inside.start c.self.inside.buffer.items;
+      refused = r;
+      held = length c.self.inside.buffer.items;
+    }) c.if-self.true ∙ ap (λ (d : D). with_refusal d) is)
 
-pub returns-then-self-clause-waits : goal.returns-then-self-clause-waits
-returns-then-self-clause-waits g c =
-    let A : Decoding g.row.F-Place.Denot → Type 0 = λ d. BeginsBadly g.F.StreamFrame.framing d.place d.rest in
-    λ unfinished. absurd (bad_not_unfinished _ c.is_framing.ensures _ _ (subst A c.self.view_is (c.self.invariant.bad c.if-self.true)) unfinished)
+-- a whole frame stands there, and its bytes are taken off
+pub returns-in-Whole-clause-next : goal.returns-in-Whole-clause-next
+returns-in-Whole-clause-next g c =
+    let D = Decoding g.row.F-Place.Denot in
+    let is = c.self.view_is in
+    let whole = read_at g.F.StreamFrame.framing _ _ _ _ _ _ _ is refl c.deref.ensures.value c.in-Whole.is c.in_ok-frame.ensures.reading in
+    let rest = c.drop_given-self-inside.ensures.rest in
+    let half : 2 * c.drop_given-self-inside.result ≤ length c.drop_given-self-inside.new.buffer.items =
+    omega (arith, c.drop_given-self-inside.ensures.half, c.drop_given-self-inside.auto.buffer) in
+    gives_whole g.F.StreamFrame.framing c.is_framing.ensures _ _ (holds_little _ _ half) _ (record {
+      stands = whole.stands;
+      bytes = whole.spelled ∙ ap (λ (l : List ℕ). g.F.StreamFrame.framing.frame_bytes c.in-Whole.frame ++ l)
+          (ap (λ (d : D). drop c.in-Whole.size d.rest) (sym is) ∙ drop-drop c.in-Whole.size c.self.inside.start c.self.inside.buffer.items ∙ sym rest);
+      offset = ap (λ (n : ℕ). c.self.inside.offset + n) whole.same_size
+          ∙ ap (λ (d : D). d.offset + length (g.F.StreamFrame.framing.frame_bytes c.in-Whole.frame)) is;
+      place = c.place_after-self-inside.ensures ∙ ap (λ (d : D). g.F.StreamFrame.framing.place_after d.place c.in-Whole.frame) is;
+      refused = c.if-self.false;
+      none_refused = ap (λ (d : D). d.refused) (sym is) ∙ c.if-self.false;
+    })
 
-pub returns-in-Whole-clause-gives : goal.returns-in-Whole-clause-gives
-returns-in-Whole-clause-gives g c = λ frame more stands e.
-    let whole = read_at g.F.StreamFrame.framing _ _ _ _ _ _ _ c.self.view_is refl c.deref.ensures.value c.in-Whole.is c.in_ok-frame.ensures.reading in
-    inl (ap (λ f. Ok (Some f)) (whole_same _ c.is_framing.ensures _ _ _ _ _ _ whole.stands stands whole.spelled e).0)
+-- less than a frame is left
+pub returns-in-Unfinished-clause-next : goal.returns-in-Unfinished-clause-next
+returns-in-Unfinished-clause-next g c =
+    let D = Decoding g.row.F-Place.Denot in
+    let L : D → Type 0 = λ d. HoldsLittle d in
+    let Is : D → Type 0 = λ d. g.F.StreamFrame.framing.IsPlace d.place in
+    let is = c.self.view_is in
+    let less = read_at g.F.StreamFrame.framing _ _ _ _ _ _ _ is refl c.deref.ensures.value c.in-Unfinished.is c.in_ok-frame.ensures.reading in
+    gives_none g.F.StreamFrame.framing c.is_framing.ensures _ _ (subst L is (holds_little _ _ c.self.invariant.half)) less refl
+    (ap (λ (d : D). d.refused) (sym is) ∙ c.if-self.false)
+    (unfinished_short g.F.StreamFrame.framing c.is_framing.ensures _ _ (subst Is is c.self.invariant.is_place) less)
 
-pub returns-in-Whole-clause-waits : goal.returns-in-Whole-clause-waits
-returns-in-Whole-clause-waits g c = λ unfinished.
-    let whole = read_at g.F.StreamFrame.framing _ _ _ _ _ _ _ c.self.view_is refl c.deref.ensures.value c.in-Whole.is c.in_ok-frame.ensures.reading in
-    absurd (whole_not_unfinished _ c.is_framing.ensures _ _ _ _ whole.stands whole.spelled unfinished)
-
-pub returns-in-Whole-clause-refuses : goal.returns-in-Whole-clause-refuses
-returns-in-Whole-clause-refuses g c = λ bad.
-    let whole = read_at g.F.StreamFrame.framing _ _ _ _ _ _ _ c.self.view_is refl c.deref.ensures.value c.in-Whole.is c.in_ok-frame.ensures.reading in
-    absurd (whole_not_bad _ c.is_framing.ensures _ _ _ _ whole.stands whole.spelled bad)
-
-pub returns-in-Unfinished-clause-gives : goal.returns-in-Unfinished-clause-gives
-returns-in-Unfinished-clause-gives g c = λ frame more stands e.
-    absurd (whole_not_unfinished _ c.is_framing.ensures _ _ _ _ stands e
-    (read_at g.F.StreamFrame.framing _ _ _ _ _ _ _ c.self.view_is refl c.deref.ensures.value c.in-Unfinished.is c.in_ok-frame.ensures.reading))
-
-pub returns-in-Unfinished-clause-refuses : goal.returns-in-Unfinished-clause-refuses
-returns-in-Unfinished-clause-refuses g c = λ bad.
-    absurd (bad_not_unfinished _ c.is_framing.ensures _ _ bad
-    (read_at g.F.StreamFrame.framing _ _ _ _ _ _ _ c.self.view_is refl c.deref.ensures.value c.in-Unfinished.is c.in_ok-frame.ensures.reading))
-
-pub returns-in-Bad-clause-gives : goal.returns-in-Bad-clause-gives
-returns-in-Bad-clause-gives g c = λ frame more stands e.
-    absurd (whole_not_bad _ c.is_framing.ensures _ _ _ _ stands e
-    (read_at g.F.StreamFrame.framing _ _ _ _ _ _ _ c.self.view_is refl c.deref.ensures.value c.in-Bad.is c.in_ok-frame.ensures.reading))
-
-pub returns-in-Bad-clause-waits : goal.returns-in-Bad-clause-waits
-returns-in-Bad-clause-waits g c = λ unfinished.
-    absurd (bad_not_unfinished _ c.is_framing.ensures _ _
-    (read_at g.F.StreamFrame.framing _ _ _ _ _ _ _ c.self.view_is refl c.deref.ensures.value c.in-Bad.is c.in_ok-frame.ensures.reading) unfinished)
+-- a bad frame stands there, and is noted
+pub returns-in-Bad-clause-next : goal.returns-in-Bad-clause-next
+returns-in-Bad-clause-next g c =
+    let D = Decoding g.row.F-Place.Denot in
+    let is = c.self.view_is in
+    let bad = read_at g.F.StreamFrame.framing _ _ _ _ _ _ _ is refl c.deref.ensures.value c.in-Bad.is c.in_ok-frame.ensures.reading in
+    gives_bad g.F.StreamFrame.framing c.is_framing.ensures _ _ (holds_little _ _ c.self.invariant.half) _ (ap (λ (d : D). d.offset) is) bad
+    (ap (λ (d : D). with_refusal d) is)
