@@ -8,3 +8,4 @@ mod Following
 mod Handled
 mod Worked
 mod Standing
+mod Said

@@ -37,7 +37,7 @@ use Rattle.pm_processes.specs.RelayProcess.{RelayExchange, RelayExchanges, setup
 use Rattle.pm_processes.specs.RootProcess.{RootExchange, RootExchanges}
 use Rattle.pm_processes.specs.DeviceProcess.{IsAsked, DeviceExchange, DeviceExchanges, AnswersAgent}
 use Rattle.pm_processes.specs.History.{Scene, HistoryEvent, RelayBegins, RelayGoesOn, RootBegins}
-use Rattle.pm_processes.specs.History.{RootGoesOn, DeviceBegins, DeviceGoesOn, Happens1, Happen}
+use Rattle.pm_processes.specs.History.{RootGoesOn, DeviceBegins, DeviceGoesOn, Happens1, Happen, life_step, life_steps}
 use Rattle.pm_processes.specs.History.{RelayProcessBegins, RelayProcessGoesOn, RootProcessBegins, RootProcessGoesOn, DeviceProcessBegins}
 use Rattle.pm_processes.specs.History.{DeviceProcessGoesOn}
 use Rattle.pm_processes.proofs.Following.{Follows, relay_as, device_as, Agrees, follows_but}
@@ -58,9 +58,8 @@ is_free p own sys d (device_frame.Resume stored) may asked are = absurd asked
 is_free p own sys d frame may asked are = tt
 
 module _ (lists : Lists) (p : Pricing) (numbering : Numbering) (market : IsTreeMarket lists p numbering) where
-  -- an event is a step of a life
-  record Lived (old : Scene) (new : Scene) : Type 0 where
-    step : LifeStep
+  -- an event is this step of a life
+  record Lived (old : Scene) (step : LifeStep) (new : Scene) : Type 0 where
     live : LivesFree1 lists p numbering old.world step new.world
     follows : Follows lists p numbering new
 
@@ -76,7 +75,8 @@ module _ (lists : Lists) (p : Pricing) (numbering : Numbering) (market : IsTreeM
 
     -- ---- a relay
 
-    relay_begins : (c : ℕ) (took wrote : List ℕ) (new : Scene) → RelayProcessBegins lists p numbering old c took wrote new → Lived old new
+    relay_begins : (c : ℕ) (took wrote : List ℕ) (new : Scene) → (did : RelayProcessBegins lists p numbering old c took wrote new) →
+        Lived old (lives.RelayUp c did.process.written.cut.n) new
     relay_begins c took wrote new did =
         let made = did.process in
         let n : ℕ = made.written.cut.n in
@@ -108,7 +108,6 @@ module _ (lists : Lists) (p : Pricing) (numbering : Numbering) (market : IsTreeM
         let stored_is = did.promised.stored_last in
         let hello = did.promised.same_hello in
         record {
-          step = lives.RelayUp c n;
           live = record {
             conc = did.conc;
             limited = did.limited;
@@ -139,7 +138,8 @@ module _ (lists : Lists) (p : Pricing) (numbering : Numbering) (market : IsTreeM
               (λ leaf. absurd (relay_no_leaf lists c c did.conc leaf refl)));
         }
 
-    relay_goes_on : (c : ℕ) (new : Scene) → RelayProcessGoesOn lists p numbering old c new → Lived old new
+    relay_goes_on : (c : ℕ) (new : Scene) → (did : RelayProcessGoesOn lists p numbering old c new) →
+        Lived old (lives.Relay c did.exchange.frame did.handled) new
     relay_goes_on c new did =
         let e = did.exchange in
         let n : ℕ = did.handled in
@@ -172,7 +172,6 @@ module _ (lists : Lists) (p : Pricing) (numbering : Numbering) (market : IsTreeM
         (record { relay = world.seen.relays c; waiting = world.waiting c }) l) did.next (is.relays c did.conc did.runs) in
         let stream = subst (λ (l : List RelayExchange). RelayStream (world.terms c) world.basis l) did.next (is.relay_streams c did.conc did.runs) in
         record {
-          step = lives.Relay c e.frame n;
           live = record {
             conc = did.conc;
             runs = did.runs;
@@ -198,7 +197,7 @@ module _ (lists : Lists) (p : Pricing) (numbering : Numbering) (market : IsTreeM
 
     -- ---- the auctioneer
 
-    root_begins : (took wrote : List ℕ) (new : Scene) → RootProcessBegins p old took wrote new → Lived old new
+    root_begins : (took wrote : List ℕ) (new : Scene) → RootProcessBegins p old took wrote new → Lived old lives.RootUp new
     root_begins took wrote new did =
         let made = did.process in
         let after : Scene = record old {
@@ -220,7 +219,6 @@ module _ (lists : Lists) (p : Pricing) (numbering : Numbering) (market : IsTreeM
         } in
         let hello = did.promised.same_hello in
         record {
-          step = lives.RootUp;
           live = record {
             root = made.root;
             back = subst (λ (s : ℕ). RootComesBack s world.root_kept.last world.root_kept.numbers made.root)
@@ -236,7 +234,7 @@ module _ (lists : Lists) (p : Pricing) (numbering : Numbering) (market : IsTreeM
               (λ leaf. absurd (no_leaf leaf)));
         }
 
-    root_goes_on : (new : Scene) → RootProcessGoesOn lists p numbering old new → Lived old new
+    root_goes_on : (new : Scene) → (did : RootProcessGoesOn lists p numbering old new) → Lived old (lives.Root did.exchange.frame did.handled) new
     root_goes_on new did =
         let e = did.exchange in
         let n : ℕ = did.handled in
@@ -266,7 +264,6 @@ module _ (lists : Lists) (p : Pricing) (numbering : Numbering) (market : IsTreeM
         let now = subst (λ (l : List RootExchange). RootExchanges world.basis world.seen.root l) did.next (is.root did.runs) in
         let stream = subst (λ (l : List RootExchange). RootStream world.basis l) did.next (is.root_stream did.runs) in
         record {
-          step = lives.Root e.frame n;
           live = record {
             runs = did.runs;
             may = root_free lists p numbering world.seen world.basis e did.exchanges stream did.promised.handed_on;
@@ -292,7 +289,8 @@ module _ (lists : Lists) (p : Pricing) (numbering : Numbering) (market : IsTreeM
     not_root : (d : ℕ) → IsLeaf lists d → 0 ≡ d → ⊥
     not_root d leaf e = omega (arith, e, (leaf_node lists market.law d leaf).0)
 
-    device_begins : (d : ℕ) (took wrote : List ℕ) (new : Scene) → DeviceProcessBegins lists p numbering old d took wrote new → Lived old new
+    device_begins : (d : ℕ) (took wrote : List ℕ) (new : Scene) → (did : DeviceProcessBegins lists p numbering old d took wrote new) →
+        Lived old (lives.DeviceUp d did.process.written.cut.n) new
     device_begins d took wrote new did =
         let made = did.process in
         let stored : StoredAgent = world.agent_kept d in
@@ -323,7 +321,6 @@ module _ (lists : Lists) (p : Pricing) (numbering : Numbering) (market : IsTreeM
         subst (λ (i : ℕ). IfSome stored.newest (IsDemand i)) (ap (λ (b : BasisValue). b.steps) did.promised.same_hello ∙ is.steps)
         (subst (λ (k : StoredAgent). IfSome k.newest (IsDemand made.basis.steps)) did.promised.stored_last made.newest) in
         record {
-          step = lives.DeviceUp d n;
           live = record { leaf = did.leaf; new_is = ap (λ (s : Scene). s.world) did.new_is };
           follows = subst (Follows lists p numbering) (sym did.new_is) (follows_but lists p numbering old is d after agrees
               (λ conc. absurd (not_conc d did.leaf conc))
@@ -351,7 +348,8 @@ module _ (lists : Lists) (p : Pricing) (numbering : Numbering) (market : IsTreeM
     of_own_basis d e may (inl same) = record { asked = same.0; after = same.2; outs = same.3 }
     of_own_basis d e may (inr other) = absurd (no_other world.basis world.seen d e.frame may other.0)
 
-    device_goes_on : (d : ℕ) (new : Scene) → DeviceProcessGoesOn lists p numbering old d new → Lived old new
+    device_goes_on : (d : ℕ) (new : Scene) → (did : DeviceProcessGoesOn lists p numbering old d new) →
+        Lived old (lives.Device d did.exchange.frame did.handled) new
     device_goes_on d new did =
         let e = did.exchange in
         let n : ℕ = did.handled in
@@ -390,7 +388,6 @@ module _ (lists : Lists) (p : Pricing) (numbering : Numbering) (market : IsTreeM
           agent_kept = update world.agent_kept d (stored_last (world.agent_kept d) (take n l));
         } in
         record {
-          step = lives.Device d e.frame n;
           live = record {
             leaf = did.leaf;
             runs = did.runs;
@@ -411,7 +408,8 @@ module _ (lists : Lists) (p : Pricing) (numbering : Numbering) (market : IsTreeM
               )));
         }
 
-    lived : (event : HistoryEvent) (new : Scene) → Happens1 lists p numbering old event new → Lived old new
+    lived : (event : HistoryEvent) (new : Scene) → (did : Happens1 lists p numbering old event new) →
+        Lived old (life_step lists p numbering old event new did) new
     lived (RelayBegins c took wrote) new did = relay_begins c took wrote new did
     lived (RelayGoesOn c) new did = relay_goes_on c new did
     lived (RootBegins took wrote) new did = root_begins took wrote new did
@@ -419,20 +417,14 @@ module _ (lists : Lists) (p : Pricing) (numbering : Numbering) (market : IsTreeM
     lived (DeviceBegins d took wrote) new did = device_begins d took wrote new did
     lived (DeviceGoesOn d) new did = device_goes_on d new did
 
-  -- the events are steps of lives, one after the other
-  pub record AreLives (first last : World) : Type 0 where
-    -- the steps that the events are
-    pub steps : List LifeStep
-    pub live : LiveFree lists p numbering first steps last
-
   -- a history is lives
-  pub are_lives : (events : List HistoryEvent) (first last : Scene) → Follows lists p numbering first → Happen lists p numbering first events last →
-      AreLives first.world last.world
-  are_lives [] first last is happen = record { steps = []; live = ap (λ (s : Scene). s.world) happen }
+  pub are_lives : (events : List HistoryEvent) (first last : Scene) → Follows lists p numbering first →
+      (happen : Happen lists p numbering first events last) →
+      LiveFree lists p numbering first.world (life_steps lists p numbering first events last happen) last.world
+  are_lives [] first last is happen = ap (λ (s : Scene). s.world) happen
   are_lives (event ∷ events) first last is happen =
       let one = lived first is event happen.0 happen.1 in
-      let others = are_lives events happen.0 last one.follows happen.2 in
-      record { steps = one.step ∷ others.steps; live = (happen.0.world, one.live, others.live) }
+      (happen.0.world, one.live, are_lives events happen.0 last one.follows happen.2)
 
   -- of a scene in which no process ran nothing is to come
   pub follows_new : (scene : Scene) → scene.world.basis.steps ≡ p.steps → ((y : ℕ) → scene.world.up y ≡ false) → Follows lists p numbering scene

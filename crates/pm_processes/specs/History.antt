@@ -9,7 +9,8 @@ use Rattle.pm_basis.specs.Prices.{BasisValue}
 use Rattle.pm_frames.specs.Terms.{MayGive}
 use Rattle.pm_system.specs.System.{with_relay, with_root, with_agent}
 use Rattle.pm_lives.specs.Lives.{World, setup_of, handed_out, stored_last, HandledSome, let_go_at_relay, let_go_at_root, restart_outs}
-use Rattle.pm_lives.specs.Lives.{IsNewWorld}
+use Rattle.pm_lives.specs.Lives.{LifeStep, IsNewWorld}
+use Rattle.pm_lives.specs.Lives as lives
 use Rattle.pm_processes.specs.HandedOn.{RelayIsHanded, RootIsHanded, DeviceIsHanded}
 use Rattle.pm_processes.specs.RelayProcess.{RelayProcess, RelayExchange, setup_with, relay_resumed}
 use Rattle.pm_processes.specs.RootProcess.{RootProcess, RootExchange, root_resumed}
@@ -170,6 +171,23 @@ abbrev pub Happen : Lists → Pricing → Numbering → Scene → List HistoryEv
 Happen lists p numbering old [] new = old ≡ new
 Happen lists p numbering old (event ∷ events) new =
     (mid : Scene) × Happens1 lists p numbering old event mid × Happen lists p numbering mid events new
+
+-- The step of a life that an event is: a process begins, and of what it writes so many frames are handled; or it reads this frame.
+abbrev pub life_step : (lists : Lists) (p : Pricing) (numbering : Numbering) (old : Scene) (event : HistoryEvent) (new : Scene) →
+    Happens1 lists p numbering old event new → LifeStep
+life_step lists p numbering old (RelayBegins c took wrote) new did = lives.RelayUp c did.process.written.cut.n
+life_step lists p numbering old (RelayGoesOn c) new did = lives.Relay c did.exchange.frame did.handled
+life_step lists p numbering old (RootBegins took wrote) new did = lives.RootUp
+life_step lists p numbering old RootGoesOn new did = lives.Root did.exchange.frame did.handled
+life_step lists p numbering old (DeviceBegins d took wrote) new did = lives.DeviceUp d did.process.written.cut.n
+life_step lists p numbering old (DeviceGoesOn d) new did = lives.Device d did.exchange.frame did.handled
+
+-- one for each event
+abbrev pub life_steps : (lists : Lists) (p : Pricing) (numbering : Numbering) (old : Scene) (events : List HistoryEvent) (new : Scene) →
+    Happen lists p numbering old events new → List LifeStep
+life_steps lists p numbering old [] new happen = []
+life_steps lists p numbering old (event ∷ events) new happen =
+    life_step lists p numbering old event happen.0 happen.1 ∷ life_steps lists p numbering happen.0 events new happen.2
 
 -- nothing was handed out or stored between these moments
 pub record HandlesNothing (old new : Scene) : Type 0 where

@@ -5,4 +5,5 @@ pub mod DeviceProcess
 pub mod HandedOn
 pub mod History
 pub mod Kept
+pub mod Said
 pub mod Worked

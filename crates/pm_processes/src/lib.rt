@@ -6,7 +6,7 @@
 //!
 //! The definitions stand in `specs/`: `Processes` (a process by its bytes), `RelayProcess`, `RootProcess` and `DeviceProcess` (the
 //! same frame by frame), `HandedOn` (frames that are handed on unchanged, by their bytes), `History` (processes of all nodes, and
-//! what the carriers promise), `Kept` (what holds then), `Worked` (a worked history).
+//! what the carriers promise), `Kept` (what holds then), `Said` (what that says of the tree), `Worked` (a worked history).
 #![tactic(auto)]
 
 ghost use Rattle.std.specs.Prelude.{◌≡◌, ◌⊎◌, ℕ, List};
@@ -24,6 +24,7 @@ ghost use Rattle.pm_processes.specs.RootProcess.{RootProcess};
 ghost use Rattle.pm_processes.specs.DeviceProcess.{DeviceProcess};
 ghost use Rattle.pm_processes.specs.History.{Scene, RelayProcessGoesOn, RootProcessGoesOn, DeviceProcessGoesOn, HandlesNothing};
 ghost use Rattle.pm_processes.specs.Kept.{HistoriesKeepTheLaw};
+ghost use Rattle.pm_processes.specs.Said.{HistoriesSay};
 ghost use Rattle.pm_processes.specs.Worked.{small_scene, HistoryGoesOn};
 ghost use Rattle.pm_relay.specs.Relays.{RelayValue};
 ghost use Rattle.pm_relay.specs.Roots.{RootValue};
@@ -54,6 +55,13 @@ pub fn histories_keep_the_law()
     lives_keep_the_law();
     settled_lives_are_current();
 }
+
+/// A law: what a history that keeps the law says of the tree that was given, whatever lists there are. The setpoints of a device that
+/// had one process have rising indices. The limits that are stored of a relay are those that its giver gives, under the number that is
+/// stored with them.
+pub fn histories_say_so()
+    ensures { HistoriesSay }
+{}
 
 /// A law: what is handled of a process was written by it. If none is left of the frames that it wrote whole, nothing of it is
 /// handed out or stored, however it goes on.
