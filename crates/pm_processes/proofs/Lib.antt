@@ -9,3 +9,8 @@ mod Handled
 mod Worked
 mod Standing
 mod Said
+mod LimitsProcesses
+mod LimitsRelay
+mod WorkedLimits
+mod LimitsMarket
+mod LimitsLaw

@@ -7,3 +7,4 @@ pub mod History
 pub mod Kept
 pub mod Said
 pub mod Worked
+pub mod WorkedLimits

@@ -45,18 +45,22 @@ took_second = hello_bytes ++ resume_bytes
 abbrev pub wrote_second : List ℕ
 wrote_second = bid_begun ++ bid_rest
 
--- no process runs; each relay has the same limits
-abbrev pub no_terms : ℕ → RelayTerms
-no_terms c = record { limits = small_limits; giver = None }
-
-abbrev pub small_scene : RootValue → (ℕ → RelayValue) → Scene
-small_scene root relays = record {
-  world = new_world small_places small_basis no_terms root relays;
+-- no process runs; relays have these terms
+abbrev pub new_scene : (ℕ → RelayTerms) → RootValue → (ℕ → RelayValue) → Scene
+new_scene terms root relays = record {
+  world = new_world small_places small_basis terms root relays;
   relay_next = λ c. [];
   root_next = [];
   device_next = λ d. [];
   left = λ y. 0;
 }
+
+-- each relay has the same limits, and nobody gives it others
+abbrev pub no_terms : ℕ → RelayTerms
+no_terms c = record { limits = small_limits; giver = None }
+
+abbrev pub small_scene : RootValue → (ℕ → RelayValue) → Scene
+small_scene root relays = new_scene no_terms root relays
 
 -- The first process of device 2 takes Hello and an Offer. Of the answer the Resume is written, and five bytes of the Bid; the Resume is
 -- handled. The second process takes Hello and this Resume, and writes the Bid.

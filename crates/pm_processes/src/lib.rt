@@ -6,7 +6,8 @@
 //!
 //! The definitions stand in `specs/`: `Processes` (a process by its bytes), `RelayProcess`, `RootProcess` and `DeviceProcess` (the
 //! same frame by frame), `HandedOn` (frames that are handed on unchanged, by their bytes), `History` (processes of all nodes, and
-//! what the carriers promise), `Kept` (what holds then), `Said` (what that says of the tree), `Worked` (a worked history).
+//! what the carriers promise), `Kept` (what holds then), `Said` (what that says of the tree), `Worked` and `WorkedLimits` (worked
+//! histories).
 #![tactic(auto)]
 
 ghost use Rattle.std.specs.Prelude.{◌≡◌, ◌⊎◌, ℕ, List};
@@ -26,6 +27,7 @@ ghost use Rattle.pm_processes.specs.History.{Scene, RelayProcessGoesOn, RootProc
 ghost use Rattle.pm_processes.specs.Kept.{HistoriesKeepTheLaw};
 ghost use Rattle.pm_processes.specs.Said.{HistoriesSay};
 ghost use Rattle.pm_processes.specs.Worked.{small_scene, HistoryGoesOn};
+ghost use Rattle.pm_processes.specs.WorkedLimits.{limits_scene, LimitsHistoryKeepsTheLaw};
 ghost use Rattle.pm_relay.specs.Relays.{RelayValue};
 ghost use Rattle.pm_relay.specs.Roots.{RootValue};
 
@@ -82,3 +84,17 @@ pub fn a_cut_process_goes_on()
     ensures { (root : RootValue) (relays : ℕ → RelayValue) →
         HistoryGoesOn (small_scene root relays) }
 {}
+
+/// A law: the same of a whole tree with limits. In a worked history, by the bytes of five processes, a device gives a relay its
+/// limits, of -3 to 5 watts. Another asks for 6, -2 and -3 watts. The relay's process is killed within its Bid, and the next one
+/// begins with the stored Resume: it has these limits again, hears the device again and so sends the Bid, of -2, -2 and -3
+/// watts. The auctioneer clears at step 0. There the device would take 6 watts, so the relay settles for step 1, and the
+/// device's Setpoint is of -2 watts. The same follows from what the theorem says of this history, and from nothing else: the power
+/// is that of the device's own offer, at the step over all bids that count, and the relay is within the limits.
+pub fn a_relay_keeps_the_limits_given()
+    ensures { (root : RootValue) (relays : ℕ → RelayValue) →
+        LimitsHistoryKeepsTheLaw (limits_scene root relays) }
+{
+    // The call tells a fact: such histories keep the law.
+    histories_keep_the_law();
+}

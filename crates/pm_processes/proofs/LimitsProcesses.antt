@@ -1,0 +1,192 @@
+-- The worked history of a relay under limits: the processes of the devices and of the auctioneer, frame by frame.
+use Rattle.std.proofs.Common.{ℤ, negsuc}
+use Rattle.std.proofs.Common.{List, [], ◌∷◌, replicate}
+use Rattle.std.proofs.Common.{Some, None, refl, inl, inr, arith}
+use Rattle.std.proofs.lemmas.Int.{ints}
+use Rattle.std.specs.Prelude.{FitsSigned}
+use Rattle.std.specs.Int.{w32}
+use Rattle.std.specs.List.{AllByRecursion}
+use Rattle.pm_base.specs.Limits.{most_nodes}
+use Rattle.pm_bid.specs.Clearing.{clearing_step}
+use Rattle.pm_cache.specs.Cache.{aggregate_of}
+use Rattle.pm_net.specs.Agents.{DeviceAgent}
+use Rattle.pm_control.specs.Control.{agent_stored}
+use Rattle.pm_relay.specs.Roots.{RootValue, RootCleared, with_root_bid}
+use Rattle.pm_wire.specs.declared.frame.Frame.TheVariants.{Bid, Clear}
+use Rattle.pm_frames.specs.declared.parent.ParentFrame.TheVariants.{Price}
+use Rattle.pm_frames.specs.declared.root.RootFrame.TheVariants as root_frame
+use Rattle.pm_frames.specs.declared.device.DeviceFrame.TheVariants as device_frame
+use Rattle.pm_frames.specs.declared.form.OfferForm.TheVariants.{Array}
+use Rattle.pm_services.specs.RootAnswers.{stored_root}
+use Rattle.pm_system.specs.Given.{IsDemand}
+use Rattle.pm_system.proofs.Worked.{reaches, reached, noted, new_root, cleared_root}
+use Rattle.pm_lives.specs.Outputs.{Keeps}
+use Rattle.pm_lives.specs.RootWrites.{clearing_outs}
+use Rattle.pm_lives.specs.DeviceWrites.{device_outs, agent_after}
+use Rattle.pm_lives.specs.WorkedLives.{small_basis}
+use Rattle.pm_processes.specs.RootProcess.{RootProcess, RootExchange}
+use Rattle.pm_processes.specs.DeviceProcess.{DeviceProcess, DeviceExchange}
+use Rattle.pm_processes.specs.WorkedLimits.{limits_pricing, asked}
+use Rattle.pm_processes.specs.WorkedLimits.{giver_took, giver_wrote, device_took, device_wrote}
+use Rattle.pm_processes.specs.WorkedLimits.{root_took, root_wrote}
+use Rattle.pm_processes.proofs.Offers.{is_demand}
+
+-- ---- device 2
+
+pub asked_is : IsDemand 3 asked
+asked_is = is_demand 3 asked refl refl
+
+pub asked_fits : AllByRecursion (λ (z : ℤ). FitsSigned w32 z) asked
+asked_fits = (omega (arith, ints), (omega (arith, ints), (omega (arith, ints), tt)))
+
+abbrev pub agent_new : DeviceAgent
+agent_new = agent_stored 0 None 0
+
+abbrev agent_offered : DeviceAgent
+agent_offered = agent_after agent_new (device_frame.Offer Array asked)
+
+abbrev pub offers : DeviceExchange
+offers = record {
+  frame = device_frame.Offer Array asked;
+  after = agent_offered;
+  outs = device_outs limits_pricing small_basis agent_new (device_frame.Offer Array asked);
+}
+
+abbrev pub settles : DeviceExchange
+settles = record {
+  frame = device_frame.Parent (Price 1 2 1 1 small_basis);
+  after = agent_after agent_offered (device_frame.Parent (Price 1 2 1 1 small_basis));
+  outs = device_outs limits_pricing small_basis agent_offered (device_frame.Parent (Price 1 2 1 1 small_basis));
+}
+
+unfoldable pub device_process : DeviceProcess limits_pricing 1 device_took device_wrote
+device_process = record {
+  basis = small_basis;
+  resume = None;
+  exchanges = offers ∷ settles ∷ [];
+  rest = [];
+  newest = tt;
+  begins = record {
+    stand = (
+      record { formed = (omega (arith, ints), omega (arith, ints), omega arith); accepted = refl },
+      (
+        record { formed = (tt, (refl, asked_fits)); accepted = (tt, refl) },
+        (
+          record {
+            formed = (tt, (omega arith, omega arith, omega arith, omega arith, (omega (arith, ints), omega (arith, ints), omega arith)));
+            accepted = (refl, omega arith, omega arith, refl);
+          },
+          tt,
+        ),
+      ),
+    );
+    spelled = refl;
+  };
+  answers = (inl (asked_is, tt, refl, refl), (inl (tt, refl, refl, refl), tt));
+  written = record {
+    many = 96;
+    cut = record { n = 4; rest = []; held = refl; part = inl refl };
+    beyond = [];
+    wrote_is = refl;
+    at_end = inl refl;
+  };
+}
+
+-- ---- device 3
+
+abbrev pub leaves : DeviceExchange
+leaves = record {
+  frame = device_frame.Leave;
+  after = agent_after agent_new device_frame.Leave;
+  outs = device_outs limits_pricing small_basis agent_new device_frame.Leave;
+}
+
+unfoldable pub giver_process : DeviceProcess limits_pricing 2 giver_took giver_wrote
+giver_process = record {
+  basis = small_basis;
+  resume = None;
+  exchanges = leaves ∷ [];
+  rest = [];
+  newest = tt;
+  begins = record {
+    stand = (
+      record { formed = (omega (arith, ints), omega (arith, ints), omega arith); accepted = refl },
+      (record { formed = tt; accepted = tt }, tt),
+    );
+    spelled = refl;
+  };
+  answers = (inl (tt, tt, refl, refl), tt);
+  written = record {
+    many = 26;
+    cut = record { n = 2; rest = []; held = refl; part = inl refl };
+    beyond = [];
+    wrote_is = refl;
+    at_end = inl refl;
+  };
+}
+
+-- ---- the auctioneer
+
+abbrev announced_demand : List ℤ
+announced_demand = negsuc 1 ∷ negsuc 1 ∷ negsuc 2 ∷ []
+
+abbrev root_heard : RootValue
+root_heard = with_root_bid new_root 0 1 (Some announced_demand)
+
+abbrev root_cleared : RootValue
+root_cleared = cleared_root root_heard
+
+abbrev pub root_hears : RootExchange
+root_hears = record { frame = root_frame.Market (Bid 1 1 announced_demand); after = root_heard; outs = [] }
+
+abbrev pub root_clears : RootExchange
+root_clears = record {
+  frame = root_frame.Market Clear;
+  after = root_cleared;
+  outs = Keeps (stored_root small_basis root_cleared) ∷ clearing_outs root_cleared;
+}
+
+pub is_cleared : RootCleared root_heard root_cleared 1 (clearing_step (aggregate_of root_heard.auction.cache))
+unfolding reaches
+is_cleared = record {
+  caught_up = reached (replicate most_nodes 0) root_heard.auction.cache.heads refl;
+  index = refl;
+  cleared = record { changed = refl; index = refl; step = refl; cache = refl; new_index = refl; new_step = refl; not_changed = refl };
+  numbers = λ child inside. noted root_heard.auction.cache.heads child;
+  children = refl;
+  base = refl;
+}
+
+unfoldable pub root_process : RootProcess root_took root_wrote
+root_process = record {
+  basis = small_basis;
+  resume = None;
+  exchanges = root_hears ∷ root_clears ∷ [];
+  rest = [];
+  begins = record {
+    stand = (
+      record { formed = (omega (arith, ints), omega (arith, ints), omega arith); accepted = refl },
+      (
+        record {
+          formed = (omega arith, omega arith, refl, (omega (arith, ints), (omega (arith, ints), (omega (arith, ints), tt))));
+          accepted = ((omega arith, omega arith, omega arith), refl);
+        },
+        (record { formed = tt; accepted = tt }, tt),
+      ),
+    );
+    spelled = refl;
+  };
+  root = new_root;
+  back = record { auction = refl; base = refl; recorded = refl };
+  answers = (
+    inl (record { looks = inr ((λ h. omega (arith, h.came_back)), refl); replied = refl }),
+    (inl (1, clearing_step (aggregate_of root_heard.auction.cache), is_cleared, refl), tt),
+  );
+  written = record {
+    many = 1062;
+    cut = record { n = 2; rest = []; held = refl; part = inl refl };
+    beyond = [];
+    wrote_is = refl;
+    at_end = inl refl;
+  };
+}
