@@ -4,7 +4,7 @@
     live_devices.py SETTINGS
 
 SETTINGS is JSON: the broker's `host` and `port`, the market's `prefix` and `steps`, the `relays` that the devices are below, how
-many `children` each has, and a `seed`. Lines at standard input say what to do:
+many `children` each has, from which number `first` on (1 by default), and a `seed`. Lines at standard input say what to do:
 
     first RATE    each device bids once, so many bids a second
     rate RATE     one device after the other bids anew, by chance, so many a second; 0 ends that, and -1 is as fast as it goes
@@ -71,7 +71,9 @@ class Devices:
         self._steps, self._chance = told["steps"], random.Random(told["seed"])
         self._link = Connection(told["host"], told["port"], f"devices.{told['seed']}")
         prefix = told["prefix"]
-        places = [(relay, child) for relay in told["relays"] for child in range(1, told["children"] + 1)]
+        first = told.get("first", 1)
+        below = range(first, first + told["children"])
+        places = [(relay, child) for relay in told["relays"] for child in below]
         self._devices = [Device(text(f"{prefix}/{relay}/bid/{child}")) for relay, child in places]
         self._children = [child for _, child in places]
         topics = [f"{prefix}/{relay}/price/{child}".encode() for relay, child in places]
@@ -81,7 +83,8 @@ class Devices:
         self._link.subscribe([self._basis.decode()])
         self._link.subscribe([f"{prefix}/{relay}/price/+" for relay in told["relays"]])
         self._link.subscribe([f"{prefix}/{relay}/prices" for relay in told["relays"]])
-        below = range(1, told["children"] + 1)
+        # Where the numbers of these children begin in a table.
+        self._before = first - 1
         self._of_table = {
             f"{prefix}/{relay}/prices".encode(): [self._by_topic[f"{prefix}/{relay}/price/{child}".encode()] for child in below]
             for relay in told["relays"]
@@ -97,15 +100,23 @@ class Devices:
 
     # Bids.
 
+    def _drawn(self):
+        """The step at which the demand of a bid falls, and the demand before and behind it: by chance."""
+        return self._chance.randrange(self._steps + 1), self._chance.randrange(1, MOST), -self._chance.randrange(1, MOST)
+
     def _bid(self, at, now, properties):
         device = self._devices[at]
         device.number += 2
-        falls = self._chance.randrange(self._steps + 1)
-        before, behind = self._chance.randrange(1, MOST), -self._chance.randrange(1, MOST)
+        falls, before, behind = self._drawn()
         device.bids[device.number] = falls, before, behind, now
         demands = [before] * falls + [behind] * (self._steps - falls)
         self._link.publish(device.topic, self._format.pack(BID, self._children[at], device.number, *demands), properties)
         self._made += 1
+
+    def _properties(self):
+        """The properties of bids that are made now."""
+        moment = datetime.now(timezone.utc).isoformat(timespec="milliseconds").replace("+00:00", "Z")
+        return user_properties(time=moment, session=self._session, version=VERSION)
 
     def _bid_all_due(self):
         """Makes the bids that are due now, as far as the broker confirms them."""
@@ -117,8 +128,7 @@ class Devices:
         if due <= 0:
             return
         self._due += 0 if self._rate < 0 else due / self._rate
-        moment = datetime.now(timezone.utc).isoformat(timespec="milliseconds").replace("+00:00", "Z")
-        properties = user_properties(time=moment, session=self._session, version=VERSION)
+        properties = self._properties()
         for _ in range(due):
             if self._waiting:
                 at = self._waiting.pop()
@@ -140,7 +150,7 @@ class Devices:
             elif topic in self._of_table and payload and payload[0] == TABLE:
                 _, index, step, *_ = TABLE_FORMAT.unpack_from(payload)
                 numbers = struct.unpack_from(f">{(len(payload) - TABLE_FORMAT.size) // 4}I", payload, TABLE_FORMAT.size)
-                for device, number in zip(self._of_table[topic], numbers, strict=False):
+                for device, number in zip(self._of_table[topic], numbers[self._before :], strict=False):
                     # As a carrier does, a device leaves out what gives the same power as before.
                     if number and not (device.index and (number, step) == (device.answered, device.step)):
                         self._take(device, number, index, step, now)

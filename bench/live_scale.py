@@ -3,11 +3,13 @@
 
     live_scale.py [--relays 1 4 16] [--low 5] [--high 500] [--seconds 30] ..
     live_scale.py --relays 64 --below 16 --brokers 4 ..
+    live_scale.py --moving ..
 
 Broker, nodes and devices are in network namespaces of this machine, joined by a bridge. Nodes are those of `cogmaula site`, many in a
 process of Python and over one connection, each with a process of `live` of its own. Devices are simulated, thousands in a process.
 With --below so many relays are below each of the R. With --brokers the relays and their devices are divided among brokers, which bridges join
-with the first: it has the auctioneer.
+with the first: it has the auctioneer. With --moving one device more is below the auctioneer, whose bids move the price at each clearing: so
+each clearing has a new price for each device.
 
 It prints, at a low and at a high rate of bids: bids, clearings and prices a second, the time from a device's bid to its
 setpoint, messages at the broker, and the processors that each part took. Then it prints the memory of each part.
@@ -168,6 +170,8 @@ class Market:
             self._started(f"devices{number}", ["live_devices.py", json.dumps({**market, "host": broker.address, "relays": them, "seed": number})])
             for number, (broker, them) in enumerate(batches)
         ]
+        moving = {**market, "host": first.address, "relays": ["auctioneer"], "first": relays + 1, "children": 1, "seed": len(batches)}
+        self.movers = [self._started("mover", ["live_mover.py", json.dumps(moving)])] if arguments.moving else []
 
     def _started(self, name, words, options=()):
         self._network.add(name)
@@ -180,7 +184,7 @@ class Market:
             "broker": [broker.process.pid for broker in self.brokers],
             "nodes": nodes,
             "live": [child for number in nodes for child in children_of(number)],
-            "simulation": [device.process.pid for device in self.devices],
+            "simulation": [device.process.pid for device in [*self.devices, *self.movers]],
         }
 
     def asked(self, parts, line):
@@ -188,6 +192,17 @@ class Market:
         for part in parts:
             part.tell(line)
         return [json.loads(part.answer()) for part in parts]
+
+    def first(self, rate):
+        """Lets each device bid once, so many a second in all."""
+        for mover in self.movers:
+            mover.tell("first 1")
+        self.rate("first", rate)
+
+    def move(self, moves):
+        """Lets the price move from now on, or no more."""
+        for mover in self.movers:
+            mover.tell(f"moving {int(moves)}")
 
     def rate(self, word, rate):
         """Lets the devices bid, so many bids a second in all."""
@@ -228,7 +243,7 @@ class Market:
         """Waits until each device has the newest price for its newest bid. Gives what the devices hold then, and the seconds."""
         began, quiet = time.monotonic(), 0
         while True:
-            told = self.asked(self.devices, "state")
+            told = self.asked([*self.devices, *self.movers], "state")
             wrong = self.wrong(told)
             quiet = 0 if wrong else quiet + 1
             if quiet == 3 or time.monotonic() > began + self.arguments.rest:
@@ -278,16 +293,18 @@ def measured(arguments, relays, folder, log):
               f"up after {time.monotonic() - began:.0f} s", flush=True)
         if arguments.broker_alone:
             return broker_alone(market, arguments, network)
-        market.rate("first", min(count, arguments.first))
+        market.first(min(count, arguments.first))
         wrong, _, seconds = market.rests()
         if wrong:
             raise Failed("\n".join([f"the first bids have no price after {seconds:.0f} s:", *wrong[:20]]))
         print(f"  {market.looker.clearing()} clearings and {seconds:.0f} s until the first bids of all devices have a price")
-        market.phase("at rest", 0, arguments.seconds)
+        market.move(True)
+        market.phase("no bid but those that move the price" if arguments.moving else "at rest", 0, arguments.seconds)
         market.phase(f"low rate, {arguments.low} bids a second", arguments.low, arguments.seconds)
         market.phase("as fast as it goes" if arguments.high < 0 else f"high rate, {arguments.high} bids a second",
                      arguments.high, arguments.seconds)
         market.rate("rate", 0)
+        market.move(False)
         wrong, told, seconds = market.rests()
         market.memory()
         power, clearing = sum(figures["power"] for figures in told), market.looker.clearing()
@@ -336,6 +353,7 @@ def words():
     parser.add_argument("--devices", type=int, default=8_192, help="the most devices in a process")
     parser.add_argument("--folder", default="/dev/shm", help="where the nodes keep their Resumes; /dev/shm is memory")
     parser.add_argument("--live", default=os.environ.get("COGMAULA_LIVE", "live"), help="the program live")
+    parser.add_argument("--moving", action="store_true", help="move the price at each clearing, by a device more below the auctioneer")
     parser.add_argument("--single", action="store_true", help="tell each price in a topic of its own, and not all together")
     parser.add_argument("--broker-alone", action="store_true", help="leave the nodes out, and measure devices and broker")
     return parser.parse_args()
@@ -345,6 +363,8 @@ def main():
     arguments = words()
     signal.signal(signal.SIGTERM, lambda *_: sys.exit(1))
     statuses = []
+    if arguments.moving and max(arguments.relays) == CHILDREN:
+        sys.exit(f"the auctioneer has at most {CHILDREN} children: with --moving give it {CHILDREN - 1} relays or fewer")
     print(f"{os.cpu_count()} processors, {load()}, Resumes in {arguments.folder}", flush=True)
     for relays in arguments.relays:
         folder = Path(tempfile.mkdtemp(prefix="live_scale.", dir=arguments.folder))
