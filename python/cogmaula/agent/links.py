@@ -98,7 +98,8 @@ class HubLink:
         self._is_new = self._is_closed = False
         # A byte here wakes the thread.
         self._wakes, self._woken = socket.socketpair()
-        self._woken.setblocking(False)
+        for end in (self._wakes, self._woken):
+            end.setblocking(False)
 
     def start(self, take: Callable[[Word], None], log: NodeLog) -> None:
         """See Link."""
@@ -111,14 +112,19 @@ class HubLink:
         with self._lock:
             self._number += 1
             self._newest, self._is_new = b"".join(json.dumps(words).encode() + b"\n" for words in _words_of(offer, self._number)), True
-        self._wakes.send(b".")
+        self._wake()
 
     def close(self) -> None:
         """See Link. What was offered last is sent before."""
         self._is_closed = True
-        self._wakes.send(b".")
+        self._wake()
         self._thread.join(WRITTEN)
         self._wakes.close()
+
+    def _wake(self) -> None:
+        """Wakes the thread. If it has ended, or is to wake already, there is nothing to do."""
+        with contextlib.suppress(OSError):
+            self._wakes.send(b".")
 
     def _work(self) -> None:
         said = ""

@@ -11,6 +11,7 @@ import pytest
 from logged import log_to
 
 from cogmaula.agent import Guard, Limits, agent_settings_of
+from cogmaula.agent.links import HubLink, HubPlace
 from cogmaula.agent.modbus import ModbusPlace
 from cogmaula.agent.plain_sources import Command, CommandPlace, Csv, CsvPlace, Http, HttpPlace
 from cogmaula.agent.device_values import NoReading, NotWritten, Place, number_in
@@ -18,6 +19,29 @@ from cogmaula.live.node_errors import BadSettings
 from cogmaula.live.frames import Offer, Points, Stated
 from cogmaula.live.device_kinds import DeviceKind
 from cogmaula.simulation import Battery, HeatPump
+
+# The link to a hub.
+
+
+def test_a_link_to_a_hub_ends_though_its_thread_has_ended_before_it_is_woken(tmp_path):
+    link = HubLink(HubPlace(hub="127.0.0.1:9", agent="a", token_file=str(tmp_path / "none")))
+    wakes = link._wakes
+
+    class Late:
+        """Wakes a thread only once that has ended."""
+
+        close = wakes.close
+
+        def send(self, data):
+            link._thread.join(10)
+            assert not link._thread.is_alive()
+            return wakes.send(data)
+
+    link.start([].append, log_to([].append))
+    link._wakes = Late()
+    link.close()
+    link.offer(None)
+
 
 # What a device is told.
 
