@@ -12,6 +12,7 @@ from pathlib import Path
 from typing import Any
 
 from ..errors import NoPackage
+from ..live.connection import send_at_once
 from ..live.node_errors import BadSettings
 from .device_values import NoReading, NotWritten, Place, number_in, require_pointer, text_with
 
@@ -93,6 +94,7 @@ class Client:
             self._client.will_set(*will, 1, True)
         self._greet = greet
         self._topics = topics
+        self._client.on_socket_open = lambda _client, _data, one: send_at_once(one)
         self._client.on_connect = self._connected
         self._client.on_disconnect = self._disconnected
         self._client.on_message = lambda _client, _data, message: take(message.topic, message.payload, bool(message.retain))

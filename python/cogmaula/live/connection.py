@@ -137,8 +137,12 @@ def connect(client: Any, settings: BrokerSettings, session: int = 0) -> None:
         clean_start=not session,
         properties=properties_of("CONNECT", MaximumPacketSize=LONGEST, **more),
     )
-    # A small message goes out at once, and does not wait until the one before is acknowledged.
-    client.socket().setsockopt(socket.IPPROTO_TCP, socket.TCP_NODELAY, 1)
+    send_at_once(client.socket())
+
+
+def send_at_once(one: socket.socket) -> None:
+    """Lets a small message go out at once: by itself it waits until the one before is acknowledged, for some 40 ms."""
+    one.setsockopt(socket.IPPROTO_TCP, socket.TCP_NODELAY, 1)
 
 
 def _ending(loop: Callable[..., Any], settings: BrokerSettings, ended: threading.Event, words: list[str]) -> Callable[..., Any]:

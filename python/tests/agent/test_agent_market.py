@@ -6,6 +6,7 @@ import json
 import os
 import re
 import signal
+import socket
 import subprocess
 import sys
 import threading
@@ -277,6 +278,20 @@ def test_an_agent_sees_that_the_site_of_its_node_is_down(tmp_path):
         wait_until(lambda: heard == [Standing("up", ""), down, Standing("up", "")], f"that of its site: {heard}")
         link.close()
         node.close()
+
+
+def test_what_an_agent_tells_a_broker_goes_out_at_once(tmp_path):
+    """By itself paho lets a small message wait until the one before is acknowledged. A connection that comes back is as the first one."""
+    require_broker()
+    with Mosquitto(tmp_path / "broker") as broker:
+        client = Client(BrokerPlace(port=broker.port), [], lambda *_: None)
+        wait_until(lambda: client.is_connected, "the first connection")
+        first = client._client.socket()
+        assert first.getsockopt(socket.IPPROTO_TCP, socket.TCP_NODELAY) != 0
+        first.shutdown(socket.SHUT_RDWR)
+        wait_until(lambda: client.is_connected and client._client.socket() not in (None, first), "the second connection")
+        assert client._client.socket().getsockopt(socket.IPPROTO_TCP, socket.TCP_NODELAY) != 0
+        client.close()
 
 
 def test_a_device_of_a_kind_says_its_state_to_a_hub(live, tmp_path):
