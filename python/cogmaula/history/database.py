@@ -5,7 +5,7 @@ from __future__ import annotations
 import json
 import sqlite3
 import time
-from collections.abc import Iterable, Iterator, Sequence
+from collections.abc import Callable, Iterable, Iterator, Sequence
 from importlib.resources import files
 from pathlib import Path
 from typing import Any, Protocol
@@ -13,7 +13,7 @@ from urllib.parse import urlsplit
 
 from ..errors import NoPackage
 from ..live.node_errors import BadSettings, LiveError
-from .rows import Row, SiteDown
+from .rows import NodeLost, Row, SiteDown, Told
 
 # The version of the tables.
 VERSION = 1
@@ -32,7 +32,7 @@ class Database(Protocol):
         Raises DatabaseLost, and BadSettings if the tables are of another version.
         """
 
-    def put(self, rows: Iterable[Row | SiteDown]) -> None:
+    def put(self, rows: Iterable[Told]) -> None:
         """Keeps rows, all or none, and leaves a row whose key is there as it is. Raises DatabaseLost."""
 
     def read(self, query: str, values: Sequence[Any] = ()) -> list[tuple[Any, ...]]:
@@ -70,7 +70,9 @@ def _statements() -> list[str]:
     return [statement for statement in "\n".join(lines).split(";") if statement.strip()]
 
 
-# The rows of the nodes of a site that is down: each as its newest, but for when, what and why.
+# Whether a node has told a state of a run.
+_IS_KNOWN = "SELECT 1 FROM states WHERE node = {0} AND run = {0} LIMIT 1"
+# The rows of the nodes whose process is down: each as its newest, except for when, what and why.
 _DOWN = """
 INSERT INTO states (node, run, at, state, sort, parent, child, floor, ceiling, alarm, silent, why, session)
 SELECT node, run, {0}, 'down', sort, parent, child, floor, ceiling, alarm, silent, {0}, session FROM states AS told
@@ -78,14 +80,21 @@ WHERE run = {0} AND state = 'up' AND at = (SELECT max(at) FROM states WHERE node
 """
 
 
-def _downs(rows: Iterable[Row | SiteDown], sign: str) -> Iterator[tuple[str, tuple[Any, ...]]]:
-    """A statement, and its values, for each site that is down. It reads the states, so it comes behind the rows that tell them."""
+def _downs(rows: Iterable[Told], sign: str) -> Iterator[tuple[str, tuple[Any, ...]]]:
+    """A statement, and its values, for each process that is down. It reads the states, so it comes behind the rows that tell them."""
     for row in rows:
-        if isinstance(row, SiteDown):
-            yield _DOWN.format(sign), (time.time() if row.at is None else row.at, row.why, row.run)
+        if isinstance(row, SiteDown | NodeLost):
+            down = row.down if isinstance(row, NodeLost) else row
+            yield _DOWN.format(sign), (time.time() if down.at is None else down.at, down.why, down.run)
 
 
-def _alike(rows: Iterable[Row | SiteDown]) -> Iterator[tuple[str, str, list[dict[str, Any]]]]:
+def _unknown(rows: Iterable[Told], sign: str, read: Callable[[str, tuple[Any, ...]], Any]) -> list[Told]:
+    """The rows of last wills of nodes of whose run no state is there."""
+    lost = [row for row in rows if isinstance(row, NodeLost)]
+    return [row.row(time.time()) for row in lost if not read(_IS_KNOWN.format(sign), (row.will.values["node"], row.will.values["run"])).fetchall()]
+
+
+def _alike(rows: Iterable[Told]) -> Iterator[tuple[str, str, list[dict[str, Any]]]]:
     """The rows of each table with the same columns: the table, the names of the columns, and the values in their order."""
     found: dict[tuple[str, ...], list[dict[str, Any]]] = {}
     for row in rows:
@@ -137,15 +146,14 @@ class SqliteDatabase:
         name = Path(self._path).absolute().as_uri() + "?mode=ro" if self._is_reader else self._path
         return sqlite3.connect(name, timeout=30, isolation_level=None, check_same_thread=False, uri=self._is_reader)
 
-    def put(self, rows: Iterable[Row | SiteDown]) -> None:
+    def put(self, rows: Iterable[Told]) -> None:
         """See Database."""
         connection, told = self._required(), list(rows)
         try:
             connection.execute("BEGIN IMMEDIATE")
             try:
-                for table, names, values in _alike(told):
-                    signs = ", ".join("?" * len(values[0]))
-                    connection.executemany(f"INSERT INTO {table} ({names}) VALUES ({signs}) ON CONFLICT DO NOTHING", [tuple(them.values()) for them in values])
+                self._insert(connection, told)
+                self._insert(connection, _unknown(told, "?", connection.execute))
                 for statement, parameters in _downs(told, "?"):
                     connection.execute(statement, parameters)
                 connection.execute("COMMIT")
@@ -154,6 +162,12 @@ class SqliteDatabase:
                 raise
         except sqlite3.Error as error:
             raise DatabaseLost(f"{self._path}: {error}") from None
+
+    @staticmethod
+    def _insert(connection: sqlite3.Connection, rows: Iterable[Told]) -> None:
+        for table, names, values in _alike(rows):
+            signs = ", ".join("?" * len(values[0]))
+            connection.executemany(f"INSERT INTO {table} ({names}) VALUES ({signs}) ON CONFLICT DO NOTHING", [tuple(them.values()) for them in values])
 
     def read(self, query: str, values: Sequence[Any] = ()) -> list[tuple[Any, ...]]:
         """See Database."""
@@ -215,19 +229,23 @@ class PostgresDatabase:
             if not self._connection.execute("SELECT version FROM history").fetchall():
                 self._connection.execute("INSERT INTO history VALUES (%s)", (VERSION,))
 
-    def put(self, rows: Iterable[Row | SiteDown]) -> None:
+    def put(self, rows: Iterable[Told]) -> None:
         """See Database."""
         told = list(rows)
         try:
             with self._required().transaction():
-                for table, names, values in _alike(told):
-                    # A statement for all rows at once, which the server reads by the types of the table. One for each takes nineteen times as long.
-                    found = f"SELECT {names} FROM json_populate_recordset(NULL::{table}, %s::json)"
-                    self._connection.execute(f"INSERT INTO {table} ({names}) {found} ON CONFLICT DO NOTHING", [json.dumps(values)])
+                self._insert(told)
+                self._insert(_unknown(told, "%s", self._connection.execute))
                 for statement, parameters in _downs(told, "%s"):
                     self._connection.execute(statement, parameters)
         except self._psycopg.Error as error:
             raise self._lost(error) from None
+
+    def _insert(self, rows: Iterable[Told]) -> None:
+        for table, names, values in _alike(rows):
+            # A statement for all rows at once, which the server reads by the types of the table. One for each takes nineteen times as long.
+            found = f"SELECT {names} FROM json_populate_recordset(NULL::{table}, %s::json)"
+            self._connection.execute(f"INSERT INTO {table} ({names}) {found} ON CONFLICT DO NOTHING", [json.dumps(values)])
 
     def read(self, query: str, values: Sequence[Any] = ()) -> list[tuple[Any, ...]]:
         """See Database."""

@@ -42,7 +42,31 @@ class SiteDown:
     why: str
 
 
-def rows_of(topics: Topics, message: Message) -> list[Row | SiteDown]:
+@dataclass(frozen=True)
+class NodeLost:
+    """That a node is down by its last will, whose time is that of the connection too: a row of `states` like its newest one of this run. If it
+    has told none of that, the row has what the will says.
+
+    will: the row of the will, without a time
+    """
+
+    will: Row
+
+    @property
+    def down(self) -> SiteDown:
+        """That the process of the node is down."""
+        return SiteDown(self.will.values["run"], None, self.will.values["why"])
+
+    def row(self, now: float) -> Row:
+        """The row of the will, kept at this time."""
+        return Row(self.will.table, {**self.will.values, "at": now})
+
+
+# What a message tells: rows as they are, and what makes rows by those that are there.
+Told = Row | SiteDown | NodeLost
+
+
+def rows_of(topics: Topics, message: Message) -> list[Told]:
     """The rows that a message tells; none if it clears its topic or is of no table. Raises BadMessage if it is not what its topic holds."""
     if not message.payload:
         return []
@@ -52,7 +76,7 @@ def rows_of(topics: Topics, message: Message) -> list[Row | SiteDown]:
         raise BadMessage(str(error)) from None
 
 
-def _rows_of(topics: Topics, message: Message) -> list[Row | SiteDown]:
+def _rows_of(topics: Topics, message: Message) -> list[Told]:
     session = message.properties.get(SESSION, "")
     if message.topic == topics.basis:
         told = BasisMessage.of(message.payload)
@@ -77,7 +101,7 @@ def _rows_of(topics: Topics, message: Message) -> list[Row | SiteDown]:
     return [] if read is None else [read(session, node, message)]
 
 
-def _of_child(session: str, parent: str, word: str, child: int, message: Message) -> list[Row | SiteDown]:
+def _of_child(session: str, parent: str, word: str, child: int, message: Message) -> list[Told]:
     key: dict[str, Any] = {"session": session, "parent": parent, "child": child}
     at = _seconds_or_none(message.properties.get(TIME))
     if word == "lapsed":
@@ -101,11 +125,12 @@ def _price(session: str, parent: str, price: Price, at: float | None) -> Row:
     return Row("prices", {**key, "number": price.number, "step": price.step, "price": price.basis.price(price.step), "at": at})
 
 
-def _state(_session: str, node: str, message: Message) -> Row:
+def _state(_session: str, node: str, message: Message) -> Row | NodeLost:
     state = StateMessage.of(message.payload)
     place = {"sort": state.sort, "parent": state.parent, "child": state.child, "floor": state.floor, "ceiling": state.ceiling}
     more = {"alarm": state.alarm, "silent": _seconds_or_none(state.silent), "why": state.why, "session": state.session}
-    return Row("states", {"node": node, "run": state.run, "at": _seconds(state.time), "state": state.state, **place, **more})
+    values = {"node": node, "run": state.run, "state": state.state, **place, **more}
+    return NodeLost(Row("states", values)) if state.lost else Row("states", {**values, "at": _seconds(state.time)})
 
 
 def _setpoint(session: str, device: str, message: Message) -> Row:
@@ -126,7 +151,7 @@ def _measured(_session: str, device: str, message: Message) -> Row:
     return Row("measured", {"device": device, "at": _seconds(time), "power": power})
 
 
-_OF_NODE: dict[str, Callable[[str, str, Message], Row]] = {"state": _state, "setpoint": _setpoint, "measured": _measured}
+_OF_NODE: dict[str, Callable[[str, str, Message], Row | NodeLost]] = {"state": _state, "setpoint": _setpoint, "measured": _measured}
 
 
 def _limits(session: str, relay: str, message: Message) -> Row:

@@ -119,6 +119,39 @@ def test_a_last_will_of_a_site_is_kept_once_with_the_time_at_which_it_came(url):
     database.close()
 
 
+def test_a_last_will_of_a_node_is_kept_once_with_the_time_at_which_it_came(url):
+    """It is like the newest state of the node in that run, and a node that comes back and is lost again has a row more."""
+    database, began = open_database(url), time.time()
+    why = "the connection was lost"
+
+    def put(**more):
+        database.put(rows_of(TOPICS, Told().state("house", "device", "street", 1, **more).messages["market/house/state"]))
+
+    def downs():
+        return database.read("SELECT at, why, alarm, parent, child, session FROM states WHERE state = 'down' ORDER BY at")
+
+    will = {"state": "down", "why": why, "lost": True}
+    put(alarm="hot")
+    for _ in range(2):
+        put(session="", **will)
+        ((at, *told),) = downs()
+        assert began <= at <= time.time()
+        assert told == [why, "hot", "street", 1, SESSION.id]
+    database.put([Row("states", {**rows_of(TOPICS, village().messages["market/house/state"])[0].values, "at": time.time()})])
+    for _ in range(2):
+        put(session="", **will)
+        assert [at for at, *_ in downs()] == [at, max(at for at, *_ in downs())]
+    # Of another run nothing is known but its will.
+    for _ in range(2):
+        put(run="2" * 16, session="", **will)
+        assert [(alarm, parent, session) for _, _, alarm, parent, _, session in downs()] == [("hot", "street", SESSION.id), ("", "street", SESSION.id), ("", "street", "")]
+    assert all(began <= at <= time.time() for at, *_ in downs())
+    # What a node says of itself has its own time.
+    put(run="3" * 16, state="down", why="stopped")
+    assert downs()[0][:2] == (AT, "stopped")
+    database.close()
+
+
 @pytest.mark.parametrize(
     "told",
     [
