@@ -1,11 +1,12 @@
 #!/usr/bin/env python3
 """Runs several nodes of a market in one process: those of a site, each with a process of `live`. live_scale.py starts it.
 
-    live_nodes.py
+    live_nodes.py [PROFILE]
 
 The first line of standard input is JSON: the name of the site, and its nodes as `{"sort", "node", "basis", "broker"}`, the tables that a
 file of settings has of each. Standard output has `up` once each node has its service. Then each line `figures` is answered by JSON: how
-many bids the nodes were told, and which nodes have ended, and why. The nodes end when standard input does.
+many bids the nodes were told, and which nodes have ended, and why. The nodes end when standard input does. Into the file PROFILE goes what took
+how much of a processor from the first such line on.
 """
 
 import json
@@ -15,7 +16,10 @@ import threading
 import time
 from pathlib import Path
 
-sys.path.insert(0, str(Path(__file__).resolve().parent.parent / "python"))
+# In the place of the folder of this script, whose profile.py hides that of Python.
+sys.path[0] = str(Path(__file__).resolve().parent.parent / "python")
+
+import cProfile  # noqa: E402
 
 from cogmaula import logs  # noqa: E402
 from cogmaula.live import settings_of  # noqa: E402
@@ -30,11 +34,12 @@ LAST_SECONDS = 20
 class Nodes:
     """The site, its nodes, and what became of them."""
 
-    def __init__(self, name, tables):
+    def __init__(self, name, tables, profile):
         self.heard, self.ended = 0, {}
+        self._file, self._profile, self._is_measured = profile, cProfile.Profile(time.thread_time), False
         self._count()
         settings = tuple(settings_of(table["sort"], table) for table in tables)
-        self.site = Site(SiteSettings(name, settings[0].broker, settings))
+        self.site = Site(SiteSettings(name, settings[0].broker, settings), self._turned)
         self._nodes = dict(self.site.nodes)
 
     def _count(self):
@@ -46,6 +51,11 @@ class Nodes:
             take(letting, child, message, now)
 
         Letting.take_bid = counted
+
+    def _turned(self):
+        """Begins the profile, in the thread of the site."""
+        if self._file is not None and self._is_measured:
+            self._profile.enable()
 
     def are_up(self):
         """Whether each node has a service, or has ended."""
@@ -63,6 +73,7 @@ class Nodes:
         print("up", flush=True)
         for line in sys.stdin:
             if line.strip() == "figures":
+                self._is_measured = True
                 print(json.dumps(self.figures()), flush=True)
         self.site.stop()
 
@@ -74,12 +85,15 @@ class Nodes:
         except LiveError as error:
             self.ended["site"] = str(error)
             time.sleep(LAST_SECONDS)
+        self._profile.disable()
+        if self._file is not None:
+            self._profile.dump_stats(self._file)
 
 
 def main():
     logs.show("cogmaula site")
     told = json.loads(sys.stdin.readline())
-    nodes = Nodes(told["name"], told["nodes"])
+    nodes = Nodes(told["name"], told["nodes"], sys.argv[1] if len(sys.argv) > 1 else None)
     signal.signal(signal.SIGTERM, lambda *_: nodes.site.stop())
     nodes.run()
 

@@ -157,8 +157,8 @@ class Market:
             self._at.append([name for name, _, _ in lowest])
         self.lowest = [name for names in self._at for name in names]
         told = [] if arguments.broker_alone else [[make(first, "auctioneer", "auctioneer")], *told]
-        profiles = [["-m", "cProfile", "-o", f"{arguments.profile}.{number}"] if arguments.profile else [] for number in range(len(told))]
-        self.nodes = [self._started(f"nodes{number}", ["live_nodes.py"], profile) for number, profile in enumerate(profiles)]
+        profiles = [[f"{arguments.profile}.{number}"] if arguments.profile else [] for number in range(len(told))]
+        self.nodes = [self._started(f"nodes{number}", ["live_nodes.py", *profile]) for number, profile in enumerate(profiles)]
         for number, (part, tables) in enumerate(zip(self.nodes, told, strict=True)):
             part.tell(json.dumps({"name": f"site{number}", "nodes": tables}))
         for node in self.nodes:
@@ -173,9 +173,9 @@ class Market:
         moving = {**market, "host": first.address, "relays": ["auctioneer"], "first": relays + 1, "children": 1, "seed": len(batches)}
         self.movers = [self._started("mover", ["live_mover.py", json.dumps(moving)])] if arguments.moving else []
 
-    def _started(self, name, words, options=()):
+    def _started(self, name, words):
         self._network.add(name)
-        return Part(self._network, name, [sys.executable, "-B", *options, str(HERE / words[0]), *words[1:]], self._log)
+        return Part(self._network, name, [sys.executable, "-B", str(HERE / words[0]), *words[1:]], self._log)
 
     def parts(self):
         """The numbers of the processes by part."""
