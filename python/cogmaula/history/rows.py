@@ -129,7 +129,7 @@ def _state(_session: str, node: str, message: Message) -> Row | NodeLost:
     state = StateMessage.of(message.payload)
     place = {"sort": state.sort, "parent": state.parent, "child": state.child, "floor": state.floor, "ceiling": state.ceiling}
     more = {"alarm": state.alarm, "silent": _seconds_or_none(state.silent), "why": state.why, "session": state.session}
-    values = {"node": node, "run": state.run, "state": state.state, **place, **more}
+    values: dict[str, Any] = {"node": node, "run": state.run, "state": state.state, **place, **more}
     return NodeLost(Row("states", values)) if state.lost else Row("states", {**values, "at": _seconds(state.time)})
 
 
