@@ -116,7 +116,8 @@ class Children:
 
     def is_gone(self, child: int) -> bool:
         """Whether the newest that was heard of a child is that it has left."""
-        return child in self._newest and isinstance(self._newest[child].frame, Gone)
+        heard = self._newest.get(child)
+        return heard is not None and isinstance(heard.frame, Gone)
 
     def taken(self, child: int, message: Message) -> Heard | None:
         """What a message on the topic of a child's bids tells, or None if it is not to be taken."""

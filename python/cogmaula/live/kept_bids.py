@@ -52,7 +52,9 @@ class BidLog:
 
     def make_safe(self, bids: Mapping[int, Heard]) -> None:
         """Adds those of these bids that are not in the file, and returns once they are safe on disk."""
-        fresh = {child: bid for child, bid in bids.items() if self._written.get(child) != bid}
+        written = self._written
+        # Nearly all are those that were added before, and to see that takes no look into them.
+        fresh = {child: bid for child, bid in bids.items() if (known := written.get(child)) is not bid and known != bid}
         if not fresh or self._path is None:
             return
         self._written |= fresh

@@ -8,7 +8,7 @@ own such a Price waits for one heartbeat. In the table the index moves for all, 
 from __future__ import annotations
 
 import math
-from collections.abc import Callable, Collection
+from collections.abc import Callable, Collection, Iterable
 
 from .broker_link import Message, Publication
 from .children import SESSION, TIME
@@ -66,15 +66,31 @@ class Pricing:
         else:
             self._tell(price, moment, now)
 
-    def _add(self, price: Price, moment: str) -> None:
+    def pass_on_all(self, prices: Iterable[Price], time_of: Callable[[int], str], now: float) -> None:
+        """Does what `pass_on` does for each, with less work for those of one clearing. `time_of` tells when a clearing was, by its index."""
+        table = None
+        for price in prices:
+            if self._is_gone(price.child):
+                continue
+            if not self._settings.prices.together:
+                self._tell(price, time_of(price.index), now)
+            elif table is not None and table.is_of_clearing(price):
+                table.numbers[price.child] = price.number
+                self._clear_topic(price.child)
+            else:
+                table = self._add(price, time_of(price.index))
+
+    def _add(self, price: Price, moment: str) -> PriceTable | None:
+        """Puts a Price into the table, and gives that. None if the table is of a newer clearing."""
         table = self._table
         if table is not None and price.index < table.index:
-            return
+            return None
         if table is None or not table.is_of_clearing(price):
             table = self._table = PriceTable(price.index, price.step, price.basis)
         table.numbers[price.child] = price.number
         self._time, self._is_due = moment, True
         self._clear_topic(price.child)
+        return table
 
     def _tell(self, price: Price, moment: str, now: float) -> None:
         told = self._told.get(price.child)

@@ -242,9 +242,8 @@ class ServedSession:
     def _pass_on(self, prices: list[Price]) -> None:
         """Tells children their prices. A relay that leaves tells none."""
         self._parts.counts.passed(len(prices))
-        now = time.monotonic()
-        for price in prices if not self._settings.is_fence else []:
-            self.pricing.pass_on(price, self._time_of(price.index), now)
+        if not self._settings.is_fence:
+            self.pricing.pass_on_all(prices, self._time_of, time.monotonic())
 
     def _told_below(self) -> Collection[str]:
         """The topics that the broker has to confirm before a Resume behind them is stored."""

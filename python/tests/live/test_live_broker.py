@@ -441,30 +441,64 @@ def test_a_flood_takes_no_memory(tmp_path):
 
 
 TEXTS = [b"\0\0", b"\0\4time", b"\0\2\xc3\xbc", b"\0\3a\0b", b"\0\3\xef\xbb\xbf", b"\0\3\xed\xa0\x80", b"\0\2\xff\xff", b"\0\5time", b"\0", b"\0\1ab"]
+PAIRS = [b"\x26" + name + text for name in TEXTS for text in TEXTS]
+# What may come: one user property, two, one with others around it, an unknown number, many, and the same with lengths that are written otherwise.
+FIELDS = [b"", *PAIRS, b"\x26\0\1a\0\1b\x26\0\1a\0\1c", b"\2\0\0\0\7\x26\0\1a\0\1b", b"\x26\0\1a\0\1b\1\1", b"\1\1\1\1", b"\x7e\0", b"\xa6\0\0\1a\0\1b", b"\x26\0\1a\0\1b" * 40]
+LENGTHS = {"as it is": lambda size: bytes([size]) if size < 128 else bytes([size & 127 | 128, size >> 7]), "one more": lambda size: bytes([min(127, size + 1)])}
+LENGTHS |= {"long": lambda size: bytes([size & 127 | 128, size >> 7 & 127 | 128, 0]), "too long": lambda size: bytes([size & 127 | 128] + [128] * 4 + [0])}
 
 
-def test_texts_of_properties_are_read_as_paho_reads_them():
-    """Each text, cut off at each length, and the name of each property: the same answer or the same refusal."""
+def paho_properties():
+    """A module of its own."""
     module = importlib.util.module_from_spec(importlib.util.find_spec("paho.mqtt.properties"))
     module.__package__ = "paho.mqtt"
     module.__spec__.loader.exec_module(module)
-    own, find = module.readUTF, module.Properties.getIdentFromName
-    connection.ease_properties(module)
-    assert module.readUTF is not own
-    again = module.readUTF
-    connection.ease_properties(module)
-    assert module.readUTF is again, "once is enough"
+    return module
 
-    def told(read, data, most):
+
+@pytest.mark.parametrize("form", LENGTHS)
+@pytest.mark.parametrize("packet", [3, 4, 9, 12])
+def test_properties_are_read_as_paho_reads_them(packet, form):
+    """Each list of properties with a payload behind it, cut off at each byte: the same answer or the same refusal."""
+    own, eased = paho_properties(), paho_properties()
+    connection.ease_properties(eased)
+
+    def told(module, data):
+        one = module.Properties(packet)
         try:
-            return read(data, most)
+            size = one.unpack(data)[1]
         except Exception as error:  # noqa: BLE001 - each refusal counts
-            return type(error), str(error)
+            return type(error).__name__, str(error).replace(str(own), "").replace(str(eased), "")
+        return size, {name: value for name, value in vars(one).items() if name not in ("names", "types", "properties")}
 
-    for text in TEXTS:
-        for most in range(len(text) + 2):
+    taken = 0
+    for fields in FIELDS:
+        whole = LENGTHS[form](len(fields)) + fields + b"payload"
+        for size in range(len(whole) + 1) if len(fields) < 50 else [len(whole)]:
             for kind in (bytes, bytearray):
-                assert told(module.readUTF, kind(text), most) == told(own, kind(text), most), (text, most)
+                data = kind(whole[:size])
+                assert told(eased, data) == told(own, data), (packet, data)
+            taken += connection.user_properties_in(whole[:size]) is not None
+    assert (taken > 0) == (form != "too long")
+
+
+def test_properties_are_eased_once_and_read_behind_others_too():
+    own, module = paho_properties(), paho_properties()
+    find = module.Properties.getIdentFromName
+    connection.ease_properties(module)
+    read = module.Properties.unpack
+    connection.ease_properties(module)
+    assert module.Properties.unpack is read, "once is enough"
+    data = b"\x07\x26\0\1a\0\1b"
+    for these in (own, module):
+        one = these.Properties(3)
+        one.MessageExpiryInterval = 7
+        one.UserProperty = [("c", "d")]
+        one.UserProperty = ("e", "f")
+        assert one.UserProperty == [("c", "d"), ("e", "f")]
+        assert one.pack() == own.Properties(3).pack()[:0] + b"\x13\2\0\0\0\7\x26\0\1c\0\1d\x26\0\1e\0\1f"
+        one.unpack(data)
+        assert (one.UserProperty, hasattr(one, "MessageExpiryInterval")) == ([("a", "b")], False)
     one = module.Properties(3)
     for name in [*one.names, "UserProperty", "none"]:
         assert one.getIdentFromName(name.replace(" ", "")) == find(one, name.replace(" ", ""))

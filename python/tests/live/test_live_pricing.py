@@ -53,6 +53,22 @@ def test_a_table_that_came_in_two_pieces_has_all_in_the_end(joined):
     assert one.link.of(TABLE) == [table(7, 1, c1=1).to_bytes(), table(7, 1, c1=1, c2=1).to_bytes()]
 
 
+@pytest.mark.parametrize("prices", [TOGETHER, SINGLE])
+@pytest.mark.parametrize("is_together", [True, False])
+def test_prices_of_several_clearings_are_told_as_if_each_came_alone(joined, prices, is_together):
+    """An older one changes nothing behind a newer one, and a child that has left is told none, wherever it is in the piece."""
+    one = parent(joined, prices, ("market/street/bid/3", bid(3, 1, 5, -3).to_bytes()))
+    one.link.comes("market/street/bid/3", gone(3, 2).to_bytes())
+    frames = [price(3, 1, 7, 1), price(1, 1, 7, 1), price(2, 1, 7, 1), price(3, 1, 7, 1), price(2, 1, 8, 0), price(1, 1, 7, 1), price(1, 1, 8, 0)]
+    for piece in [frames] if is_together else [[frame] for frame in frames]:
+        one.writes(*piece)
+    if prices is TOGETHER:
+        assert one.link.of(TABLE)[-1] == table(8, 0, c1=1, c2=1).to_bytes()
+    else:
+        assert [one.link.of(f"market/street/price/{child}")[-1:] for child in (1, 2)] == [[price(child, 1, 8, 0).to_bytes()] for child in (1, 2)]
+    assert not any(one.link.of("market/street/price/3"))
+
+
 def test_a_price_that_is_not_new_waits_for_a_heartbeat_in_a_topic_of_its_own(joined, monkeypatch):
     one = parent(joined, SINGLE)
     for index in (7, 8, 9):
