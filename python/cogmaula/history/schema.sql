@@ -1,5 +1,14 @@
--- The tables of a market's history, for SQLite and PostgreSQL alike. docs/OPERATE.md explains them.
--- Times are seconds since 1970-01-01 UTC, powers watts, and prices price units. Each row is written once, under its key.
+-- The tables of a market's history, for SQLite and PostgreSQL alike. docs/OPERATE.md has a query.
+-- Times are seconds since 1970-01-01 UTC, powers watts, and prices price units. NULL is what no message says. Each row is written once,
+-- under its key.
+--
+-- sessions:  those of the auctioneer, with the basis; the view clearings has its clearings
+-- bids:      demands is a JSON list, NULL if the child left
+-- prices:    what a parent gave a child; number is that of the bid that it answers, at is when the market cleared
+-- setpoints, fallbacks, lapses, states: what devices and parents said; of each node of a site also that the site is down.
+--            at is by the sender's clock, of a last will by the history's: the broker has had it from the connection's begin on
+-- limits:    answers about limits that change
+-- measured:  what a device takes, as its control says at PREFIX/DEVICE/measured; the market does not go by it
 CREATE TABLE IF NOT EXISTS history (version BIGINT PRIMARY KEY);
 CREATE TABLE IF NOT EXISTS sessions (
     session TEXT PRIMARY KEY, begun DOUBLE PRECISION NOT NULL, least BIGINT NOT NULL, greatest BIGINT NOT NULL, steps BIGINT NOT NULL

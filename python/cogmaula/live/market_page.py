@@ -1,6 +1,12 @@
 """A page that shows a market as it lives, read-only, over HTTP and a WebSocket. docs/OPERATE.md says what it shows.
 
-It works in a thread of its own, from copies of messages. What goes wrong in it is a line, and the node goes on.
+It works in a thread of its own, from copies of messages. What goes wrong in it is a line, and the node goes on. `GET /trend` has the lines
+of three hours. `GET /view` has all else, a `MarketView` and beside it
+
+    time:       when the view was made
+    note:       whether the devices are models
+    own:        the only node whose messages it has; of the whole market null
+    lost_since: since when the broker is away
 """
 
 from __future__ import annotations

@@ -1,4 +1,4 @@
-"""The metrics of a node and of the market that it shows, as Prometheus reads them. docs/OPERATE.md has the list."""
+"""The metrics of a node and of the market that it shows, as Prometheus reads them. docs/OPERATE.md says where to scrape."""
 
 from __future__ import annotations
 
