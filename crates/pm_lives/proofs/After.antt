@@ -1,7 +1,7 @@
 -- Calls after calls.
 use Rattle.std.proofs.Common.{◌≡◌, sym, ap, subst, ℕ, Bool, cond, List, [], ◌∷◌, ◌++◌, refl, inl, inr}
 use Rattle.pm_net.proofs.Messages.{either}
-use Rattle.pm_lives.specs.Outputs.{Output, Says}
+use Rattle.pm_services.specs.Outputs.{Output, Says}
 use Rattle.pm_lives.specs.Moves.{FollowsByCalls, AreCalm, IsCalm}
 use Rattle.pm_lives.proofs.Staying.{still, then_moves, were_sent, both_sent, kept_to, both_kept}
 use Rattle.pm_market.specs.Lists.{Lists}

@@ -22,7 +22,8 @@ use Rattle.pm_system.specs.Calls.{NodeCall, SystemRuns, StaysUp, bid_kept}
 use Rattle.pm_system.specs.Given.{IsTreeMarket}
 use Rattle.pm_system.specs.Market.{RunsTheMarket}
 use Rattle.pm_system.proofs.Moving.{new_in}
-use Rattle.pm_lives.specs.Outputs.{Output, Up, WereSent}
+use Rattle.pm_lives.specs.Outputs.{WereSent}
+use Rattle.pm_services.specs.Outputs.{Output, Up}
 use Rattle.pm_lives.specs.Moves.{OnlyMoves}
 use Rattle.pm_lives.specs.RelayLife.{IsOfPrice, RelayStands, IsRelayKept, numbers_in_places}
 use Rattle.pm_lives.specs.RootLife.{IsRootKept}

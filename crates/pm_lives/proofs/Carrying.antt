@@ -36,17 +36,16 @@ use Rattle.pm_frames.specs.declared.place.RelayPlace.{RelayPlace}
 use Rattle.pm_services.specs.Bounds.{no_bounds}
 use Rattle.pm_services.specs.Receipts.{sender_place}
 use Rattle.pm_services.specs.RelaySetups.{RelaySetup}
-use Rattle.pm_services.specs.RelayAnswers.{WaitingRelay, OpenRelay, RelayServiceValue, RelayComesUp, with_held, AnswersKeptIn, AnswersGivenIn}
-use Rattle.pm_services.specs.RelayAnswers.{AnswersRelay, AnswersNow}
+use Rattle.pm_services.specs.RelayAnswers.{OpenRelay, RelayServiceValue, RelayComesUp, AnswersRelay, WritesNow, written_by}
+use Rattle.pm_services.specs.RelayWrites.{WaitingRelay, WritesKept}
 use Rattle.pm_wire.specs.Answers.{answer_bytes}
 use Rattle.pm_wire.specs.declared.answer.Reply as Reply
 use Rattle.pm_frames.specs.declared.parent.ParentFrame.TheVariants.{Old}
-use Rattle.pm_lives.specs.RelayWrites.{WritesLimits, WritesKept}
-use Rattle.pm_lives.specs.Outputs.{Output}
+use Rattle.pm_services.specs.Outputs.{Output}
 use Rattle.pm_lives.specs.Carrying.{setup_for}
-use Rattle.pm_lives.proofs.Answering.{limits_written}
 use Rattle.pm_system.specs.System.{System}
-use Rattle.pm_lives.specs.Outputs.{Up, outputs_bytes, PriceWasSent, BidWasSent, up_bytes, down_frame_bytes}
+use Rattle.pm_lives.specs.Outputs.{PriceWasSent, BidWasSent}
+use Rattle.pm_services.specs.Outputs.{Up, outputs_bytes, up_bytes, down_frame_bytes}
 use Rattle.pm_lives.specs.RelayLife.{CarriesBid, CarriesLimits, RelayMayRead, no_relay_stored}
 use Rattle.pm_lives.specs.RootLife.{RootMayRead}
 use Rattle.pm_lives.specs.DeviceLife.{DeviceMayRead}
@@ -54,8 +53,9 @@ use Rattle.pm_net.specs.Agents.{new_agent}
 use Rattle.pm_relay.specs.Roots.{RootValue, RootComesBack}
 use Rattle.pm_frames.specs.Stored.{StoredRoot, relay_resume_bytes, agent_resume_bytes, IsNewestAccepted}
 use Rattle.pm_frames.specs.declared.stored.StoredAgent.{StoredAgent}
-use Rattle.pm_services.specs.RootAnswers.{OpenRoot, AnswersRoot}
-use Rattle.pm_services.specs.DeviceAnswers.{DeviceServiceValue, OpenDevice, AnswersDevice, device_after, same_basis, reply_to, sent_again}
+use Rattle.pm_services.specs.RootAnswers.{OpenRoot, AnswersRoot, WritesRootNow}
+use Rattle.pm_services.specs.DeviceAnswers.{DeviceServiceValue, OpenDevice, AnswersDevice, device_after, reply_to}
+use Rattle.pm_services.specs.DeviceWrites.{same_basis, device_bytes, numbered_bid, again_outs}
 use Rattle.pm_system.specs.Calls.{bid_kept}
 use Rattle.pm_lives.specs.Lives.{no_root_stored}
 use Rattle.pm_lives.specs.Carrying.{RootIsGiven, RootIsBack, DeviceIsBack, root_hello, root_resumed, bid_frame, limits_frame, price_frame}
@@ -183,8 +183,10 @@ device_reads_old child kept place frame more behind formed fits same =
 relay_hello : (old : RelayServiceValue) (basis : Basis) (after : RelayServiceValue) (reply : List ℕ) → old.relay ≡ None →
     AnswersRelay old (relay_frame.Child (Hello basis)) after reply →
     RelayComesUp (setup_for old basis) after.relay × (reply ≡ [])
-relay_hello old basis after reply closed did =
-    subst (λ (o : Option OpenRelay). AnswersNow old.child old.terms o (relay_frame.Child (Hello basis)) after.relay reply) closed did.answers
+relay_hello old basis after reply closed did = (
+  (subst (λ (o : Option OpenRelay). WritesNow old.child old.terms o (relay_frame.Child (Hello basis)) after.relay did.outs) closed did.writes).0,
+  did.written ∙ ap (λ (o : Option OpenRelay). written_by o did.outs) closed,
+)
 
 nothing_learnt : (giver : Option ℕ) (own : RelaySetup) (held : WaitingRelay) → WritesKept giver own held (no_relay_stored own) held []
 nothing_learnt None own held = (refl, refl)
@@ -199,27 +201,6 @@ nothing_learnt (Some giver) own held = inl (no_number (sender_place giver), (ref
 waiting_is : (held : WaitingRelay) → held.waiting ≡ None → record { relay = held.relay; waiting = None } ≡ held
 waiting_is held e = ap (λ (w : Option PriceUpdate). record { relay = held.relay; waiting = w }) (sym e)
 
--- what the service answers is what the words have
-kept_written : (giver : Option ℕ) (old : OpenRelay) (stored : StoredRelay) (new : OpenRelay) (reply : List ℕ) → old.setup.terms.giver ≡ giver →
-    AnswersKeptIn giver old stored new reply →
-    (outs : List (Output StoredRelay)) × WritesKept giver old.setup old.held stored new.held outs
-    × (reply ≡ outputs_bytes relay_resume_bytes old.setup.basis old.setup.child outs) × (new.setup ≡ old.setup)
-kept_written None old stored new reply is did = ([], (ap (λ (r : OpenRelay). r.held) did.0, refl), did.1, ap (λ (r : OpenRelay). r.setup) did.0)
-kept_written (Some giver) old stored new reply is (inl none) =
-    ([], inl (none.0, (ap (λ (r : OpenRelay). r.held) none.1.0, refl)), none.1.1, ap (λ (r : OpenRelay). r.setup) none.1.0)
-kept_written (Some giver) old stored new reply is (inr some) =
-    let number : ℕ = child_number stored.numbers (sender_place giver) in
-    let given = subst (λ (g : Option ℕ). AnswersGivenIn g old number stored.limits new reply) is some.1 in
-    let w = limits_written old.setup old.held giver number stored.limits given.0 reply given.2 in (
-      w.0,
-      inr (
-        some.0,
-        subst (λ (h : WaitingRelay). WritesLimits old.setup old.held giver number stored.limits h w.0) (sym (ap (λ (r : OpenRelay). r.held) given.1)) w.1,
-      ),
-      w.2,
-      ap (λ (r : OpenRelay). r.setup) given.1,
-    )
-
 -- a relay that was given Hello and what is stored comes back with it
 pub relay_is_back : (old : RelayServiceValue) (basis : Basis) (after : RelayServiceValue) (stored : StoredRelay) (reply : List ℕ) → old.relay ≡ None →
     RelayIsGiven old basis after stored reply → RelayIsBack old basis after stored reply
@@ -230,7 +211,6 @@ relay_is_back old basis after _ _ closed (hello reply did) =
       relay = held.relay;
       back = up.0.opens.back;
       held = held;
-      bounds = _;
       relay_is = up.0.opened;
       outs = [];
       learns = subst (λ (h : WaitingRelay). WritesKept old.terms.giver (setup_for old basis) h (no_relay_stored (setup_for old basis)) held [])
@@ -239,56 +219,53 @@ relay_is_back old basis after _ _ closed (hello reply did) =
     }
 relay_is_back old basis after _ _ closed (resumed mid reply more stored first then) =
     let up = relay_hello old basis mid reply closed first in
-    let opened : OpenRelay = record { setup = setup_for old basis; bounds = no_bounds; held = up.0.held } in
-    let answers = subst (λ (o : Option OpenRelay). AnswersNow mid.child mid.terms o (relay_frame.Resume stored) after.relay more) up.0.opened then.answers in
+    let answers = subst (λ (o : Option OpenRelay). WritesNow mid.child mid.terms o (relay_frame.Resume stored) after.relay then.outs) up.0.opened
+    then.writes in
     let came = answers.2 in
-    let w = kept_written old.terms.giver (with_held opened came.back) stored answers.0 more refl came.learns in
     record {
-      relay = came.back.relay;
-      back = came.opens.back;
+      relay = came.held.back.relay;
+      back = came.held.opens.back;
       held = answers.0.held;
-      bounds = answers.0.bounds;
-      relay_is = answers.1 ∙ ap (λ (s : RelaySetup). Some (record { setup = s; bounds = answers.0.bounds; held = answers.0.held })) w.3;
-      outs = w.0;
-      learns = subst (λ (h : WaitingRelay). WritesKept old.terms.giver (setup_for old basis) h stored answers.0.held w.0)
-          (sym (waiting_is came.back came.opens.waiting)) w.1;
-      written = w.2;
+      relay_is = answers.1 ∙ ap (λ (s : RelaySetup). Some (record { setup = s; bounds = answers.0.bounds; held = answers.0.held })) came.setup
+          ∙ ap (λ (b : List Limits). Some (record { setup = setup_for old basis; bounds = b; held = answers.0.held })) came.bounds;
+      outs = then.outs;
+      learns = subst (λ (h : WaitingRelay). WritesKept old.terms.giver (setup_for old basis) h stored answers.0.held then.outs)
+          (sym (waiting_is came.held.back came.held.opens.waiting)) came.held.learns;
+      written = then.written ∙ ap (λ (o : Option OpenRelay). written_by o then.outs) up.0.opened;
     }
 
 root_is_there : (basis : Basis) (after : Option OpenRoot) (reply : List ℕ) → AnswersRoot None (root_frame.Market (Hello basis)) after reply →
     RootIsBack basis after (no_root_stored basis)
 root_is_there basis after reply did =
-    record { up_root = record { basis = basis; bounds = no_bounds; root = did.0.root }; root_is = did.0.opened; basis_is = refl; back = did.0.back }
+    let up = did.writes.0 in
+    record { up_root = record { basis = basis; bounds = no_bounds; root = up.root }; root_is = up.opened; basis_is = refl; bounds_are = refl; back = up.back }
 
 -- so does an auctioneer
 pub root_is_back : (basis : Basis) (after : Option OpenRoot) (stored : StoredRoot) → RootIsGiven basis after stored → RootIsBack basis after stored
 root_is_back basis after _ (root_hello reply did) = root_is_there basis after reply did
 root_is_back basis after _ (root_resumed mid reply more stored first then) =
     let was = root_is_there basis mid reply first in
-    let came = subst (λ (o : Option OpenRoot). AnswersRoot o (root_frame.Resume stored) after more) was.root_is then in
-    let held = came.2 in
+    let came = subst (λ (o : Option OpenRoot). WritesRootNow o (root_frame.Resume stored) after then.outs) was.root_is then.writes in
     record {
       up_root = came.0;
       root_is = came.1;
-      basis_is = ap (λ (r : OpenRoot). r.basis) held.1 ∙ was.basis_is;
-      back = subst₂ (λ (b : BasisValue) (r : RootValue). RootComesBack b.steps stored.last stored.numbers r) was.basis_is
-          (sym (ap (λ (r : OpenRoot). r.root) held.1)) held.2.0;
+      basis_is = came.2.basis ∙ was.basis_is;
+      bounds_are = came.2.bounds ∙ was.bounds_are;
+      back = subst (λ (b : BasisValue). RootComesBack b.steps stored.last stored.numbers came.0.root) was.basis_is came.2.held.0;
     }
 
-gone_if : (p : Pricing) (basis : BasisValue) (child number : ℕ) (test : Bool) →
-    cond test [] (frame_bytes (Gone child number)) ≡ outputs_bytes agent_resume_bytes basis child (cond test [] (Up (bid_kept p number None) ∷ []))
-gone_if p basis child number true = refl
-gone_if p basis child number false = sym (Rattle.std.proofs.Common.append-nil (frame_bytes (Gone child number)))
+gone_if : (p : Pricing) (basis : BasisValue) (child steps number : ℕ) (test : Bool) →
+    device_bytes child basis (cond test [] (Up (numbered_bid steps number None) ∷ [])) ≡ device_bytes child basis (cond test [] (Up (bid_kept p number None) ∷ []))
+gone_if p basis child steps number true = refl
+gone_if p basis child steps number false = refl
 
-restart_written : (p : Pricing) (basis : BasisValue) (child : ℕ) (stored : StoredAgent) (newest : Option (List Rattle.std.proofs.Common.ℤ)) →
-    stored.newest ≡ newest →
+restart_written : (p : Pricing) (basis : BasisValue) (child steps : ℕ) (stored : StoredAgent) (newest : Option (List Rattle.std.proofs.Common.ℤ)) →
     IsNewestAccepted stored.number newest →
-    sent_again child stored.number newest
-    ≡ outputs_bytes agent_resume_bytes basis child (cond (eqb stored.number 0) [] (Up (bid_kept p stored.number newest) ∷ []))
-restart_written p basis child stored None is accepted = gone_if p basis child stored.number (eqb stored.number 0)
-restart_written p basis child stored (Some demand) is accepted =
-    sym (Rattle.std.proofs.Common.append-nil (frame_bytes (Bid child stored.number demand)))
-    ∙ sym (ap (outputs_bytes agent_resume_bytes basis child) (cond-false (eqb stored.number 0) [] (Up (bid_kept p stored.number (Some demand)) ∷ [])
+    device_bytes child basis (again_outs steps stored.number newest)
+    ≡ device_bytes child basis (cond (eqb stored.number 0) [] (Up (bid_kept p stored.number newest) ∷ []))
+restart_written p basis child steps stored None accepted = gone_if p basis child steps stored.number (eqb stored.number 0)
+restart_written p basis child steps stored (Some demand) accepted =
+    sym (ap (device_bytes child basis) (cond-false (eqb stored.number 0) [] (Up (bid_kept p stored.number (Some demand)) ∷ [])
     (ne_eqb stored.number 0 (λ e. omega (Rattle.std.proofs.Common.arith, e, accepted.0)))))
 
 -- and so does a device, which writes its newest bid
@@ -303,5 +280,6 @@ device_is_back p old mid after basis stored reply more closed accepted first the
       device_is = then.device ∙ ap (λ (o : Option OpenDevice). device_after o (device_frame.Resume stored)) was;
       silent = first.replied ∙ ap (λ (o : Option OpenDevice). reply_to old.child o (device_frame.Hello basis)) closed;
       written = then.replied ∙ ap (λ (o : Option OpenDevice). reply_to mid.child o (device_frame.Resume stored)) was
-          ∙ ap (λ (n : ℕ). sent_again n stored.number stored.newest) first.child ∙ restart_written p basis old.child stored stored.newest refl accepted;
+          ∙ ap (λ (n : ℕ). device_bytes n basis (again_outs basis.steps stored.number stored.newest)) first.child
+          ∙ restart_written p basis old.child basis.steps stored stored.newest accepted;
     }

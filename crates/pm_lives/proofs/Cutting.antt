@@ -4,7 +4,7 @@ use Rattle.std.proofs.lemmas.Bool.{cases_lt}
 use Rattle.std.proofs.lemmas.List.{take-append-le, length-take-le, take-append-drop, take_all}
 use Rattle.std.proofs.Math.Seq.{take-append-add}
 use Rattle.pm_basis.specs.Prices.{BasisValue}
-use Rattle.pm_lives.specs.Outputs.{Output, output_bytes, outputs_bytes}
+use Rattle.pm_services.specs.Outputs.{Output, output_bytes, outputs_bytes}
 use Rattle.pm_lives.specs.Cutting.{IsCutStream}
 
 -- of a stream that is cut at any byte there are some first frames, whole, and nothing else or a part of the next one

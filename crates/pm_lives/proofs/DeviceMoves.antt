@@ -19,13 +19,14 @@ use Rattle.pm_frames.specs.declared.parent.ParentFrame.TheVariants.{Price, Old}
 use Rattle.pm_frames.specs.declared.device.DeviceFrame.{DeviceFrame}
 use Rattle.pm_frames.specs.declared.device.DeviceFrame.TheVariants.{Hello, Offer, Kind, Leave, Parent, Resume}
 use Rattle.pm_basis.specs.Prices.{BasisValue}
-use Rattle.pm_lives.specs.DeviceWrites.{agent_after}
+use Rattle.pm_services.specs.DeviceWrites.{numbered_bid, agent_after}
 use Rattle.pm_system.specs.System.{System, price_in_channel, with_agent, with_bid_sent, with_setpoints}
 use Rattle.pm_system.specs.Calls as call
 use Rattle.pm_system.specs.Calls.{NodeCall, SystemRuns, DeviceChanges, bid_kept}
 use Rattle.pm_system.proofs.Moving.{new_in}
-use Rattle.pm_lives.specs.Outputs.{Output, Up, Says, BidWasSent, WereSent, EachKept}
-use Rattle.pm_lives.specs.DeviceWrites.{stored_agent, made_outs, told_outs, device_outs}
+use Rattle.pm_lives.specs.Outputs.{BidWasSent, WereSent, EachKept}
+use Rattle.pm_services.specs.Outputs.{Output, Up, Says}
+use Rattle.pm_services.specs.DeviceWrites.{stored_agent, made_outs, told_outs, device_outs}
 use Rattle.pm_lives.specs.Moves.{OnlyMoves, AreCalm, lets_none}
 use Rattle.pm_lives.specs.DeviceLife.{IsIndexOfSent, AgentStands, IsAgentKept, IsGivenOffer, IsGivenLeaving, DeviceMayRead, AgentStandsTold, told_of}
 use Rattle.pm_lives.specs.DeviceLife.{DeviceFollows}
@@ -73,9 +74,8 @@ module _ (lists : Lists) (p : Pricing) (numbering : Numbering) (own : BasisValue
       ((x : ℕ) → AreCalm lets_none x before) → OnlyMoves d sys mid →
       mid.setpoints d ≡ sys.setpoints d →
       (after : DeviceAgent) (bid : BidMessage) → DeviceChanges lists p mid d after bid → IsIndexOfSent mid d after.index →
-      AreWithin after.number after.offers →
-      bid ≡ bid_kept p after.number (newest_demand after) → Does after sys (made_outs p own after)
-  makes sys mid before runs up only quiet after bid made held within bid_is =
+      AreWithin after.number after.offers → Does after sys (made_outs own after bid)
+  makes sys mid before runs up only quiet after bid made held within =
       let new : System = with_bid_sent (with_agent mid d after) d bid in
       let moved : OnlyMoves d mid new = then_moves d mid (with_agent mid d after) new (agent_moved mid d after) (bid_pushed (with_agent mid d after) d d bid) in
       let is : new.agents d ≡ after = updated_same mid.agents d after in
@@ -88,9 +88,9 @@ module _ (lists : Lists) (p : Pricing) (numbering : Numbering) (own : BasisValue
         only = then_moves d sys mid new only moved;
         up = λ x. Rattle.pm_lives.proofs.After.calm_on lets_none x before (call.Bids d ∷ []) (up x) (tt, tt);
         stands = untold sys new after (record { agent_is = sym is; held = holds; within = within }) quiet;
-        sent = (tt, (subst (λ (b : BidMessage). BidWasSent p new d b) bid_is (new_in p mid.bids_sent d bid), tt));
+        sent = (tt, (new_in p mid.bids_sent d bid, tt));
         kept = (own_kept own new d after is holds, (tt, tt));
-        first = inr (stored_agent own after, Up (bid_kept p after.number (newest_demand after)) ∷ [], refl);
+        first = inr (stored_agent own after, Up bid ∷ [], refl);
       }
 
   abbrev itself : (sys : System) → OnlyMoves d sys sys
@@ -103,7 +103,7 @@ module _ (lists : Lists) (p : Pricing) (numbering : Numbering) (own : BasisValue
     -- ---- it offers
 
     offers : (demand : List ℤ) → may_offer agent ≡ true → IsGivenOffer lists p d (agent.number + 2) demand →
-        Does (after_offer agent demand) sys (made_outs p own (after_offer agent demand))
+        Does (after_offer agent demand) sys (made_outs own (after_offer agent demand) (numbered_bid p.steps (agent.number + 2) (Some demand)))
     offers demand may given =
         makes sys sys [] refl (λ x. tt) (itself sys) refl (after_offer agent demand) (bid_message (agent.number + 2) false demand)
         (record {
@@ -119,19 +119,20 @@ module _ (lists : Lists) (p : Pricing) (numbering : Numbering) (own : BasisValue
         stands.held
         (within_push (agent.number + 2) agent.offers (record { number = agent.number + 2; demand = demand })
         (within_more agent.number (agent.number + 2) (omega arith) agent.offers stands.within) (omega arith))
-        (ap (bid_kept p (agent.number + 2)) (sym (pushed_demand (agent.number + 2) agent.offers demand agent.number stands.within (omega arith))))
 
     offer_by : (may room : Bool) → may_offer agent ≡ may → (demand : List ℤ) →
         (may ≡ true → room ≡ true → IsGivenOffer lists p d (agent.number + 2) demand) →
         Does (cond may (cond room (after_offer agent demand) agent) agent) sys
-        (cond may (cond room (made_outs p own (after_offer agent demand)) (Says out_of_numbers_bytes ∷ [])) (Says window_full_bytes ∷ []))
+        (cond may (cond room (made_outs own (after_offer agent demand) (numbered_bid p.steps (agent.number + 2) (Some demand)))
+        (Says out_of_numbers_bytes ∷ [])) (Says window_full_bytes ∷ []))
     offer_by true true is demand given = offers demand is (given refl refl)
     offer_by true false is demand given = says_so sys out_of_numbers_bytes stands
     offer_by false room is demand given = says_so sys window_full_bytes stands
 
     -- ---- it leaves
 
-    leaves : IsGivenLeaving lists d (agent.number + 2) → Does (after_leaving agent) sys (made_outs p own (after_leaving agent))
+    leaves : IsGivenLeaving lists d (agent.number + 2) → Does (after_leaving agent) sys
+        (made_outs own (after_leaving agent) (numbered_bid p.steps (agent.number + 2) None))
     leaves given =
         makes sys sys [] refl (λ x. tt) (itself sys) refl (after_leaving agent) (bid_message (agent.number + 2) true (zeros p.steps))
         (record {
@@ -139,10 +140,10 @@ module _ (lists : Lists) (p : Pricing) (numbering : Numbering) (own : BasisValue
           has_next = given.has;
           change = inr (record { absent = given.absent; left = refl; bid_is = refl });
         })
-        stands.held tt refl
+        stands.held tt
 
     leave_by : (room : Bool) → (room ≡ true → IsGivenLeaving lists d (agent.number + 2)) → Does (cond room (after_leaving agent) agent) sys
-        (cond room (made_outs p own (after_leaving agent)) (Says out_of_numbers_bytes ∷ []))
+        (cond room (made_outs own (after_leaving agent) (numbered_bid p.steps (agent.number + 2) None)) (Says out_of_numbers_bytes ∷ []))
     leave_by true given = leaves (given refl)
     leave_by false given = says_so sys out_of_numbers_bytes stands
 
@@ -158,7 +159,7 @@ module _ (lists : Lists) (p : Pricing) (numbering : Numbering) (own : BasisValue
     left_is = updated_same sys.agents d left
 
     anew : (demand : List ℤ) → IsGivenLeaving lists d (agent.number + 2) → IsGivenOffer lists p d (agent.number + 2 + 2) demand →
-        Does (after_offer left demand) sys (made_outs p own (after_offer left demand))
+        Does (after_offer left demand) sys (made_outs own (after_offer left demand) (numbered_bid p.steps (agent.number + 2 + 2) (Some demand)))
     anew demand leaving given =
         let after : DeviceAgent = after_offer left demand in
         let bid : BidMessage = bid_message (agent.number + 2 + 2) false demand in
@@ -189,7 +190,6 @@ module _ (lists : Lists) (p : Pricing) (numbering : Numbering) (own : BasisValue
         )
         (λ x. (tt, tt)) (agent_moved sys d left) refl after bid (record { leaf = leaf; has_next = there.0; change = inl there.1 })
         (index_stays d sys stopped (agent_moved sys d left) d agent.index stands.held) (omega arith, tt)
-        (ap (bid_kept p (agent.number + 2 + 2)) (sym (pushed_demand (agent.number + 2 + 2) [] demand 0 tt (omega arith))))
 
     -- ---- it takes a price
 
@@ -247,8 +247,11 @@ module _ (lists : Lists) (p : Pricing) (numbering : Numbering) (own : BasisValue
     -- ---- all frames
 
     -- what is given where it made its offer anew
+    abbrev made_by : DeviceAgent → List (Output StoredAgent)
+    made_by after = made_outs own after (numbered_bid p.steps after.number (newest_demand after))
+
     abbrev given_by : DeviceAgent → List (Output StoredAgent)
-    given_by after = cond (ltb agent.number after.number) (made_outs p own after) []
+    given_by after = cond (ltb agent.number after.number) (made_by after) []
 
     -- nothing is given
     old_same : Does agent sys (given_by agent)
@@ -256,7 +259,7 @@ module _ (lists : Lists) (p : Pricing) (numbering : Numbering) (own : BasisValue
         follows_as lists p numbering lets_none (λ t stored. IsAgentKept t d stored) d (λ t. AgentStandsTold sys d agent [] t) sys [] (given_by agent)
         (elim (cases_Bool (ltb agent.number agent.number)) [
           | inl e ↦ absurd (omega (arith, ltb-true agent.number agent.number e))
-          | inr e ↦ cond-false (ltb agent.number agent.number) (made_outs p own agent) [] e
+          | inr e ↦ cond-false (ltb agent.number agent.number) (made_by agent) [] e
         ])
         (silent sys stands)
 
@@ -268,15 +271,17 @@ module _ (lists : Lists) (p : Pricing) (numbering : Numbering) (own : BasisValue
         let after : DeviceAgent = after_offer left demand in
         let both = given refl refl demand refl in
         follows_as lists p numbering lets_none (λ t stored. IsAgentKept t d stored) d (λ t. AgentStandsTold sys d after [] t) sys
-        (made_outs p own after) (given_by after)
-        (cond-true (ltb agent.number after.number) (made_outs p own after) [] (lt-ltb agent.number after.number (omega arith)))
+        (made_outs own after (numbered_bid p.steps after.number (Some demand))) (given_by after)
+        (cond-true (ltb agent.number after.number) (made_by after) [] (lt-ltb agent.number after.number (omega arith))
+        ∙ ap (λ (o : Option (List ℤ)). made_outs own after (numbered_bid p.steps after.number o))
+        (pushed_demand (agent.number + 2 + 2) [] demand 0 tt (omega arith)))
         (anew demand both.0 both.1)
     old_by true true None is given = old_same
     old_by true false newest is given = old_same
     old_by false room newest is given = old_same
 
     frame_follows : (frame : DeviceFrame) → DeviceMayRead lists p own sys d frame →
-        DeviceFollows lists p numbering sys d (agent_after agent frame) (told_of agent frame) (device_outs p own agent frame)
+        DeviceFollows lists p numbering sys d (agent_after agent frame) (told_of agent frame) (device_outs p.steps own agent frame)
     frame_follows (Hello basis) may = silent sys stands
     frame_follows (Kind named) may = silent sys stands
     frame_follows (Offer form demand) may = offer_by (may_offer agent) (ltb (agent.number + 5) (2 ^ 32)) refl demand may
@@ -291,8 +296,8 @@ module _ (lists : Lists) (p : Pricing) (numbering : Numbering) (own : BasisValue
 -- What the service of a device's agent answers to a frame is some calls of the device.
 pub device_answers : (lists : Lists) (p : Pricing) (numbering : Numbering) (sys : System) (d : ℕ) → IsLeaf lists d → (own : BasisValue)
     (old : DeviceAgent) (frame : DeviceFrame) → AgentStands sys d old → DeviceMayRead lists p own sys d frame →
-    DeviceFollows lists p numbering sys d (agent_after old frame) (told_of old frame) (device_outs p own old frame)
+    DeviceFollows lists p numbering sys d (agent_after old frame) (told_of old frame) (device_outs p.steps own old frame)
 device_answers lists p numbering sys d leaf own old frame stands may =
-    subst (λ (a : DeviceAgent). DeviceFollows lists p numbering sys d (agent_after a frame) (told_of a frame) (device_outs p own a frame))
+    subst (λ (a : DeviceAgent). DeviceFollows lists p numbering sys d (agent_after a frame) (told_of a frame) (device_outs p.steps own a frame))
     (sym stands.agent_is)
     (frame_follows lists p numbering own d leaf sys (subst (λ (a : DeviceAgent). AgentStands sys d a) stands.agent_is stands) frame may)

@@ -1,4 +1,4 @@
--- Prices for the children of a node, as frames.
+-- The prices that a node writes for its children were sent, each to its child.
 use Rattle.std.proofs.Common.{◌≡◌, ◌∙◌, sym, ap, ℕ, suc, ◌+◌, ◌<◌, List, [], ◌∷◌, ◌++◌, length, get_or, Some, None}
 use Rattle.std.proofs.Common.{refl, arith, append-nil}
 use Rattle.std.proofs.lemmas.Bool.{cond-true, cond-false}
@@ -15,38 +15,10 @@ use Rattle.pm_basis.specs.Prices.{BasisValue}
 use Rattle.pm_frames.specs.ParentFrames.{price_bytes, price_bytes_for, prices_bytes}
 use Rattle.pm_relay_net.specs.RelayIs.{messages_of}
 use Rattle.pm_system.specs.System.{System}
-use Rattle.pm_lives.specs.Outputs.{Output, Down, PriceWasSent, WereSent, EachKept, output_bytes, outputs_bytes}
-use Rattle.pm_lives.specs.RelayWrites.{down_of, downs}
+use Rattle.pm_lives.specs.Outputs.{PriceWasSent, WereSent, EachKept}
+use Rattle.pm_services.specs.Outputs.{Output, Down, output_bytes, outputs_bytes}
+use Rattle.pm_services.specs.Receipts.{down_of, downs}
 use Rattle.pm_lives.proofs.Staying.{both_sent, both_kept}
-
-module _ {K : Type 0} (kept : K → List ℕ) (basis : BasisValue) where
-  abbrev bytes_of : ℕ → List (Output K) → List ℕ
-  bytes_of child outs = outputs_bytes kept basis child outs
-
-  -- the bytes of frames after frames are their bytes, one after the other
-  pub written_then : (child : ℕ) (first then : List (Output K)) (one two : List ℕ) → one ≡ bytes_of child first → two ≡ bytes_of child then →
-      one ++ two ≡ bytes_of child (first ++ then)
-  written_then child first then one two a b =
-      ap (λ (l : List ℕ). l ++ two) a ∙ ap (λ (l : List ℕ). bytes_of child first ++ l) b
-      ∙ sym (flat_map-append (output_bytes kept basis child) first then)
-
-  down_one : (child index step place : ℕ) (head : BidHead) →
-      price_bytes_for basis index step (place + 1) head ≡ bytes_of child (down_of index step place head)
-  down_one child index step place head =
-      either (λ (l : List ℕ). l ≡ bytes_of child (down_of index step place head))
-      head.gone [] (price_bytes (place + 1) head.number index step basis)
-      (λ e. sym (ap (bytes_of child) (cond-true head.gone [] (Down place (price_message head.number index step) ∷ []) e)))
-      (λ e. sym (append-nil (price_bytes (place + 1) head.number index step basis))
-      ∙ sym (ap (bytes_of child) (cond-false head.gone [] (Down place (price_message head.number index step) ∷ []) e)))
-
-  -- the bytes of the prices for all children are those of their frames
-  pub downs_written : (child index step place : ℕ) (heads : List BidHead) →
-      prices_bytes basis index step (place + 1) heads ≡ bytes_of child (downs index step place heads)
-  downs_written child index step place [] = refl
-  downs_written child index step place (head ∷ heads) =
-      written_then child (down_of index step place head) (downs index step (place + 1) heads)
-      (price_bytes_for basis index step (place + 1) head) (prices_bytes basis index step (place + 1 + 1) heads)
-      (down_one child index step place head) (downs_written child index step (place + 1) heads)
 
 -- each of them is what goes down to its place
 module _ (K : Type 0) (lists : Lists) (p : Pricing) (numbering : Numbering) (sys : System) (c index step : ℕ) (all : List BidHead)

@@ -9,7 +9,7 @@ use Rattle.pm_market.specs.State.{update}
 use Rattle.pm_market.proofs.Cuts.{updated_same, updated_other}
 use Rattle.pm_market.proofs.Tree.{leaf_node}
 use Rattle.pm_net.specs.Pricing.{Pricing}
-use Rattle.pm_net.specs.Messages.{PriceMessage, price_message}
+use Rattle.pm_net.specs.Messages.{BidMessage, PriceMessage, price_message}
 use Rattle.pm_net.specs.Agents as agents
 use Rattle.pm_net.specs.Agents.{DeviceAgent, may_offer, after_offer, after_leaving, after_price, setpoints_for, setpoints_of, kept_offer}
 use Rattle.pm_net.proofs.Messages.{either}
@@ -25,13 +25,13 @@ use Rattle.pm_frames.specs.declared.root.RootFrame.TheVariants as root_frame
 use Rattle.pm_frames.specs.declared.device.DeviceFrame.{DeviceFrame}
 use Rattle.pm_frames.specs.declared.device.DeviceFrame.TheVariants.{Hello, Offer, Kind, Leave, Parent, Resume}
 use Rattle.pm_basis.specs.Prices.{BasisValue}
-use Rattle.pm_lives.specs.DeviceWrites.{agent_after}
+use Rattle.pm_services.specs.DeviceWrites.{numbered_bid, agent_after}
 use Rattle.pm_system.specs.System.{System, with_agent, with_bid_sent, with_prices_sent, with_setpoints}
 use Rattle.pm_system.specs.Given.{IsDemand, IsTreeMarket}
-use Rattle.pm_lives.specs.Outputs.{Output, Says}
+use Rattle.pm_services.specs.Outputs.{Output, Says}
 use Rattle.pm_lives.specs.RelayLife.{relay_number}
 use Rattle.pm_lives.specs.RootLife.{root_number}
-use Rattle.pm_lives.specs.DeviceWrites.{made_outs, told_outs, device_outs}
+use Rattle.pm_services.specs.DeviceWrites.{made_outs, told_outs, device_outs}
 use Rattle.pm_lives.specs.Lives.{World, LifeStep, RelayUp, Relay, RootUp, Root, DeviceUp, Device, HandledSome, stored_last, restart_outs}
 use Rattle.pm_lives.specs.Free.{RelayIsFree, RootIsFree, DeviceIsFree, LivesFree1, LiveFree, HasLists}
 use Rattle.pm_lives.proofs.Handing.{handed_values}
@@ -45,13 +45,13 @@ module _ (p : Pricing) (own : BasisValue) where
   KeepsNumber after outs = (k : StoredAgent) (n : ℕ) → (outs ≡ [] → k.number ≡ after.number) → HandledSome n outs →
       (stored_last k (take n outs)).number ≡ after.number
 
-  made_keeps : (after : DeviceAgent) (k : StoredAgent) (n : ℕ) → HandledSome n (made_outs p own after) →
-      (stored_last k (take n (made_outs p own after))).number ≡ after.number
-  made_keeps after k zero (inl some) = absurd (omega (arith, some))
-  made_keeps after k zero (inr none) = absurd (omega (arith, ap (λ l. Rattle.std.proofs.Common.length l) none))
-  made_keeps after k (suc zero) handled = refl
-  made_keeps after k (suc (suc zero)) handled = refl
-  made_keeps after k (suc (suc (suc n))) handled = refl
+  made_keeps : (after : DeviceAgent) (bid : BidMessage) (k : StoredAgent) (n : ℕ) → HandledSome n (made_outs own after bid) →
+      (stored_last k (take n (made_outs own after bid))).number ≡ after.number
+  made_keeps after bid k zero (inl some) = absurd (omega (arith, some))
+  made_keeps after bid k zero (inr none) = absurd (omega (arith, ap (λ l. Rattle.std.proofs.Common.length l) none))
+  made_keeps after bid k (suc zero) handled = refl
+  made_keeps after bid k (suc (suc zero)) handled = refl
+  made_keeps after bid k (suc (suc (suc n))) handled = refl
 
   said_keeps : (bytes : List ℕ) (number : ℕ) (k : StoredAgent) (n : ℕ) → k.number ≡ number →
       (stored_last k (take n (Says bytes ∷ []))).number ≡ number
@@ -81,19 +81,19 @@ module _ (p : Pricing) (own : BasisValue) where
       (λ e. said_keeps (Rattle.pm_frames.specs.Answers.dropped_bytes price.number price.index) (after_price agent price).number k n
       (is ∙ sym (price_number agent price)))
 
-  offer_keeps : (may room : Bool) (agent after : DeviceAgent) (k : StoredAgent) (n : ℕ) (full out : List ℕ) → k.number ≡ agent.number →
-      HandledSome n (cond may (cond room (made_outs p own after) (Says out ∷ [])) (Says full ∷ [])) →
-      (stored_last k (take n (cond may (cond room (made_outs p own after) (Says out ∷ [])) (Says full ∷ [])))).number ≡
+  offer_keeps : (may room : Bool) (agent after : DeviceAgent) (bid : BidMessage) (k : StoredAgent) (n : ℕ) (full out : List ℕ) → k.number ≡ agent.number →
+      HandledSome n (cond may (cond room (made_outs own after bid) (Says out ∷ [])) (Says full ∷ [])) →
+      (stored_last k (take n (cond may (cond room (made_outs own after bid) (Says out ∷ [])) (Says full ∷ [])))).number ≡
       (cond may (cond room after agent) agent).number
-  offer_keeps true true agent after k n full out is handled = made_keeps after k n handled
-  offer_keeps true false agent after k n full out is handled = said_keeps out agent.number k n is
-  offer_keeps false room agent after k n full out is handled = said_keeps full agent.number k n is
+  offer_keeps true true agent after bid k n full out is handled = made_keeps after bid k n handled
+  offer_keeps true false agent after bid k n full out is handled = said_keeps out agent.number k n is
+  offer_keeps false room agent after bid k n full out is handled = said_keeps full agent.number k n is
 
-  leave_keeps : (room : Bool) (agent after : DeviceAgent) (k : StoredAgent) (n : ℕ) (out : List ℕ) → k.number ≡ agent.number →
-      HandledSome n (cond room (made_outs p own after) (Says out ∷ [])) →
-      (stored_last k (take n (cond room (made_outs p own after) (Says out ∷ [])))).number ≡ (cond room after agent).number
-  leave_keeps true agent after k n out is handled = made_keeps after k n handled
-  leave_keeps false agent after k n out is handled = said_keeps out agent.number k n is
+  leave_keeps : (room : Bool) (agent after : DeviceAgent) (bid : BidMessage) (k : StoredAgent) (n : ℕ) (out : List ℕ) → k.number ≡ agent.number →
+      HandledSome n (cond room (made_outs own after bid) (Says out ∷ [])) →
+      (stored_last k (take n (cond room (made_outs own after bid) (Says out ∷ [])))).number ≡ (cond room after agent).number
+  leave_keeps true agent after bid k n out is handled = made_keeps after bid k n handled
+  leave_keeps false agent after bid k n out is handled = said_keeps out agent.number k n is
 
   old_rises : (agent : DeviceAgent) (kept : ℕ) → agent.number ≤ (Rattle.pm_control.specs.Control.after_old agent kept).number
   old_rises agent kept =
@@ -108,12 +108,12 @@ module _ (p : Pricing) (own : BasisValue) where
       anew_rises None = omega arith
       anew_rises (Some demand) = omega arith
 
-  old_keeps : (agent after : DeviceAgent) (k : StoredAgent) (n : ℕ) → agent.number ≤ after.number → k.number ≡ agent.number →
-      HandledSome n (cond (ltb agent.number after.number) (made_outs p own after) []) →
-      (stored_last k (take n (cond (ltb agent.number after.number) (made_outs p own after) []))).number ≡ after.number
-  old_keeps agent after k n rises is =
+  old_keeps : (agent after : DeviceAgent) (bid : BidMessage) (k : StoredAgent) (n : ℕ) → agent.number ≤ after.number → k.number ≡ agent.number →
+      HandledSome n (cond (ltb agent.number after.number) (made_outs own after bid) []) →
+      (stored_last k (take n (cond (ltb agent.number after.number) (made_outs own after bid) []))).number ≡ after.number
+  old_keeps agent after bid k n rises is =
       either (λ (l : List (Output StoredAgent)). HandledSome n l → (stored_last k (take n l)).number ≡ after.number) (ltb agent.number after.number)
-      (made_outs p own after) [] (λ e handled. made_keeps after k n handled)
+      (made_outs own after bid) [] (λ e handled. made_keeps after bid k n handled)
       (λ e handled. none_keeps after.number k n (omega (arith, is, rises, not_less e)))
     where
       not_less : ltb agent.number after.number ≡ false → after.number ≤ agent.number
@@ -124,18 +124,21 @@ module _ (p : Pricing) (own : BasisValue) where
 
   -- what is stored after an answer has the number of the agent after it
   pub answer_keeps : (seen : System) (d : ℕ) (agent : DeviceAgent) (frame : DeviceFrame) (k : StoredAgent) (n : ℕ) → DeviceIsFree p own seen d frame →
-      k.number ≡ agent.number → HandledSome n (device_outs p own agent frame) →
-      (stored_last k (take n (device_outs p own agent frame))).number ≡ (agent_after agent frame).number
+      k.number ≡ agent.number → HandledSome n (device_outs p.steps own agent frame) →
+      (stored_last k (take n (device_outs p.steps own agent frame))).number ≡ (agent_after agent frame).number
   answer_keeps seen d agent (Hello basis) k n free is handled = none_keeps agent.number k n is
   answer_keeps seen d agent (Kind named) k n free is handled = none_keeps agent.number k n is
   answer_keeps seen d agent (Offer form demand) k n free is handled =
-      offer_keeps (may_offer agent) (ltb (agent.number + 5) (2 ^ 32)) agent (after_offer agent demand) k n
+      offer_keeps (may_offer agent) (ltb (agent.number + 5) (2 ^ 32)) agent (after_offer agent demand)
+      (numbered_bid p.steps (agent.number + 2) (Some demand)) k n
       Rattle.pm_frames.specs.Answers.window_full_bytes Rattle.pm_frames.specs.Answers.out_of_numbers_bytes is handled
   answer_keeps seen d agent Leave k n free is handled =
-      leave_keeps (ltb (agent.number + 3) (2 ^ 32)) agent (after_leaving agent) k n Rattle.pm_frames.specs.Answers.out_of_numbers_bytes is handled
+      leave_keeps (ltb (agent.number + 3) (2 ^ 32)) agent (after_leaving agent)
+      (numbered_bid p.steps (agent.number + 2) None) k n Rattle.pm_frames.specs.Answers.out_of_numbers_bytes is handled
   answer_keeps seen d agent (Parent (Price child number index step basis)) k n free is handled = price_keeps agent (price_message number index step) k n is
   answer_keeps seen d agent (Parent (Old child kept)) k n free is handled =
-      old_keeps agent (Rattle.pm_control.specs.Control.after_old agent kept) k n (old_rises agent kept) is handled
+      let after : DeviceAgent = Rattle.pm_control.specs.Control.after_old agent kept in
+      old_keeps agent after (numbered_bid p.steps after.number (newest_demand after)) k n (old_rises agent kept) is handled
   answer_keeps seen d agent (Resume stored) k n free is handled = absurd free
 
 -- ---- what is wanted of lists
@@ -390,7 +393,7 @@ module _ (tree : Lists) (p : Pricing) (numbering : Numbering) (market : IsTreeMa
   device_now world new d frame n fine did =
       ap (λ (w : World). number_now w d) did.new_is
       ∙ ap (λ (k : StoredAgent). k.number) (updated_same world.agent_kept d
-      (stored_last (world.agent_kept d) (take n (device_outs p world.basis (world.seen.agents d) frame))))
+      (stored_last (world.agent_kept d) (take n (device_outs p.steps world.basis (world.seen.agents d) frame))))
       ∙ answer_keeps p world.basis world.seen d (world.seen.agents d) frame (world.agent_kept d) n did.may (sym ((fine d did.leaf).same did.runs)) did.handled
 
   -- a step leaves each device as it should be, and its number does not fall
@@ -439,7 +442,7 @@ module _ (tree : Lists) (p : Pricing) (numbering : Numbering) (market : IsTreeMa
       let a : DeviceAgent = world.seen.agents e in
       let agent : DeviceAgent = agent_after a frame in
       let base : System = with_agent world.seen e agent in
-      let outs : List (Output StoredAgent) = device_outs p world.basis a frame in
+      let outs : List (Output StoredAgent) = device_outs p.steps world.basis a frame in
       let values = handed_values tree numbering e (take n outs) base in
       elim (cases_eq d e) [
         | inl here ↦

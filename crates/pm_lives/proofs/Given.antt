@@ -25,15 +25,15 @@ use Rattle.pm_frames.specs.declared.device.DeviceFrame.{DeviceFrame}
 use Rattle.pm_frames.specs.declared.device.DeviceFrame.TheVariants.{Hello, Offer, Kind, Leave, Parent, Resume}
 use Rattle.pm_basis.specs.Prices.{BasisValue}
 use Rattle.pm_services.specs.RelaySetups.{RelaySetup}
-use Rattle.pm_lives.specs.DeviceWrites.{agent_after}
+use Rattle.pm_services.specs.DeviceWrites.{agent_after}
 use Rattle.pm_lives.specs.Lives.{setup_of}
 use Rattle.pm_system.specs.System.{System, with_agent, with_relay, with_root}
 use Rattle.pm_system.specs.Given.{IsDemand, IsTreeMarket}
-use Rattle.pm_lives.specs.Outputs.{Output}
+use Rattle.pm_services.specs.Outputs.{Output}
 use Rattle.pm_lives.specs.RelayLife.{CarriesBid, CarriesLimits, CarriesExpire, RelayMayRead}
 use Rattle.pm_lives.specs.RootLife.{RootMayRead}
 use Rattle.pm_lives.specs.DeviceLife.{DeviceMayRead, IsGivenOffer, IsGivenLeaving}
-use Rattle.pm_lives.specs.DeviceWrites.{device_outs}
+use Rattle.pm_services.specs.DeviceWrites.{device_outs}
 use Rattle.pm_lives.specs.Lives.{World, LifeStep, RelayUp, Relay, RootUp, Root, DeviceUp, Device, HandledSome, handed_out, stored_last, restart_outs}
 use Rattle.pm_lives.specs.Lives.{Live, Lives1}
 use Rattle.pm_lives.specs.Lives.{let_go_at_relay, let_go_at_root, IsNewWorld}
@@ -234,6 +234,7 @@ module _ (tree : Lists) (p : Pricing) (numbering : Numbering) (market : IsTreeMa
         passes = did.passes;
         after = did.after;
         outs = did.outs;
+        bounds = did.bounds;
         writes = did.writes;
         handled = did.handled;
         new_is = did.new_is
@@ -256,6 +257,7 @@ module _ (tree : Lists) (p : Pricing) (numbering : Numbering) (market : IsTreeMa
         may = root_may world.seen frame did.may le;
         after = did.after;
         outs = did.outs;
+        bounds = did.bounds;
         writes = did.writes;
         handled = did.handled;
         new_is = did.new_is
@@ -290,8 +292,8 @@ module _ (tree : Lists) (p : Pricing) (numbering : Numbering) (market : IsTreeMa
             (λ i within. low d i did.leaf (omega (arith, within, now)));
         handled = subst (λ (l : List (Output StoredAgent)). HandledSome n l) (sym (outs_same p pricing refl world.basis a frame)) did.handled;
         new_is = did.new_is
-            ∙ ap (λ (s : System). world_of s (device_outs p world.basis a frame))
-            (sym (handed_same tree all.member count numbering d (take n (device_outs p world.basis a frame)) base))
+            ∙ ap (λ (s : System). world_of s (device_outs p.steps world.basis a frame))
+            (sym (handed_same tree all.member count numbering d (take n (device_outs p.steps world.basis a frame)) base))
             ∙ ap (λ (l : List (Output StoredAgent)). world_of (handed_out lists numbering base d (take n l)) l)
             (sym (outs_same p pricing refl world.basis a frame));
       }

@@ -12,7 +12,8 @@ use Rattle.pm_net.specs.Agents.{Setpoint}
 use Rattle.pm_net.proofs.Messages.{either, each_push}
 use Rattle.pm_net_plan.specs.Places.{Numbering}
 use Rattle.pm_system.specs.System.{System, bid_in_channel, price_in_channel, with_bid_sent, with_prices_sent, with_setpoints}
-use Rattle.pm_lives.specs.Outputs.{Output, Up, Down, Keeps, Tells, Says, PriceWasSent, BidWasSent, WereSent, EachKept, BeginsWithResume}
+use Rattle.pm_lives.specs.Outputs.{PriceWasSent, BidWasSent, WereSent, EachKept, BeginsWithResume}
+use Rattle.pm_services.specs.Outputs.{Output, Up, Down, Keeps, Tells, Says}
 use Rattle.pm_lives.specs.Moves.{OnlyMoves}
 use Rattle.pm_lives.specs.Lives.{handed_out, stored_last, HandledSome, AllIn}
 use Rattle.pm_lives.proofs.Staying.{price_still_sent, bid_still_sent}

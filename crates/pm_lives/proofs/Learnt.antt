@@ -30,11 +30,13 @@ use Rattle.pm_frames.specs.declared.relay.RelayFrame.TheVariants.{Child, Parent,
 use Rattle.pm_frames.specs.declared.relay.RelayFrame.TheVariants as given
 use Rattle.pm_services.specs.Receipts.{sender_place}
 use Rattle.pm_services.specs.RelaySetups.{RelaySetup}
-use Rattle.pm_services.specs.RelayAnswers.{WaitingRelay, stored_relay, has_step_within}
-use Rattle.pm_lives.specs.Outputs.{Output, Keeps, Says, EachKept}
+use Rattle.pm_services.specs.RelayWrites.{WaitingRelay, stored_relay, has_step_within}
+use Rattle.pm_lives.specs.Outputs.{EachKept}
+use Rattle.pm_services.specs.Outputs.{Output, Keeps, Says}
 use Rattle.pm_lives.specs.RelayLife.{PassesGiver}
-use Rattle.pm_lives.specs.RelayWrites.{receipt_outs, downs, bid_outs, bid_again_outs, drop_outs, price_outs, WritesPrice, WritesWaiting, WritesBid}
-use Rattle.pm_lives.specs.RelayWrites.{WritesLimits, WritesExpire, WritesSend, WritesAsked, WritesGiven, WritesKept, WritesRelay}
+use Rattle.pm_services.specs.Receipts.{receipt_outs, downs}
+use Rattle.pm_services.specs.RelayWrites.{bid_outs, bid_again_outs, drop_outs, price_outs, WritesPrice, WritesWaiting, WritesBid}
+use Rattle.pm_services.specs.RelayWrites.{WritesLimits, WritesExpire, WritesSend, WritesAsked, WritesGiven, WritesKept, WritesRelay}
 use Rattle.pm_lives.proofs.Staying.{both_kept}
 use Rattle.pm_lives.proofs.Downs.{downs_keep_none}
 
@@ -351,31 +353,32 @@ module _ (Gave : ℕ → Limits → Type 0) (giver : ℕ) (own : RelaySetup) (is
   Outs' = List (Output StoredRelay)
 
   -- what it makes of a frame, if limits in it were given, and no Bid, Gone or Expire is of that place
-  pub learns_by_frame : (old : WaitingRelay) (frame : RelayFrame) (new : WaitingRelay) (outs : List (Output StoredRelay)) →
+  pub learns_by_frame : (bounds : List Limits) (old : WaitingRelay) (frame : RelayFrame) (new : WaitingRelay) (outs : List (Output StoredRelay)) →
       PassesGiver own.terms.giver frame →
-      ((number : ℕ) (limits : Limits) → frame ≡ given.Limits number limits → Gave number limits) → WritesRelay own old frame new outs →
+      ((number : ℕ) (limits : Limits) → frame ≡ given.Limits number limits → Gave number limits) →
+      ((stored : StoredRelay) → frame ≡ Resume stored → ⊥) → WritesRelay own bounds old frame new outs →
       HoldsGiven Gave (sender_place giver) old.relay → Learns Gave (sender_place giver) new outs
-  learns_by_frame old (Child (Hello basis)) new outs passes gave did is = quiet Gave (sender_place giver) old new outs did.0 did.1 is
-  learns_by_frame old (Child (Bid sender number demand)) new outs passes gave (inl did) is =
-      bids Gave (sender_place giver) own old sender number (Some demand) new outs (passes giver is_giver) did is
-  learns_by_frame old (Child (Bid sender number demand)) new outs passes gave (inr did) is =
-      says Gave (sender_place giver) old new (Rattle.pm_frames.specs.Answers.too_much_bytes sender number) outs did.0 did.1 is
-  learns_by_frame old (Child (Gone sender number)) new outs passes gave did is =
+  learns_by_frame bounds old (Child (Hello basis)) new outs passes gave starts did is = quiet Gave (sender_place giver) old new outs did.0 did.1 is
+  learns_by_frame bounds old (Child (Bid sender number demand)) new outs passes gave starts (inl did) is =
+      bids Gave (sender_place giver) own old sender number (Some demand) new outs (passes giver is_giver) did.1 is
+  learns_by_frame bounds old (Child (Bid sender number demand)) new outs passes gave starts (inr did) is =
+      says Gave (sender_place giver) old new (Rattle.pm_frames.specs.Answers.too_much_bytes sender number) outs did.1.0 did.1.1 is
+  learns_by_frame bounds old (Child (Gone sender number)) new outs passes gave starts did is =
       bids Gave (sender_place giver) own old sender number None new outs (passes giver is_giver) did is
-  learns_by_frame old (Child Clear) new outs passes gave did is = quiet Gave (sender_place giver) old new outs did.0 did.1 is
-  learns_by_frame old (Parent (Price child number index step basis)) new outs passes gave (inl did) is =
+  learns_by_frame bounds old (Child Clear) new outs passes gave starts did is = quiet Gave (sender_place giver) old new outs did.0 did.1 is
+  learns_by_frame bounds old (Parent (Price child number index step basis)) new outs passes gave starts (inl did) is =
       prices Gave (sender_place giver) own old (record { step = step; number = number; index = index }) new outs did.1 is
-  learns_by_frame old (Parent (Price child number index step basis)) new outs passes gave (inr did) is =
+  learns_by_frame bounds old (Parent (Price child number index step basis)) new outs passes gave starts (inr did) is =
       says Gave (sender_place giver) old new (Rattle.pm_frames.specs.Answers.other_basis_bytes number index) outs did.1.0 did.1.1 is
-  learns_by_frame old (Parent (Old child kept)) new outs passes gave did is = quiet Gave (sender_place giver) old new outs did.0 did.1 is
-  learns_by_frame old Send new outs passes gave did is = asks Gave (sender_place giver) own old new outs did is
-  learns_by_frame old (Expire sender) new outs passes gave did is =
+  learns_by_frame bounds old (Parent (Old child kept)) new outs passes gave starts did is = quiet Gave (sender_place giver) old new outs did.0 did.1 is
+  learns_by_frame bounds old Send new outs passes gave starts did is = asks Gave (sender_place giver) own old new outs did is
+  learns_by_frame bounds old (Expire sender) new outs passes gave starts did is =
       lets_go Gave (sender_place giver) own old sender new outs (passes giver is_giver) did is
-  learns_by_frame old (given.Limits number limits) new outs passes gave did is =
+  learns_by_frame bounds old (given.Limits number limits) new outs passes gave starts did is =
       limits_given Gave (sender_place giver) own old giver number limits new outs refl (gave number limits refl)
       (subst (λ (g : Option ℕ). WritesGiven g own old number limits new outs) is_giver did) is
-  learns_by_frame old (Bound sender bound) new outs passes gave did is = quiet Gave (sender_place giver) old new outs did.0 did.1 is
-  learns_by_frame old (Resume stored) new outs passes gave did is = absurd did
+  learns_by_frame bounds old (Bound sender bound) new outs passes gave starts did is = quiet Gave (sender_place giver) old new outs did.0 did.1 is
+  learns_by_frame bounds old (Resume stored) new outs passes gave starts did is = absurd (starts stored refl)
 
   -- and of what is stored, when it comes back with that
   pub learns_by_kept : (old : WaitingRelay) (stored : StoredRelay) (new : WaitingRelay) (outs : List (Output StoredRelay)) →

@@ -20,9 +20,9 @@ use Rattle.pm_services.specs.Receipts.{sender_place}
 use Rattle.pm_system.specs.System.{System, with_relay, with_root, with_agent, with_bid_sent, with_prices_sent, with_setpoints}
 use Rattle.pm_system.specs.Market.{IsIn}
 use Rattle.pm_system.proofs.Moving.{relay_no_leaf, relay_no_root}
-use Rattle.pm_lives.specs.Outputs.{Output, Up, Down, Keeps, Tells, Says}
+use Rattle.pm_services.specs.Outputs.{Output, Up, Down, Keeps, Tells, Says}
 use Rattle.pm_lives.specs.RelayLife.{CarriesLimits, RelayMayRead}
-use Rattle.pm_lives.specs.DeviceWrites.{device_outs, agent_after}
+use Rattle.pm_services.specs.DeviceWrites.{device_outs, agent_after}
 use Rattle.pm_lives.specs.Lives.{World, LifeStep, RelayUp, Relay, RootUp, Root, DeviceUp, Device, Lives1, Live, IsNewWorld, KeptMayBeLearnt}
 use Rattle.pm_lives.specs.Lives.{setup_of, handed_out, stored_last, restart_outs, RelayBegins, RelayReads}
 use Rattle.pm_lives.proofs.Staying.{bid_pushed, bid_still_sent}
@@ -185,9 +185,10 @@ module _ (lists : Lists) (p : Pricing) (numbering : Numbering) where
         } in
         subst (λ (w : World). AllGiven w) (sym did.new_is) (given_but c world after alone is (λ conc giver is_giver.
         let was = is c did.conc giver is_giver in
-        let learns = learns_by_frame (GaveIn world.seen c giver) giver (setup_of numbering world c) is_giver
+        let learns = learns_by_frame (GaveIn world.seen c giver) giver (setup_of numbering world c) is_giver did.bounds
         (record { relay = world.seen.relays c; waiting = world.waiting c }) frame did.after did.outs did.passes
         (λ number limits e. subst (λ (f : RelayFrame). RelayMayRead lists p numbering (setup_of numbering world c) world.seen c f) e did.may giver is_giver)
+        (λ stored e. subst (λ (f : RelayFrame). RelayMayRead lists p numbering (setup_of numbering world c) world.seen c f) e did.may)
         did.writes (was.holds did.runs) in
         given_as after.seen c giver (world.up c) (world.up c) did.after.relay (after.seen.relays c) kept (update world.relay_kept c kept c) refl
         (ap (λ f. f c) values.0 ∙ updated_same world.seen.relays c did.after.relay) (updated_same world.relay_kept c kept)
@@ -250,7 +251,7 @@ module _ (lists : Lists) (p : Pricing) (numbering : Numbering) where
         }) (no_device d did.leaf))
     step_given (Device d frame n) new did =
         let base : System = with_agent world.seen d (agent_after (world.seen.agents d) frame) in
-        let first = take n (device_outs p world.basis (world.seen.agents d) frame) in
+        let first = take n (device_outs p.steps world.basis (world.seen.agents d) frame) in
         let after : World = record world {
           seen = handed_out lists numbering base d first;
           agent_kept = update world.agent_kept d (stored_last (world.agent_kept d) first);

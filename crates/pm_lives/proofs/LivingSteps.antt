@@ -18,19 +18,20 @@ use Rattle.pm_frames.specs.declared.stored.StoredAgent.{StoredAgent}
 use Rattle.pm_frames.specs.declared.relay.RelayFrame.{RelayFrame}
 use Rattle.pm_frames.specs.declared.root.RootFrame.{RootFrame}
 use Rattle.pm_frames.specs.declared.device.DeviceFrame.{DeviceFrame}
-use Rattle.pm_lives.specs.DeviceWrites.{agent_after}
+use Rattle.pm_services.specs.DeviceWrites.{agent_after}
 use Rattle.pm_lives.specs.Lives.{setup_of}
 use Rattle.pm_system.specs.System.{System, with_relay, with_root, with_agent}
 use Rattle.pm_system.specs.Calls.{NodeCall, SystemRuns, StaysUp}
 use Rattle.pm_system.specs.Given.{IsTreeMarket}
 use Rattle.pm_system.specs.Market.{RunsTheMarket}
 use Rattle.pm_system.proofs.Moving.{relay_no_leaf, relay_no_root}
-use Rattle.pm_lives.specs.Outputs.{Output, WereSent}
+use Rattle.pm_lives.specs.Outputs.{WereSent}
+use Rattle.pm_services.specs.Outputs.{Output}
 use Rattle.pm_lives.specs.Moves.{OnlyMoves}
 use Rattle.pm_lives.specs.RelayLife.{IsRelayKept}
 use Rattle.pm_lives.specs.RootLife.{IsRootKept}
 use Rattle.pm_lives.specs.DeviceLife.{IsAgentKept}
-use Rattle.pm_lives.specs.DeviceWrites.{device_outs}
+use Rattle.pm_services.specs.DeviceWrites.{device_outs}
 use Rattle.pm_lives.specs.Lives as lives
 use Rattle.pm_lives.specs.Lives.{no_agent_stored}
 use Rattle.pm_lives.specs.Moves.{lets_none}
@@ -153,7 +154,7 @@ module _ (lists : Lists) (p : Pricing) (numbering : Numbering) (market : IsTreeM
   relay_reads before has c frame n new did =
       let ok = stands.relays c did.conc in
       let here = ok.stands did.runs in
-      let f = relay_answers goes two lists p numbering before sys c market has did.conc (setup_of numbering world c)
+      let f = relay_answers goes two lists p numbering before sys c market has did.conc (setup_of numbering world c) did.bounds
       (record { relay = world.seen.relays c; waiting = world.waiting c })
       did.after frame did.outs here
       (relay_may lists p numbering world.seen sys stands.sent (setup_of numbering world c) c did.conc here.relay_is frame did.may) did.writes in
@@ -249,7 +250,7 @@ module _ (lists : Lists) (p : Pricing) (numbering : Numbering) (market : IsTreeM
       RootReads lists p numbering world frame n new → Does (Root frame n) new
   root_reads before has frame n new did =
       let here = stands.root.stands did.runs in
-      let f = root_answers root_two lists p numbering before sys market has world.basis world.seen.root did.after frame did.outs here
+      let f = root_answers root_two lists p numbering before sys market has world.basis did.bounds world.seen.root did.after frame did.outs here
       (root_may lists p numbering world.seen sys stands.sent (sym here) frame did.may) did.writes in
       let first : List (Output StoredRoot) = take n did.outs in
       let base : System = with_root world.seen did.after in
@@ -405,7 +406,7 @@ module _ (lists : Lists) (p : Pricing) (numbering : Numbering) (market : IsTreeM
       let ok = stands.agents d did.leaf in
       let here = ok.stands did.runs in
       let old : DeviceAgent = world.seen.agents d in
-      let outs : List (Output StoredAgent) = device_outs p world.basis old frame in
+      let outs : List (Output StoredAgent) = device_outs p.steps world.basis old frame in
       let agent : DeviceAgent = agent_after old frame in
       let f = device_answers lists p numbering sys d did.leaf world.basis old frame here
       (device_may lists p numbering world.seen sys stands.sent world.basis d (leaf_node lists market.law d did.leaf) here.agent_is frame did.may) in

@@ -31,7 +31,7 @@ use Rattle.pm_services.specs.RelayAnswers as answers
 use Rattle.pm_basis.specs.Prices.{BasisValue}
 use Rattle.pm_frames.specs.Answers.{too_much_bytes, other_basis_bytes, out_of_limits_bytes}
 use Rattle.pm_services.specs.RelaySetups.{RelaySetup}
-use Rattle.pm_services.specs.RelayAnswers.{WaitingRelay, stored_relay, has_step_within, waiting_with, waiting_after}
+use Rattle.pm_services.specs.RelayWrites.{WaitingRelay, stored_relay, has_step_within, waiting_with, waiting_after}
 use Rattle.pm_system.specs.System.{System, bid_in_channel, price_in_channel, with_relay, with_bid_sent, with_prices_sent}
 use Rattle.pm_system.specs.Calls as call
 use Rattle.pm_system.specs.Expiry.{RelayExpires, AreTwoCalls}
@@ -46,12 +46,14 @@ use Rattle.pm_frames.specs.declared.relay.RelayFrame.TheVariants.{Child, Parent,
 use Rattle.pm_frames.specs.declared.relay.RelayFrame.TheVariants as given
 use Rattle.pm_system.specs.Calls.{NodeCall, SystemRuns}
 use Rattle.pm_system.proofs.Moving.{relay_no_root, new_in}
-use Rattle.pm_lives.specs.Outputs.{Output, Keeps, Says, PriceWasSent, WereSent, BeginsWithResume}
+use Rattle.pm_lives.specs.Outputs.{PriceWasSent, WereSent, BeginsWithResume}
+use Rattle.pm_services.specs.Outputs.{Output, Keeps, Says}
 use Rattle.pm_lives.specs.Moves.{OnlyMoves, AreCalm}
-use Rattle.pm_lives.specs.RelayWrites.{WritesBounded, WritesTold, WritesGiven, WritesKept, bid_outs}
+use Rattle.pm_services.specs.RelayWrites.{WritesBounded, WritesTold, WritesGiven, WritesKept, bid_outs}
 use Rattle.pm_lives.specs.Moves.{lets_none}
-use Rattle.pm_lives.specs.RelayWrites.{receipt_outs, downs, own_bid, bid_again_outs, drop_outs, price_outs, WritesPrice, WritesWaiting, WritesBid}
-use Rattle.pm_lives.specs.RelayWrites.{WritesLimits, WritesExpire, WritesSend, WritesRelay}
+use Rattle.pm_services.specs.Receipts.{receipt_outs, downs}
+use Rattle.pm_services.specs.RelayWrites.{own_bid, bid_again_outs, drop_outs, price_outs, WritesPrice, WritesWaiting, WritesBid}
+use Rattle.pm_services.specs.RelayWrites.{WritesLimits, WritesExpire, WritesSend, WritesRelay}
 use Rattle.pm_lives.specs.RelayLife.{IsOfPrice, UpdateWasSent, RelayStands, IsRelayKept, numbers_in_places, CarriesBid, CarriesLimits, CarriesExpire}
 use Rattle.pm_lives.specs.RelayLife.{RelayMayRead, RelayFollows, RelayLets}
 use Rattle.pm_lives.proofs.Staying.{still, then_moves, relay_moved, bid_pushed, prices_pushed, were_sent, both_sent, both_kept}
@@ -691,9 +693,9 @@ module _ (Lets : ℕ → ℕ → Type 0) (lists : Lists) (p : Pricing) (numberin
     })
 
     bounded_follows : (sender number : ℕ) (demand : List ℤ) → CarriesBid lists p numbering sys c sender number (Some demand) →
-        WritesBounded own old sender number demand after reply → RelayFollows lists p numbering Lets sys c after reply
-    bounded_follows sender number demand carries (inl did) = bid_follows sender number (Some demand) carries did
-    bounded_follows sender number demand carries (inr did) = says_follows (too_much_bytes sender number) did.0 did.1
+        (bounds : List Limits) → WritesBounded own bounds old sender number demand after reply → RelayFollows lists p numbering Lets sys c after reply
+    bounded_follows sender number demand carries bounds (inl did) = bid_follows sender number (Some demand) carries did.1
+    bounded_follows sender number demand carries bounds (inr did) = says_follows (too_much_bytes sender number) did.1.0 did.1.1
 
     told_follows : (price : PriceUpdate) (basis : BasisValue) → UpdateWasSent sys c price → WritesTold own old price basis after reply →
         RelayFollows lists p numbering Lets sys c after reply
@@ -762,34 +764,34 @@ module _ (Lets : ℕ → ℕ → Type 0) (lists : Lists) (p : Pricing) (numberin
 
       -- all frames of a relay that runs
       frame_follows : (frame : RelayFrame) → ((d n : ℕ) → RelayLets lists numbering sys c frame d n → Lets d n) →
-          RelayMayRead lists p numbering own sys c frame → WritesRelay own old frame after reply →
+          RelayMayRead lists p numbering own sys c frame → (bounds : List Limits) → WritesRelay own bounds old frame after reply →
           RelayFollows lists p numbering Lets sys c after reply
-      frame_follows (Child (Hello basis)) allows may did = silent_follows did.0 did.1
-      frame_follows (Child (Bid sender number demand)) allows may did = bounded_follows sender number demand may did
-      frame_follows (Child (Gone sender number)) allows may did = bid_follows sender number None may did
-      frame_follows (Child Clear) allows may did = silent_follows did.0 did.1
-      frame_follows (Parent (Price child number index step basis)) allows may did =
+      frame_follows (Child (Hello basis)) allows may bounds did = silent_follows did.0 did.1
+      frame_follows (Child (Bid sender number demand)) allows may bounds did = bounded_follows sender number demand may bounds did
+      frame_follows (Child (Gone sender number)) allows may bounds did = bid_follows sender number None may did
+      frame_follows (Child Clear) allows may bounds did = silent_follows did.0 did.1
+      frame_follows (Parent (Price child number index step basis)) allows may bounds did =
           told_follows (record { step = step; number = number; index = index }) basis (may.1.0, may.1.1, ap update_of may.1.2) did
-      frame_follows (Parent (Old child kept)) allows may did = silent_follows did.0 did.1
-      frame_follows Send allows may did = send_follows did
-      frame_follows (Expire sender) allows may did =
+      frame_follows (Parent (Old child kept)) allows may bounds did = silent_follows did.0 did.1
+      frame_follows Send allows may bounds did = send_follows did
+      frame_follows (Expire sender) allows may bounds did =
           expire_follows sender may (allows may.x (number_at c (sender_place sender)) (may.up, may.sender_is, refl)) did
-      frame_follows (given.Limits number limits) allows may did = given_follows own.terms.giver number limits may did
-      frame_follows (Bound sender bound) allows may did = silent_follows did.0 did.1
-      frame_follows (Resume stored) allows may did = absurd may
+      frame_follows (given.Limits number limits) allows may bounds did = given_follows own.terms.giver number limits may did
+      frame_follows (Bound sender bound) allows may bounds did = silent_follows did.0 did.1
+      frame_follows (Resume stored) allows may bounds did = absurd may
 
 -- What a relay's service answers to a frame is some calls of its node.
 pub relay_answers : RunsGoOn → ExpiringIsTwoCalls →
     (lists : Lists) (p : Pricing) (numbering : Numbering) (before : List NodeCall) (sys : System) (c : ℕ) →
     IsTreeMarket lists p numbering → RunsTheMarket lists p numbering before sys → IsConcentrator lists c → (own : RelaySetup)
-    (old after : WaitingRelay) (frame : RelayFrame) (outs : List (Output StoredRelay)) →
-    RelayStands sys c old → RelayMayRead lists p numbering own sys c frame → WritesRelay own old frame after outs →
+    (bounds : List Limits) (old after : WaitingRelay) (frame : RelayFrame) (outs : List (Output StoredRelay)) →
+    RelayStands sys c old → RelayMayRead lists p numbering own sys c frame → WritesRelay own bounds old frame after outs →
     RelayFollows lists p numbering (RelayLets lists numbering sys c frame) sys c after outs
-relay_answers goes two lists p numbering before sys c market has conc own old after frame outs stands may did =
+relay_answers goes two lists p numbering before sys c market has conc own bounds old after frame outs stands may did =
     frame_follows (RelayLets lists numbering sys c frame) lists p numbering c conc market goes own sys old.waiting after outs stands.waiting
     (record { price = subst (λ (r : RelayValue). IsOfPrice sys c r.answered r.index) stands.relay_is stands.held; has = (before, has) }) two frame
-    (λ d n lets. lets) may
-    (subst (λ (r : RelayValue). WritesRelay own (record { relay = r; waiting = old.waiting }) frame after outs) stands.relay_is did)
+    (λ d n lets. lets) may bounds
+    (subst (λ (r : RelayValue). WritesRelay own bounds (record { relay = r; waiting = old.waiting }) frame after outs) stands.relay_is did)
 
 -- A relay that came back learns the limits that it was given.
 pub relay_learns_kept : RunsGoOn → (lists : Lists) (p : Pricing) (numbering : Numbering) (before : List NodeCall) (sys : System) (c : ℕ) →

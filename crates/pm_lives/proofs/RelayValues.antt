@@ -19,12 +19,13 @@ use Rattle.pm_relay_net.proofs.Matching.{recorded_at}
 use Rattle.pm_relay_net.specs.RelayIs.{update_of}
 use Rattle.pm_frames.specs.Stored.{StoredRelay}
 use Rattle.pm_services.specs.RelaySetups.{RelaySetup}
-use Rattle.pm_services.specs.RelayAnswers.{stored_relay}
+use Rattle.pm_services.specs.RelayWrites.{stored_relay}
 use Rattle.pm_system.specs.System.{System}
 use Rattle.pm_system.specs.Given.{IsTreeMarket}
 use Rattle.pm_system.specs.Market.{RunsTheMarket}
 use Rattle.pm_system.specs.Calls.{NodeCall}
-use Rattle.pm_lives.specs.Outputs.{Output, EachKept}
+use Rattle.pm_lives.specs.Outputs.{EachKept}
+use Rattle.pm_services.specs.Outputs.{Output}
 use Rattle.pm_lives.specs.Moves.{OnlyMoves}
 use Rattle.pm_lives.specs.RelayLife.{IsOfPrice, UpdateWasSent, IsRelayKept, numbers_in_places}
 use Rattle.pm_lives.proofs.Staying.{price_stays, kept_to}

@@ -13,6 +13,7 @@ use Rattle.pm_net.specs.Messages.{BidMessage, PriceMessage, bid_message, no_pric
 use Rattle.pm_net.proofs.Messages.{either}
 use Rattle.pm_net_plan.specs.Places.{Numbering}
 use Rattle.pm_wire.specs.Answers.{answer_bytes}
+use Rattle.pm_base.specs.declared.limits.Limits.{Limits}
 use Rattle.pm_wire.specs.declared.answer.Reply as reply_kind
 use Rattle.pm_wire.specs.declared.frame.Frame.TheVariants.{Hello, Bid, Gone, Clear}
 use Rattle.pm_relay.specs.Numbers.{known_number, parents_number}
@@ -24,16 +25,17 @@ use Rattle.pm_frames.specs.declared.root.RootFrame.TheVariants.{Market, Expire, 
 use Rattle.pm_services.specs.Receipts.{sender_place}
 use Rattle.pm_basis.specs.Prices.{BasisValue}
 use Rattle.pm_frames.specs.Answers.{too_much_bytes}
-use Rattle.pm_services.specs.RootAnswers.{stored_root, not_cleared_reply}
+use Rattle.pm_services.specs.RootWrites.{stored_root, not_cleared_reply}
 use Rattle.pm_system.specs.System.{System, bid_in_channel, with_root, with_bid_sent, with_prices_sent, with_prices_told}
 use Rattle.pm_system.specs.Calls as call
 use Rattle.pm_system.specs.Calls.{NodeCall, SystemRuns}
 use Rattle.pm_system.specs.Expiry.{RootExpires, AreTwoCalls}
 use Rattle.pm_system.specs.Given.{IsTreeMarket}
 use Rattle.pm_system.specs.Market.{RunsTheMarket}
-use Rattle.pm_lives.specs.Outputs.{Output, Keeps, Says, PriceWasSent}
-use Rattle.pm_lives.specs.RelayWrites.{receipt_outs}
-use Rattle.pm_lives.specs.RootWrites.{clearing_outs, clearing_again_outs, WritesRootBid, WritesRootExpire, WritesRootBounded, WritesClear, WritesRoot}
+use Rattle.pm_lives.specs.Outputs.{PriceWasSent}
+use Rattle.pm_services.specs.Outputs.{Output, Keeps, Says}
+use Rattle.pm_services.specs.Receipts.{receipt_outs}
+use Rattle.pm_services.specs.RootWrites.{clearing_outs, clearing_again_outs, WritesRootBid, WritesRootExpire, WritesRootBounded, WritesClear, WritesRoot}
 use Rattle.pm_lives.specs.Moves.{OnlyMoves, FollowsByCalls, AreCalm}
 use Rattle.pm_lives.specs.RelayLife.{CarriesBid, CarriesExpire}
 use Rattle.pm_lives.specs.RootLife.{IsRootKept, RootLets, RootMayRead, RootFollows}
@@ -306,9 +308,9 @@ module _ (Lets : ℕ → ℕ → Type 0) (lists : Lists) (p : Pricing) (numberin
         (says lists p numbering Lets IsRootKept 0 (λ t. t.root ≡ after) sys said (sym same))
 
     bounded_follows : (sender number : ℕ) (demand : List ℤ) → CarriesBid lists p numbering sys 0 sender number (Some demand) →
-        WritesRootBounded sys.root sender number demand after reply → RootFollows lists p numbering Lets sys after reply
-    bounded_follows sender number demand carries (inl did) = bid_follows sender number (Some demand) carries did
-    bounded_follows sender number demand carries (inr did) = says_follows (too_much_bytes sender number) did.0 did.1
+        (bounds : List Limits) → WritesRootBounded bounds sys.root sender number demand after reply → RootFollows lists p numbering Lets sys after reply
+    bounded_follows sender number demand carries bounds (inl did) = bid_follows sender number (Some demand) carries did.1
+    bounded_follows sender number demand carries bounds (inr did) = says_follows (too_much_bytes sender number) did.1.0 did.1.1
 
     silent_follows : after ≡ sys.root → reply ≡ [] → RootFollows lists p numbering Lets sys after reply
     silent_follows same none =
@@ -360,22 +362,22 @@ module _ (Lets : ℕ → ℕ → Type 0) (lists : Lists) (p : Pricing) (numberin
           (looks_again sys.root after (sender_place sender) (number_at (sender_place sender)) None did.looks))
 
       frame_follows : (frame : RootFrame) → ((d n : ℕ) → RootLets lists numbering sys frame d n → Lets d n) →
-          RootMayRead lists p numbering sys frame → WritesRoot basis sys.root frame after reply →
+          RootMayRead lists p numbering sys frame → (bounds : List Limits) → WritesRoot basis bounds sys.root frame after reply →
           RootFollows lists p numbering Lets sys after reply
-      frame_follows (Market (Hello basis)) allows may did = silent_follows did.0 did.1
-      frame_follows (Market (Bid sender number demand)) allows may did = bounded_follows sender number demand may did
-      frame_follows (Market (Gone sender number)) allows may did = bid_follows sender number None may did
-      frame_follows (Market Clear) allows may did = clear_follows did
-      frame_follows (Expire sender) allows may did =
+      frame_follows (Market (Hello basis)) allows may bounds did = silent_follows did.0 did.1
+      frame_follows (Market (Bid sender number demand)) allows may bounds did = bounded_follows sender number demand may bounds did
+      frame_follows (Market (Gone sender number)) allows may bounds did = bid_follows sender number None may did
+      frame_follows (Market Clear) allows may bounds did = clear_follows did
+      frame_follows (Expire sender) allows may bounds did =
           expire_follows sender may (allows may.x (number_at (sender_place sender)) (may.up, may.sender_is, refl)) did
-      frame_follows (Bound sender bound) allows may did = silent_follows did.0 did.1
-      frame_follows (Resume stored) allows may did = absurd may
+      frame_follows (Bound sender bound) allows may bounds did = silent_follows did.0 did.1
+      frame_follows (Resume stored) allows may bounds did = absurd may
 
 -- What an auctioneer's service answers to a frame is some calls of the root.
 pub root_answers : RootExpiringIsTwoCalls → (lists : Lists) (p : Pricing) (numbering : Numbering) (before : List NodeCall) (sys : System) →
-    IsTreeMarket lists p numbering → RunsTheMarket lists p numbering before sys → (basis : BasisValue)
+    IsTreeMarket lists p numbering → RunsTheMarket lists p numbering before sys → (basis : BasisValue) (bounds : List Limits)
     (old after : RootValue) (frame : RootFrame) (outs : List (Output StoredRoot)) → sys.root ≡ old → RootMayRead lists p numbering sys frame →
-    WritesRoot basis old frame after outs → RootFollows lists p numbering (RootLets lists numbering sys frame) sys after outs
-root_answers two lists p numbering before sys market has basis old after frame outs is may did =
-    frame_follows (RootLets lists numbering sys frame) lists p numbering basis sys after outs two market before has frame (λ d n lets. lets) may
-    (subst (λ (r : RootValue). WritesRoot basis r frame after outs) (sym is) did)
+    WritesRoot basis bounds old frame after outs → RootFollows lists p numbering (RootLets lists numbering sys frame) sys after outs
+root_answers two lists p numbering before sys market has basis bounds old after frame outs is may did =
+    frame_follows (RootLets lists numbering sys frame) lists p numbering basis sys after outs two market before has frame (λ d n lets. lets) may bounds
+    (subst (λ (r : RootValue). WritesRoot basis bounds r frame after outs) (sym is) did)

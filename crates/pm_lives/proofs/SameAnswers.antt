@@ -19,8 +19,8 @@ use Rattle.pm_frames.specs.declared.device.DeviceFrame.TheVariants.{Hello, Offer
 use Rattle.pm_basis.specs.Prices.{BasisValue}
 use Rattle.pm_system.specs.System.{System, with_bid_sent, with_prices_sent, with_setpoints}
 use Rattle.pm_system.specs.Calls.{bid_kept}
-use Rattle.pm_lives.specs.Outputs.{Output, Up, Down, Keeps, Tells, Says}
-use Rattle.pm_lives.specs.DeviceWrites.{made_outs, stored_agent, device_outs}
+use Rattle.pm_services.specs.Outputs.{Output, Up, Down, Keeps, Tells, Says}
+use Rattle.pm_services.specs.DeviceWrites.{made_outs, stored_agent, device_outs}
 use Rattle.pm_lives.specs.Lives.{handed_out, restart_outs}
 use Rattle.pm_lives.specs.Lives.{let_go_at_relay, let_go_at_root}
 use Rattle.pm_lives.proofs.Building.{lists_of}
@@ -68,26 +68,9 @@ module _ (p q : Pricing) (same : q.steps ≡ p.steps) (own : BasisValue) where
   kept_same n None = ap (λ (k : ℕ). Rattle.pm_net.specs.Messages.bid_message n true (zeros k)) same
   kept_same n (Some demand) = refl
 
-  made_same : (after : DeviceAgent) → made_outs q own after ≡ made_outs p own after
-  made_same after =
-      ap (λ (b : Rattle.pm_net.specs.Messages.BidMessage). Keeps (stored_agent own after) ∷ Up b ∷ []) (kept_same after.number (newest_demand after))
-
   -- what a device answers is the same under both markets
-  pub outs_same : (agent : DeviceAgent) (frame : DeviceFrame) → device_outs q own agent frame ≡ device_outs p own agent frame
-  outs_same agent (Hello basis) = refl
-  outs_same agent (Kind named) = refl
-  outs_same agent (Offer form demand) =
-      ap (λ (l : List (Output StoredAgent)). cond (may_offer agent)
-      (cond (ltb (agent.number + 5) (2 ^ 32)) l (Says Rattle.pm_frames.specs.Answers.out_of_numbers_bytes ∷ []))
-      (Says Rattle.pm_frames.specs.Answers.window_full_bytes ∷ [])) (made_same (after_offer agent demand))
-  outs_same agent Leave =
-      ap (λ (l : List (Output StoredAgent)). cond (ltb (agent.number + 3) (2 ^ 32)) l (Says Rattle.pm_frames.specs.Answers.out_of_numbers_bytes ∷ []))
-      (made_same (after_leaving agent))
-  outs_same agent (Parent (Price child number index step basis)) = refl
-  outs_same agent (Parent (Old child kept)) =
-      let after : DeviceAgent = Rattle.pm_control.specs.Control.after_old agent kept in
-      ap (λ (l : List (Output StoredAgent)). cond (ltb agent.number after.number) l []) (made_same after)
-  outs_same agent (Resume stored) = refl
+  pub outs_same : (agent : DeviceAgent) (frame : DeviceFrame) → device_outs q.steps own agent frame ≡ device_outs p.steps own agent frame
+  outs_same agent frame = ap (λ (steps : ℕ). device_outs steps own agent frame) same
 
   -- so is what it writes when it comes back
   pub restart_same : (stored : StoredAgent) → restart_outs q stored ≡ restart_outs p stored

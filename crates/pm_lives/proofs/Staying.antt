@@ -16,7 +16,8 @@ use Rattle.pm_relay.specs.Roots.{RootValue}
 use Rattle.pm_net.specs.Agents.{Setpoint, DeviceAgent}
 use Rattle.pm_system.specs.System.{System, price_in_channel, bid_in_channel, with_root, with_relay, with_agent, with_bid_sent, with_prices_sent}
 use Rattle.pm_system.specs.System.{with_prices_told, with_setpoints}
-use Rattle.pm_lives.specs.Outputs.{Output, Up, Down, Keeps, Tells, Says, PriceWasSent, BidWasSent, OutputWasSent, WereSent, EachKept}
+use Rattle.pm_lives.specs.Outputs.{PriceWasSent, BidWasSent, OutputWasSent, WereSent, EachKept}
+use Rattle.pm_services.specs.Outputs.{Output, Up, Down, Keeps, Tells, Says}
 use Rattle.pm_lives.specs.Moves.{OnlyMoves}
 
 none_more : {A : Type 0} (l : List A) → (more : List A) × (l ≡ l ++ more)

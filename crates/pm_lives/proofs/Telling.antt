@@ -1,6 +1,6 @@
 -- Of what a device answers, each setpoint is handed out; and who was told to let a device go.
 use Rattle.std.proofs.Common.{◌≡◌, ◌⊎◌, ◌∙◌, sym, ap, ℕ, zero, suc, ◌+◌, ◌-◌, ◌≤◌, ◌^◌, true, cond, ltb, eqb}
-use Rattle.std.proofs.Common.{◌&&◌, List, [], ◌∷◌, length, take, Option, Some, None, refl, inl, inr, arith, max}
+use Rattle.std.proofs.Common.{ℤ, ◌&&◌, List, [], ◌∷◌, length, take, Option, Some, None, refl, inl, inr, arith, max}
 use Rattle.std.proofs.lemmas.Bool.{cond-true, eq-eqb, and_from}
 use Rattle.std.specs.List.{Contains}
 use Rattle.pm_market.specs.Lists.{Lists, parent}
@@ -22,11 +22,11 @@ use Rattle.pm_frames.specs.declared.relay.RelayFrame.TheVariants as relay_frame
 use Rattle.pm_frames.specs.declared.root.RootFrame.{RootFrame}
 use Rattle.pm_frames.specs.declared.root.RootFrame.TheVariants as root_frame
 use Rattle.pm_system.specs.System.{System}
-use Rattle.pm_lives.specs.Outputs.{Output, Up, Says}
+use Rattle.pm_services.specs.Outputs.{Output, Up, Says}
 use Rattle.pm_lives.specs.RelayLife.{RelayLets, LetsGo, relay_number}
 use Rattle.pm_lives.specs.RootLife.{RootLets, root_number}
 use Rattle.pm_lives.specs.DeviceLife.{told_of}
-use Rattle.pm_lives.specs.DeviceWrites.{made_outs, told_outs, device_outs}
+use Rattle.pm_services.specs.DeviceWrites.{numbered_bid, again_outs, made_outs, told_outs, device_outs}
 use Rattle.pm_lives.specs.Lives.{HandledSome, restart_outs, let_go_by, let_go_at_relay, let_go_at_root}
 use Rattle.pm_lives.proofs.Handing.{told_by}
 use Rattle.pm_lives.proofs.Giving.{Known}
@@ -50,11 +50,17 @@ module _ (p : Pricing) (own : BasisValue) where
   up_silent bid (suc zero) = refl
   up_silent bid (suc (suc n)) = refl
 
-  made_silent : (after : DeviceAgent) → TellsNone (made_outs p own after)
-  made_silent after zero = refl
-  made_silent after (suc zero) = refl
-  made_silent after (suc (suc zero)) = refl
-  made_silent after (suc (suc (suc n))) = refl
+  made_silent : (after : DeviceAgent) (bid : BidMessage) → TellsNone (made_outs own after bid)
+  made_silent after bid zero = refl
+  made_silent after bid (suc zero) = refl
+  made_silent after bid (suc (suc zero)) = refl
+  made_silent after bid (suc (suc (suc n))) = refl
+
+  again_silent : (number : ℕ) (newest : Option (List ℤ)) → TellsNone (again_outs p.steps number newest)
+  again_silent number (Some demand) n = up_silent (numbered_bid p.steps number (Some demand)) n
+  again_silent number None n =
+      either (λ (l : List (Output StoredAgent)). told_by (take n l) ≡ []) (eqb number 0) [] (Up (numbered_bid p.steps number None) ∷ [])
+      (λ e. none_silent n) (λ e. up_silent (numbered_bid p.steps number None) n)
 
   -- a device that comes back gives its control no setpoint
   pub restart_silent : (stored : StoredAgent) (n : ℕ) → told_by (take n (restart_outs p stored)) ≡ []
@@ -84,27 +90,27 @@ module _ (p : Pricing) (own : BasisValue) where
       (λ e handled. said_silent (Rattle.pm_frames.specs.Answers.dropped_bytes price.number price.index) n)
 
   -- what was handled of an answer has its setpoints
-  pub answer_told : (agent : DeviceAgent) (frame : DeviceFrame) (n : ℕ) → HandledSome n (device_outs p own agent frame) →
-      told_by (take n (device_outs p own agent frame)) ≡ told_of agent frame
+  pub answer_told : (agent : DeviceAgent) (frame : DeviceFrame) (n : ℕ) → HandledSome n (device_outs p.steps own agent frame) →
+      told_by (take n (device_outs p.steps own agent frame)) ≡ told_of agent frame
   answer_told agent (Hello basis) n handled = none_silent n
   answer_told agent (Kind named) n handled = none_silent n
   answer_told agent (Offer form demand) n handled =
       either (λ (l : List (Output StoredAgent)). told_by (take n l) ≡ []) (may_offer agent)
-      (cond (ltb (agent.number + 5) (2 ^ 32)) (made_outs p own (after_offer agent demand)) (Says out_of_numbers_bytes ∷ [])) (Says window_full_bytes ∷ [])
+      (cond (ltb (agent.number + 5) (2 ^ 32)) (made_outs own (after_offer agent demand) (numbered_bid p.steps (agent.number + 2) (Some demand))) (Says out_of_numbers_bytes ∷ [])) (Says window_full_bytes ∷ [])
       (λ e. either (λ (l : List (Output StoredAgent)). told_by (take n l) ≡ []) (ltb (agent.number + 5) (2 ^ 32))
-      (made_outs p own (after_offer agent demand)) (Says out_of_numbers_bytes ∷ [])
-      (λ e. made_silent (after_offer agent demand) n) (λ e. said_silent out_of_numbers_bytes n))
+      (made_outs own (after_offer agent demand) (numbered_bid p.steps (agent.number + 2) (Some demand))) (Says out_of_numbers_bytes ∷ [])
+      (λ e. made_silent (after_offer agent demand) (numbered_bid p.steps (agent.number + 2) (Some demand)) n) (λ e. said_silent out_of_numbers_bytes n))
       (λ e. said_silent window_full_bytes n)
   answer_told agent Leave n handled =
       either (λ (l : List (Output StoredAgent)). told_by (take n l) ≡ []) (ltb (agent.number + 3) (2 ^ 32))
-      (made_outs p own (after_leaving agent)) (Says out_of_numbers_bytes ∷ [])
-      (λ e. made_silent (after_leaving agent) n) (λ e. said_silent out_of_numbers_bytes n)
+      (made_outs own (after_leaving agent) (numbered_bid p.steps (agent.number + 2) None)) (Says out_of_numbers_bytes ∷ [])
+      (λ e. made_silent (after_leaving agent) (numbered_bid p.steps (agent.number + 2) None) n) (λ e. said_silent out_of_numbers_bytes n)
   answer_told agent (Parent (Price child number index step basis)) n handled = price_told agent (price_message number index step) n handled
   answer_told agent (Parent (Old child kept)) n handled =
       either (λ (l : List (Output StoredAgent)). told_by (take n l) ≡ []) (ltb agent.number (after_old agent kept).number)
-      (made_outs p own (after_old agent kept)) []
-      (λ e. made_silent (after_old agent kept) n) (λ e. none_silent n)
-  answer_told agent (Resume stored) n handled = none_silent n
+      (made_outs own (after_old agent kept) (numbered_bid p.steps (after_old agent kept).number (newest_demand (after_old agent kept)))) []
+      (λ e. made_silent (after_old agent kept) (numbered_bid p.steps (after_old agent kept).number (newest_demand (after_old agent kept))) n) (λ e. none_silent n)
+  answer_told agent (Resume stored) n handled = again_silent stored.number stored.newest n
 
 -- ---- who was let go
 

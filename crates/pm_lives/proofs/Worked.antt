@@ -13,10 +13,10 @@ use Rattle.pm_frames.specs.declared.device.DeviceFrame.TheVariants.{Offer}
 use Rattle.pm_frames.specs.declared.form.OfferForm.TheVariants.{Array}
 use Rattle.pm_basis.specs.Prices.{BasisValue}
 use Rattle.pm_frames.specs.declared.terms.RelayTerms.{RelayTerms}
-use Rattle.pm_lives.specs.DeviceWrites.{agent_after}
+use Rattle.pm_services.specs.DeviceWrites.{agent_after}
 use Rattle.pm_system.specs.System.{with_agent}
 use Rattle.pm_lives.specs.DeviceLife.{IsGivenOffer}
-use Rattle.pm_lives.specs.DeviceWrites.{device_outs}
+use Rattle.pm_services.specs.DeviceWrites.{device_outs}
 use Rattle.pm_lives.specs.Lives.{World, handed_out, stored_last, restart_outs}
 use Rattle.pm_lives.specs.Worked.{new_world, LifeGoesOn}
 
@@ -30,8 +30,8 @@ up_after lists p numbering world d n = record world {
 abbrev read_after : Lists → Pricing → Numbering → World → ℕ → DeviceFrame → ℕ → World
 read_after lists p numbering world d frame n = record world {
   seen = handed_out lists numbering (with_agent world.seen d (agent_after (world.seen.agents d) frame)) d
-      (take n (device_outs p world.basis (world.seen.agents d) frame));
-  agent_kept = update world.agent_kept d (stored_last (world.agent_kept d) (take n (device_outs p world.basis (world.seen.agents d) frame)));
+      (take n (device_outs p.steps world.basis (world.seen.agents d) frame));
+  agent_kept = update world.agent_kept d (stored_last (world.agent_kept d) (take n (device_outs p.steps world.basis (world.seen.agents d) frame)));
 }
 
 -- the cut life goes on: the bid is handed out under the stored number

@@ -20,7 +20,7 @@ use Rattle.pm_frames.specs.declared.form.OfferForm.TheVariants.{Array}
 use Rattle.pm_system.specs.Worked.{small_tree, small_places, small_device_demand, small_pricing}
 use Rattle.pm_system.proofs.Worked.{reaches, reached, suffices, enough, noted, one_kept, relay_back, sent_relay, rebuilt_relay}
 use Rattle.pm_system.proofs.Worked.{cleared_root, passed_relay}
-use Rattle.pm_lives.specs.RelayWrites.{bid_outs, price_outs}
+use Rattle.pm_services.specs.RelayWrites.{bid_outs, price_outs}
 use Rattle.pm_lives.specs.Lives.{Lives1, RelayUp, Relay, Root, Device}
 use Rattle.pm_lives.specs.WorkedLives.{small_basis, bid_to_relay}
 use Rattle.pm_lives.proofs.WorkedWorlds.{small_setup, heard, heard_root, sent_outs, cleared_outs, w11, w12, w13, w14, w15, w16, w17, w18, w19, w20, w21, w22}

@@ -12,19 +12,19 @@ use Rattle.pm_frames.specs.declared.parent.ParentFrame.TheVariants.{Price}
 use Rattle.pm_frames.specs.declared.device.DeviceFrame.{DeviceFrame}
 use Rattle.pm_frames.specs.declared.device.DeviceFrame.TheVariants as device_frame
 use Rattle.pm_frames.specs.declared.form.OfferForm.TheVariants.{Array}
-use Rattle.pm_services.specs.RelayAnswers.{stored_relay}
-use Rattle.pm_services.specs.RootAnswers.{stored_root}
+use Rattle.pm_services.specs.RelayWrites.{stored_relay}
+use Rattle.pm_services.specs.RootWrites.{stored_root}
 use Rattle.pm_frames.specs.declared.terms.RelayTerms.{RelayTerms}
 use Rattle.pm_services.specs.RelaySetups.{RelaySetup}
-use Rattle.pm_lives.specs.DeviceWrites.{agent_after}
+use Rattle.pm_services.specs.DeviceWrites.{agent_after}
 use Rattle.pm_system.specs.System.{with_root, with_relay, with_agent}
 use Rattle.pm_system.specs.Worked.{small_tree, small_places, small_limits, small_device_demand, small_pricing}
 use Rattle.pm_system.proofs.Worked.{relay_back, new_root, sent_relay, rebuilt_relay}
 use Rattle.pm_system.proofs.Worked.{cleared_root, passed_relay}
-use Rattle.pm_lives.specs.Outputs.{Output, Keeps}
-use Rattle.pm_lives.specs.RelayWrites.{bid_outs, price_outs}
-use Rattle.pm_lives.specs.RootWrites.{clearing_outs}
-use Rattle.pm_lives.specs.DeviceWrites.{device_outs}
+use Rattle.pm_services.specs.Outputs.{Output, Keeps}
+use Rattle.pm_services.specs.RelayWrites.{bid_outs, price_outs}
+use Rattle.pm_services.specs.RootWrites.{clearing_outs}
+use Rattle.pm_services.specs.DeviceWrites.{device_outs}
 use Rattle.pm_lives.specs.Lives.{World, handed_out, stored_last, restart_outs}
 use Rattle.pm_lives.specs.Worked.{new_world}
 use Rattle.pm_lives.specs.WorkedLives.{small_basis}
@@ -62,8 +62,8 @@ device_begun world d = record world {
 abbrev pub device_read : World → ℕ → DeviceFrame → World
 device_read world d frame = record world {
   seen = handed_out small_tree small_places (with_agent world.seen d (agent_after (world.seen.agents d) frame)) d
-      (take 2 (device_outs small_pricing small_basis (world.seen.agents d) frame));
-  agent_kept = update world.agent_kept d (stored_last (world.agent_kept d) (take 2 (device_outs small_pricing small_basis (world.seen.agents d) frame)));
+      (take 2 (device_outs small_pricing.steps small_basis (world.seen.agents d) frame));
+  agent_kept = update world.agent_kept d (stored_last (world.agent_kept d) (take 2 (device_outs small_pricing.steps small_basis (world.seen.agents d) frame)));
 }
 
 abbrev pub heard : World → ℕ → ℕ → ℕ → RelayValue

@@ -1,4 +1,4 @@
--- That the bytes with which a service answers are the frames of which the laws over lives speak.
+-- Frames that no process reads behind its start, and prices by their basis.
 use Rattle.std.specs.Prelude.{◌≡◌, ℕ, List, ⊤, true, false}
 use Rattle.pm_frames.specs.Stored.{StoredRelay, StoredRoot, relay_resume_bytes, root_resume_bytes}
 use Rattle.pm_frames.specs.declared.relay.RelayFrame.{RelayFrame}
@@ -10,12 +10,12 @@ use Rattle.pm_frames.specs.declared.device.DeviceFrame.TheVariants as device_fra
 use Rattle.pm_basis.specs.Prices.{BasisValue}
 use Rattle.pm_frames.specs.Answers.{other_basis_bytes}
 use Rattle.pm_frames.specs.declared.parent.ParentFrame.TheVariants.{Price}
-use Rattle.pm_services.specs.DeviceAnswers.{same_basis}
+use Rattle.pm_services.specs.DeviceWrites.{same_basis}
 use Rattle.pm_services.specs.RelayAnswers.{OpenRelay}
 use Rattle.pm_services.specs.RootAnswers.{OpenRoot}
-use Rattle.pm_lives.specs.Outputs.{Output, outputs_bytes}
-use Rattle.pm_lives.specs.RelayWrites.{WritesRelay}
-use Rattle.pm_lives.specs.RootWrites.{WritesRoot}
+use Rattle.pm_services.specs.Outputs.{Output, outputs_bytes}
+use Rattle.pm_services.specs.RelayWrites.{WritesRelay}
+use Rattle.pm_services.specs.RootWrites.{WritesRoot}
 
 -- a Resume is read at the start of a life alone
 abbrev pub IsNoRelayResume : RelayFrame → Type 0
@@ -54,16 +54,3 @@ IsOfOtherBasis own frame = ⊥
 abbrev pub SaysOtherBasis : List ℕ → DeviceFrame → Type 0
 SaysOtherBasis reply (device_frame.Parent (Price child number index step basis)) = reply ≡ other_basis_bytes number index
 SaysOtherBasis reply frame = ⊥
-
--- the bytes are the frames that a relay writes in answer to this one
-pub record AnswersInFrames (old : OpenRelay) (frame : RelayFrame) (new : OpenRelay) (reply : List ℕ) : Type 0 where
-  pub setup : new.setup ≡ old.setup
-  pub outs : List (Output StoredRelay)
-  pub writes : WritesRelay old.setup old.held frame new.held outs
-  pub written : reply ≡ outputs_bytes relay_resume_bytes old.setup.basis old.setup.child outs
-
-pub record RootAnswersInFrames (old : OpenRoot) (frame : RootFrame) (new : OpenRoot) (reply : List ℕ) : Type 0 where
-  pub basis : new.basis ≡ old.basis
-  pub outs : List (Output StoredRoot)
-  pub writes : WritesRoot old.basis old.root frame new.root outs
-  pub written : reply ≡ outputs_bytes root_resume_bytes old.basis 0 outs

@@ -6,15 +6,16 @@ use Rattle.pm_wire.specs.declared.frame.Frame.TheVariants.{Hello, Bid, Gone}
 use Rattle.pm_relay.specs.Relays.{RelayValue, RelayComesBack}
 use Rattle.pm_frames.specs.declared.parent.ParentFrame.{ParentFrame}
 use Rattle.pm_frames.specs.declared.parent.ParentFrame.TheVariants.{Price}
-use Rattle.pm_base.specs.declared.limits.Limits.{Limits}
 use Rattle.pm_frames.specs.declared.relay.RelayFrame.{RelayFrame}
 use Rattle.pm_frames.specs.declared.relay.RelayFrame.TheVariants as relay_frame
 use Rattle.pm_basis.specs.declared.basis.Basis.{Basis}
 use Rattle.pm_basis.specs.Prices.{BasisValue}
-use Rattle.pm_services.specs.RelayAnswers.{WaitingRelay, RelayServiceValue, AnswersRelay}
+use Rattle.pm_services.specs.RelayAnswers.{RelayServiceValue, AnswersRelay}
+use Rattle.pm_services.specs.RelayWrites.{WaitingRelay}
+use Rattle.pm_services.specs.Bounds.{no_bounds}
 use Rattle.pm_services.specs.RelaySetups.{RelaySetup}
-use Rattle.pm_lives.specs.Outputs.{Output}
-use Rattle.pm_lives.specs.RelayWrites.{WritesKept}
+use Rattle.pm_services.specs.Outputs.{Output}
+use Rattle.pm_services.specs.RelayWrites.{WritesKept}
 use Rattle.pm_services.specs.RootAnswers.{OpenRoot}
 use Rattle.pm_frames.specs.Stored.{StoredRelay, StoredRoot, relay_resume_bytes, agent_resume_bytes}
 use Rattle.pm_frames.specs.declared.root.RootFrame.TheVariants as root_frame
@@ -25,7 +26,7 @@ use Rattle.pm_lives.specs.Lives.{no_root_stored, restart_outs}
 use Rattle.pm_frames.specs.declared.stored.StoredAgent.{StoredAgent}
 use Rattle.pm_net.specs.Pricing.{Pricing}
 use Rattle.pm_services.specs.DeviceAnswers.{DeviceServiceValue}
-use Rattle.pm_lives.specs.Outputs.{outputs_bytes}
+use Rattle.pm_services.specs.Outputs.{outputs_bytes}
 use Rattle.pm_lives.specs.RelayLife.{no_relay_stored}
 
 -- ---- messages as frames
@@ -61,8 +62,7 @@ pub record RelayIsBack (old : RelayServiceValue) (basis : BasisValue) (after : R
   pub relay : RelayValue
   pub back : RelayComesBack basis.steps old.terms.limits stored.last stored.answered stored.index stored.numbers stored.limits relay
   pub held : WaitingRelay
-  pub bounds : List Limits
-  pub relay_is : after.relay ≡ Some (record { setup = setup_for old basis; bounds = bounds; held = held })
+  pub relay_is : after.relay ≡ Some (record { setup = setup_for old basis; bounds = no_bounds; held = held })
   pub outs : List (Output StoredRelay)
   pub learns : WritesKept old.terms.giver (setup_for old basis) (record { relay = relay; waiting = None }) stored held outs
   pub written : reply ≡ outputs_bytes relay_resume_bytes basis old.child outs
@@ -77,6 +77,7 @@ pub record RootIsBack (basis : BasisValue) (after : Option OpenRoot) (stored : S
   pub up_root : OpenRoot
   pub root_is : after ≡ Some up_root
   pub basis_is : up_root.basis ≡ basis
+  pub bounds_are : up_root.bounds ≡ no_bounds
   pub back : RootComesBack basis.steps stored.last stored.numbers up_root.root
 
 -- the service of a device was given Hello, and then a Resume with what is stored: it is an agent that comes back with that, and it

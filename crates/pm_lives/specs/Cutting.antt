@@ -1,7 +1,7 @@
 -- What a carrier has of the frames of a node that was ended at any byte.
 use Rattle.std.specs.Prelude.{◌≡◌, ◌⊎◌, ℕ, ◌<◌, List, [], ◌∷◌, ◌++◌, length, take, drop}
 use Rattle.pm_basis.specs.Prices.{BasisValue}
-use Rattle.pm_lives.specs.Outputs.{Output, output_bytes, outputs_bytes}
+use Rattle.pm_services.specs.Outputs.{Output, output_bytes, outputs_bytes}
 
 -- the bytes are a beginning of the first of these frames, and not all of it
 abbrev pub IsPartOf : {K : Type 0} → (K → List ℕ) → BasisValue → ℕ → List ℕ → List (Output K) → Type 0

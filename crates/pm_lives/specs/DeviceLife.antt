@@ -9,13 +9,14 @@ use Rattle.pm_net.specs.Agents.{DeviceAgent, may_offer, setpoints_for}
 use Rattle.pm_net_plan.specs.Places.{Numbering}
 use Rattle.pm_control.specs.Control.{newest_demand}
 use Rattle.pm_basis.specs.Prices.{BasisValue}
-use Rattle.pm_services.specs.DeviceAnswers.{same_basis}
+use Rattle.pm_services.specs.DeviceWrites.{same_basis}
 use Rattle.pm_frames.specs.declared.stored.StoredAgent.{StoredAgent}
 use Rattle.pm_frames.specs.declared.parent.ParentFrame.TheVariants.{Price, Old}
 use Rattle.pm_frames.specs.declared.device.DeviceFrame.{DeviceFrame}
 use Rattle.pm_frames.specs.declared.device.DeviceFrame.TheVariants.{Hello, Offer, Kind, Leave, Parent, Resume}
 use Rattle.pm_system.specs.System.{System, price_in_channel}
-use Rattle.pm_lives.specs.Outputs.{Output, PriceWasSent}
+use Rattle.pm_lives.specs.Outputs.{PriceWasSent}
+use Rattle.pm_services.specs.Outputs.{Output}
 use Rattle.pm_lives.specs.Moves.{FollowsByCalls, lets_none}
 
 -- an index is that of a price that was sent to d, or 0

@@ -10,6 +10,7 @@ use Rattle.pm_control.specs.Control.{newest_demand}
 use Rattle.pm_relay.specs.Roots.{RootValue}
 use Rattle.pm_relay_net.specs.RelayIs.{LimitsPassBy}
 use Rattle.pm_frames.specs.Stored.{StoredRelay, StoredRoot}
+use Rattle.pm_base.specs.declared.limits.Limits.{Limits}
 use Rattle.pm_frames.specs.declared.parent.ParentFrame.TheVariants.{Price, Old}
 use Rattle.pm_frames.specs.declared.relay.RelayFrame.{RelayFrame}
 use Rattle.pm_frames.specs.declared.relay.RelayFrame.TheVariants as relay_frame
@@ -17,18 +18,19 @@ use Rattle.pm_frames.specs.declared.root.RootFrame.{RootFrame}
 use Rattle.pm_frames.specs.declared.root.RootFrame.TheVariants as root_frame
 use Rattle.pm_frames.specs.declared.device.DeviceFrame.{DeviceFrame}
 use Rattle.pm_frames.specs.declared.device.DeviceFrame.TheVariants.{Hello, Offer, Kind, Leave, Parent, Resume}
-use Rattle.pm_services.specs.RelayAnswers.{WaitingRelay}
+use Rattle.pm_services.specs.RelayWrites.{WaitingRelay}
 use Rattle.pm_basis.specs.Prices.{BasisValue}
-use Rattle.pm_services.specs.DeviceAnswers.{same_basis}
+use Rattle.pm_services.specs.DeviceWrites.{same_basis}
 use Rattle.pm_services.specs.RelaySetups.{RelaySetup}
 use Rattle.pm_system.specs.System.{System, with_root, with_relay, with_agent}
 use Rattle.pm_system.specs.Given.{IsDemand, IsTreeMarket, IsStarted}
-use Rattle.pm_lives.specs.Outputs.{Output, PriceWasSent}
+use Rattle.pm_lives.specs.Outputs.{PriceWasSent}
+use Rattle.pm_services.specs.Outputs.{Output}
 use Rattle.pm_lives.specs.RelayLife.{RelayMayRead, PassesGiver}
-use Rattle.pm_lives.specs.RelayWrites.{WritesRelay}
+use Rattle.pm_services.specs.RelayWrites.{WritesRelay}
 use Rattle.pm_lives.specs.RootLife.{RootMayRead}
-use Rattle.pm_lives.specs.RootWrites.{WritesRoot}
-use Rattle.pm_lives.specs.DeviceWrites.{device_outs, agent_after}
+use Rattle.pm_services.specs.RootWrites.{WritesRoot}
+use Rattle.pm_services.specs.DeviceWrites.{device_outs, agent_after}
 use Rattle.pm_lives.specs.Lives.{World, LifeStep, RelayUp, Relay, RootUp, Root, DeviceUp, Device, RelayBegins, RootBegins, DeviceBegins}
 use Rattle.pm_lives.specs.Lives.{HandledSome, setup_of, handed_out, stored_last, let_go_at_relay, let_go_at_root, Live}
 
@@ -75,7 +77,9 @@ pub record RelayReadsFree (lists : Lists) (p : Pricing) (numbering : Numbering) 
   pub passes : PassesGiver (world.terms c).giver frame
   pub after : WaitingRelay
   pub outs : List (Output StoredRelay)
-  pub writes : WritesRelay (setup_of numbering world c) (record { relay = world.seen.relays c; waiting = world.waiting c }) frame after outs
+  -- the bounds of its children
+  pub bounds : List Limits
+  pub writes : WritesRelay (setup_of numbering world c) bounds (record { relay = world.seen.relays c; waiting = world.waiting c }) frame after outs
   pub handled : HandledSome n outs
   pub new_is : new ≡ record world {
     seen = handed_out lists numbering (with_relay world.seen c after.relay) c (take n outs);
@@ -89,7 +93,9 @@ pub record RootReadsFree (lists : Lists) (p : Pricing) (numbering : Numbering) (
   pub may : RootIsFree lists p numbering world.seen frame
   pub after : RootValue
   pub outs : List (Output StoredRoot)
-  pub writes : WritesRoot world.basis world.seen.root frame after outs
+  -- the bounds of its children
+  pub bounds : List Limits
+  pub writes : WritesRoot world.basis bounds world.seen.root frame after outs
   pub handled : HandledSome n outs
   pub new_is : new ≡ record world {
     seen = handed_out lists numbering (with_root world.seen after) 0 (take n outs);
@@ -102,11 +108,11 @@ pub record DeviceReadsFree (lists : Lists) (p : Pricing) (numbering : Numbering)
   pub leaf : IsLeaf lists d
   pub runs : world.up d ≡ true
   pub may : DeviceIsFree p world.basis world.seen d frame
-  pub handled : HandledSome n (device_outs p world.basis (world.seen.agents d) frame)
+  pub handled : HandledSome n (device_outs p.steps world.basis (world.seen.agents d) frame)
   pub new_is : new ≡ record world {
     seen = handed_out lists numbering (with_agent world.seen d (agent_after (world.seen.agents d) frame)) d
-        (take n (device_outs p world.basis (world.seen.agents d) frame));
-    agent_kept = update world.agent_kept d (stored_last (world.agent_kept d) (take n (device_outs p world.basis (world.seen.agents d) frame)));
+        (take n (device_outs p.steps world.basis (world.seen.agents d) frame));
+    agent_kept = update world.agent_kept d (stored_last (world.agent_kept d) (take n (device_outs p.steps world.basis (world.seen.agents d) frame)));
   }
 
 abbrev pub LivesFree1 : Lists → Pricing → Numbering → World → LifeStep → World → Type 0

@@ -1,11 +1,8 @@
 pub mod Outputs
 pub mod Moves
 pub mod RelayLife
-pub mod RelayWrites
 pub mod RootLife
-pub mod RootWrites
 pub mod DeviceLife
-pub mod DeviceWrites
 pub mod Lives
 pub mod Answering
 pub mod Carrying

@@ -24,7 +24,7 @@ use Rattle.pm_frames.specs.declared.relay.RelayFrame.TheVariants as relay_frame
 use Rattle.pm_frames.specs.declared.root.RootFrame.{RootFrame}
 use Rattle.pm_frames.specs.declared.root.RootFrame.TheVariants as root_frame
 use Rattle.pm_frames.specs.declared.device.DeviceFrame.{DeviceFrame}
-use Rattle.pm_services.specs.RelayAnswers.{WaitingRelay}
+use Rattle.pm_services.specs.RelayWrites.{WaitingRelay}
 use Rattle.pm_basis.specs.Prices.{BasisValue}
 use Rattle.pm_frames.specs.declared.terms.RelayTerms.{RelayTerms}
 use Rattle.pm_relay.specs.Numbers.{child_number}
@@ -32,13 +32,14 @@ use Rattle.pm_services.specs.Receipts.{sender_place}
 use Rattle.pm_services.specs.RelaySetups.{RelaySetup}
 use Rattle.pm_system.specs.System.{System, bid_in_channel, price_in_channel, with_root, with_relay, with_agent, with_setpoints, with_bid_sent, with_prices_sent}
 use Rattle.pm_system.specs.Calls.{NodeCall, SystemRuns, StaysUp, bid_kept}
-use Rattle.pm_lives.specs.Outputs.{Output, Up, Down, Keeps, Tells, Says, BidWasSent, PriceWasSent}
+use Rattle.pm_lives.specs.Outputs.{BidWasSent, PriceWasSent}
+use Rattle.pm_services.specs.Outputs.{Output, Up, Down, Keeps, Tells, Says}
 use Rattle.pm_lives.specs.RelayLife.{CarriesLimits, RelayMayRead, PassesGiver, relay_number, no_relay_stored}
-use Rattle.pm_lives.specs.RelayWrites.{WritesRelay, WritesKept}
+use Rattle.pm_services.specs.RelayWrites.{WritesRelay, WritesKept}
 use Rattle.pm_lives.specs.RootLife.{RootMayRead, root_number}
-use Rattle.pm_lives.specs.RootWrites.{WritesRoot}
+use Rattle.pm_services.specs.RootWrites.{WritesRoot}
 use Rattle.pm_lives.specs.DeviceLife.{DeviceMayRead}
-use Rattle.pm_lives.specs.DeviceWrites.{device_outs, agent_after}
+use Rattle.pm_services.specs.DeviceWrites.{device_outs, agent_after}
 
 -- ---- the world
 
@@ -136,7 +137,9 @@ pub record RelayReads (lists : Lists) (p : Pricing) (numbering : Numbering) (wor
   pub passes : PassesGiver (world.terms c).giver frame
   pub after : WaitingRelay
   pub outs : List (Output StoredRelay)
-  pub writes : WritesRelay (setup_of numbering world c) (record { relay = world.seen.relays c; waiting = world.waiting c }) frame after outs
+  -- the bounds of its children
+  pub bounds : List Limits
+  pub writes : WritesRelay (setup_of numbering world c) bounds (record { relay = world.seen.relays c; waiting = world.waiting c }) frame after outs
   pub handled : HandledSome n outs
   pub new_is : new ≡ record world {
     seen = handed_out lists numbering (with_relay world.seen c after.relay) c (take n outs);
@@ -155,7 +158,9 @@ pub record RootReads (lists : Lists) (p : Pricing) (numbering : Numbering) (worl
   pub may : RootMayRead lists p numbering world.seen frame
   pub after : RootValue
   pub outs : List (Output StoredRoot)
-  pub writes : WritesRoot world.basis world.seen.root frame after outs
+  -- the bounds of its children
+  pub bounds : List Limits
+  pub writes : WritesRoot world.basis bounds world.seen.root frame after outs
   pub handled : HandledSome n outs
   pub new_is : new ≡ record world {
     seen = handed_out lists numbering (with_root world.seen after) 0 (take n outs);
@@ -180,11 +185,11 @@ pub record DeviceReads (lists : Lists) (p : Pricing) (numbering : Numbering) (wo
   pub leaf : IsLeaf lists d
   pub runs : world.up d ≡ true
   pub may : DeviceMayRead lists p world.basis world.seen d frame
-  pub handled : HandledSome n (device_outs p world.basis (world.seen.agents d) frame)
+  pub handled : HandledSome n (device_outs p.steps world.basis (world.seen.agents d) frame)
   pub new_is : new ≡ record world {
     seen = handed_out lists numbering (with_agent world.seen d (agent_after (world.seen.agents d) frame)) d
-        (take n (device_outs p world.basis (world.seen.agents d) frame));
-    agent_kept = update world.agent_kept d (stored_last (world.agent_kept d) (take n (device_outs p world.basis (world.seen.agents d) frame)));
+        (take n (device_outs p.steps world.basis (world.seen.agents d) frame));
+    agent_kept = update world.agent_kept d (stored_last (world.agent_kept d) (take n (device_outs p.steps world.basis (world.seen.agents d) frame)));
   }
 
 -- ---- lives

@@ -7,7 +7,8 @@ use Rattle.pm_net.specs.Agents.{Setpoint}
 use Rattle.pm_net_plan.specs.Places.{Numbering}
 use Rattle.pm_system.specs.System.{System}
 use Rattle.pm_system.specs.Calls.{NodeCall, Restarts, Expires, SystemRuns}
-use Rattle.pm_lives.specs.Outputs.{Output, WereSent, EachKept, BeginsWithResume}
+use Rattle.pm_lives.specs.Outputs.{WereSent, EachKept, BeginsWithResume}
+use Rattle.pm_services.specs.Outputs.{Output}
 
 -- ---- which calls these are
 

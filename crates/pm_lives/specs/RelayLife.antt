@@ -20,11 +20,12 @@ use Rattle.pm_frames.specs.declared.relay.RelayFrame.TheVariants.{Child, Parent,
 use Rattle.pm_frames.specs.declared.relay.RelayFrame.TheVariants as given
 use Rattle.pm_frames.specs.Terms.{giver_number}
 use Rattle.pm_services.specs.Receipts.{sender_place}
-use Rattle.pm_services.specs.RelayAnswers.{WaitingRelay}
+use Rattle.pm_services.specs.RelayWrites.{WaitingRelay}
 use Rattle.pm_services.specs.RelaySetups.{RelaySetup}
 use Rattle.pm_system.specs.System.{System, bid_in_channel, price_in_channel}
 use Rattle.pm_system.specs.Expiry.{MayExpire}
-use Rattle.pm_lives.specs.Outputs.{Output, PriceWasSent}
+use Rattle.pm_lives.specs.Outputs.{PriceWasSent}
+use Rattle.pm_services.specs.Outputs.{Output}
 use Rattle.pm_lives.specs.Moves.{FollowsByCalls}
 
 -- ---- what a relay's value is of

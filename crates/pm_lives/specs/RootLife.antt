@@ -10,7 +10,7 @@ use Rattle.pm_frames.specs.Stored.{StoredRoot}
 use Rattle.pm_frames.specs.declared.root.RootFrame.{RootFrame}
 use Rattle.pm_frames.specs.declared.root.RootFrame.TheVariants.{Market, Expire, Bound, Resume}
 use Rattle.pm_system.specs.System.{System}
-use Rattle.pm_lives.specs.Outputs.{Output}
+use Rattle.pm_services.specs.Outputs.{Output}
 use Rattle.pm_lives.specs.Moves.{FollowsByCalls}
 use Rattle.pm_lives.specs.RelayLife.{CarriesBid, CarriesExpire, LetsGo}
 

@@ -11,9 +11,10 @@ ghost use Rattle.pm_frames.specs.declared.relay.RelayFrame.{RelayFrame};
 ghost use Rattle.pm_frames.specs.declared.root.RootFrame.{RootFrame};
 ghost use Rattle.pm_frames.specs.declared.device.DeviceFrame.{DeviceFrame};
 ghost use Rattle.pm_relay.specs.Roots.{RootValue};
-ghost use Rattle.pm_services.specs.RelayAnswers.{WaitingRelay, OpenRelay, AnswersRelayFrame};
+ghost use Rattle.pm_services.specs.RelayAnswers.{OpenRelay};
+ghost use Rattle.pm_services.specs.RelayWrites.{WaitingRelay};
 ghost use Rattle.pm_services.specs.RelaySetups.{RelaySetup};
-ghost use Rattle.pm_services.specs.RootAnswers.{OpenRoot, AnswersRootFrame};
+ghost use Rattle.pm_services.specs.RootAnswers.{OpenRoot};
 ghost use Rattle.pm_basis.specs.Prices.{BasisValue};
 ghost use Rattle.pm_frames.specs.declared.terms.RelayTerms.{RelayTerms};
 ghost use Rattle.pm_frames.specs.declared.place.RelayPlace.{RelayPlace};
@@ -21,13 +22,13 @@ ghost use Rattle.pm_system.specs.System.{System};
 ghost use Rattle.pm_system.specs.Calls.{NodeCall};
 ghost use Rattle.pm_system.specs.Given.{IsTreeMarket};
 ghost use Rattle.pm_system.specs.Market.{RunsTheMarket};
-ghost use Rattle.pm_lives.specs.Outputs.{Output};
+ghost use Rattle.pm_services.specs.Outputs.{Output};
 ghost use Rattle.pm_lives.specs.RelayLife.{RelayStands, RelayMayRead, RelayLets, RelayFollows};
-ghost use Rattle.pm_lives.specs.RelayWrites.{WritesRelay};
+ghost use Rattle.pm_services.specs.RelayWrites.{WritesRelay};
 ghost use Rattle.pm_lives.specs.RootLife.{RootMayRead, RootLets, RootFollows};
-ghost use Rattle.pm_lives.specs.RootWrites.{WritesRoot};
+ghost use Rattle.pm_services.specs.RootWrites.{WritesRoot};
 ghost use Rattle.pm_lives.specs.DeviceLife.{AgentStands, DeviceMayRead, told_of, DeviceFollows};
-ghost use Rattle.pm_lives.specs.DeviceWrites.{device_outs, agent_after};
+ghost use Rattle.pm_services.specs.DeviceWrites.{device_outs, agent_after};
 ghost use Rattle.pm_system.specs.Given.{IsStarted};
 ghost use Rattle.pm_lives.specs.Lives.{World, LifeStep, Live, IsNewWorld, LivesAreCalls, LivesKeepTheLaw, KeptMayBeLearnt, LetNone};
 ghost use Rattle.std.specs.Prelude.{◌≤◌, Option, true};
@@ -38,8 +39,7 @@ ghost use Rattle.pm_base.specs.Cuts.{Cut};
 ghost use Rattle.pm_base.specs.declared.limits.Limits.{Limits};
 ghost use Rattle.pm_net.specs.Agents.{Offer};
 ghost use Rattle.pm_frames.specs.Stored.{relay_resume_bytes, root_resume_bytes, agent_resume_bytes};
-ghost use Rattle.pm_services.specs.DeviceAnswers.{OpenDevice, open_device_after, device_reply};
-ghost use Rattle.pm_lives.specs.Outputs.{outputs_bytes};
+ghost use Rattle.pm_services.specs.Outputs.{outputs_bytes};
 ghost use Rattle.std.specs.Prelude.{◌+◌, ◌++◌, None};
 ghost use Rattle.pm_market.specs.Lists.{parent, IsNode};
 ghost use Rattle.pm_net.specs.Messages.{BidMessage, PriceMessage};
@@ -53,13 +53,12 @@ ghost use Rattle.pm_wire.specs.declared.answer.Reply.{Reply};
 ghost use Rattle.pm_wire.specs.Answers.{answer_bytes};
 ghost use Rattle.pm_frames.specs.declared.place.Stage.{Stage};
 ghost use Rattle.pm_services.specs.RelayAnswers.{RelayServiceValue};
-ghost use Rattle.pm_lives.specs.Outputs.{PriceWasSent, BidWasSent, up_bytes, down_frame_bytes};
+ghost use Rattle.pm_lives.specs.Outputs.{PriceWasSent, BidWasSent};
+ghost use Rattle.pm_services.specs.Outputs.{up_bytes, down_frame_bytes};
 ghost use Rattle.pm_lives.specs.Carrying.{bid_frame, limits_frame, price_frame, RelayIsGiven, RelayIsBack, RootIsGiven, RootIsBack, DeviceIsBack};
 ghost use Rattle.pm_frames.specs.Stored.{IsNewestAccepted};
 ghost use Rattle.pm_frames.specs.declared.stored.StoredAgent.{StoredAgent};
 ghost use Rattle.pm_services.specs.DeviceAnswers.{DeviceServiceValue, AnswersDevice};
-ghost use Rattle.pm_lives.specs.Answering.{IsOfBasis, IsOfOtherBasis, SaysOtherBasis};
-ghost use Rattle.pm_lives.specs.Answering.{IsNoRelayResume, IsNoRootResume, IsNoDeviceResume, AnswersInFrames, RootAnswersInFrames};
 ghost use Rattle.std.specs.Prelude.{ℤ};
 ghost use Rattle.pm_relay.specs.Relays.{RelayValue};
 ghost use Rattle.pm_lives.specs.DeviceLife.{IsGivenOffer};
@@ -87,9 +86,10 @@ pub fn relay_frames_are_calls()
     ensures { (lists : Lists) (p : Pricing) (numbering : Numbering) (before : List NodeCall)
         (sys : System) (c : ℕ) → IsTreeMarket lists p numbering →
         RunsTheMarket lists p numbering before sys → IsConcentrator lists c → (own : RelaySetup)
-        (old after : WaitingRelay) (frame : RelayFrame) (outs : List (Output StoredRelay)) →
+        (bounds : List Limits) (old after : WaitingRelay) (frame : RelayFrame)
+        (outs : List (Output StoredRelay)) →
         RelayStands sys c old → RelayMayRead lists p numbering own sys c frame →
-        WritesRelay own old frame after outs →
+        WritesRelay own bounds old frame after outs →
         RelayFollows lists p numbering (RelayLets lists numbering sys c frame) sys c after outs }
 {
     // The calls tell facts: what runs the market goes on to, and to let a child go is two calls of the system.
@@ -102,9 +102,9 @@ pub fn auctioneer_frames_are_calls()
     ensures { (lists : Lists) (p : Pricing) (numbering : Numbering) (before : List NodeCall)
         (sys : System) → IsTreeMarket lists p numbering →
         RunsTheMarket lists p numbering before sys → (basis : BasisValue)
-        (old after : RootValue) (frame : RootFrame)
+        (bounds : List Limits) (old after : RootValue) (frame : RootFrame)
         (outs : List (Output StoredRoot)) → sys.root ≡ old →
-        RootMayRead lists p numbering sys frame → WritesRoot basis old frame after outs →
+        RootMayRead lists p numbering sys frame → WritesRoot basis bounds old frame after outs →
         RootFollows lists p numbering (RootLets lists numbering sys frame) sys after outs }
 {
     // The call tells a fact: to let a child go is two calls of the system.
@@ -117,7 +117,7 @@ pub fn device_frames_are_calls()
         IsLeaf lists d → (basis : BasisValue) (old : DeviceAgent) (frame : DeviceFrame) →
         AgentStands sys d old → DeviceMayRead lists p basis sys d frame →
         DeviceFollows lists p numbering sys d (agent_after old frame) (told_of old frame)
-        (device_outs p basis old frame) }
+        (device_outs p.steps basis old frame) }
 {}
 
 /// A law: the lives of the nodes of a market keep its law. Each node has any number of lives, one after the other. A life is a
@@ -202,27 +202,6 @@ pub fn lists_are_there()
         ((x : ℕ) (cut : Cut) (l : Limits) → p.limits x cut ≡ Some l → AreLimits l) →
         (world new : World) (steps : List LifeStep) → IsNewWorld p numbering world →
         LiveFree tree p numbering world steps new → HasLists tree p numbering world steps new }
-{}
-
-/// A law: the bytes with which the services answer are the frames of which the laws over lives speak.
-pub fn answers_are_frames()
-    ensures relay { (old : OpenRelay) (frame : RelayFrame) (new : OpenRelay) (reply : List ℕ) →
-        IsNoRelayResume frame → AnswersRelayFrame old frame new reply →
-        AnswersInFrames old frame new reply }
-    ensures root { (old : OpenRoot) (frame : RootFrame) (new : OpenRoot) (reply : List ℕ) →
-        IsNoRootResume frame → AnswersRootFrame old frame new reply →
-        RootAnswersInFrames old frame new reply }
-    ensures device { (p : Pricing) (child : ℕ) (basis : BasisValue) (agent : DeviceAgent)
-        (frame : DeviceFrame) →
-        AllByRecursion (λ (offer : Offer). offer.number ≤ agent.number) agent.offers →
-        IsNoDeviceResume frame → IsOfBasis basis frame →
-        (device_reply child (record { agent = agent; basis = basis }) frame
-        ≡ outputs_bytes agent_resume_bytes basis child (device_outs p basis agent frame))
-        × (open_device_after (record { agent = agent; basis = basis }) frame
-        ≡ record { agent = agent_after agent frame; basis = basis }) }
-    ensures device_other { (child : ℕ) (device : OpenDevice) (frame : DeviceFrame) →
-        IsOfOtherBasis device.basis frame → (open_device_after device frame ≡ device)
-        × SaysOtherBasis (device_reply child device frame) frame }
 {}
 
 /// A law: a frame that is carried unchanged is the message that was sent. If the bytes of a bid or a price that was sent come to

@@ -31,16 +31,16 @@ use Rattle.pm_frames.specs.declared.parent.ParentFrame.TheVariants.{Price, Old}
 use Rattle.pm_frames.specs.declared.device.DeviceFrame.{DeviceFrame}
 use Rattle.pm_frames.specs.declared.device.DeviceFrame.TheVariants.{Hello, Offer, Leave, Parent, Resume}
 use Rattle.pm_frames.specs.declared.device.DeviceFrame.TheVariants as device_frame
-use Rattle.pm_services.specs.DeviceAnswers.{OpenDevice, DeviceServiceValue, AnswersDevice, device_after, reply_to, same_basis, device_reply}
+use Rattle.pm_services.specs.DeviceAnswers.{OpenDevice, DeviceServiceValue, AnswersDevice, device_after, reply_to, device_reply}
+use Rattle.pm_services.specs.DeviceWrites.{same_basis}
 use Rattle.pm_system.specs.Given.{IsDemand}
-use Rattle.pm_lives.specs.Outputs.{Output, Says, outputs_bytes}
-use Rattle.pm_lives.specs.DeviceWrites.{device_outs, agent_after}
+use Rattle.pm_services.specs.Outputs.{Output, Says, outputs_bytes}
+use Rattle.pm_services.specs.DeviceWrites.{device_outs, agent_after}
 use Rattle.pm_lives.specs.Lives.{restart_outs}
 use Rattle.pm_lives.specs.Answering.{IsNoDeviceResume, IsOfBasis, IsOfOtherBasis}
-use Rattle.pm_lives.proofs.AgentFacts.{AreWithin, within_more, within_push, price_leaves}
 use Rattle.pm_lives.proofs.Answering.{device_answers_frames, device_says_other}
 use Rattle.pm_lives.proofs.Carrying.{device_is_back}
-use Rattle.pm_lives.proofs.Downs.{written_then}
+use Rattle.pm_services.proofs.Written.{written_then}
 use Rattle.pm_processes.specs.Processes.{IsDeviceProcess, HasNoFrame, stream_start, new_device_service}
 use Rattle.pm_processes.specs.DeviceProcess.{IsAsked, DeviceExchange, AnswersAgent, DeviceExchanges, DeviceProcess, device_frames, exchanged_outs}
 use Rattle.pm_processes.specs.DeviceProcess.{device_start_frames, agent_resumed}
@@ -97,10 +97,6 @@ module _ (child' : ℕ) (basis : BasisValue) where
   first_running kind (Resume stored) stands other = absurd other
   first_running kind frame stands other = record { asked = tt; named = kind; place_is = refl }
 
-no_resume_of : (steps : ℕ) (frame : DeviceFrame) → IsAsked steps frame → IsNoDeviceResume frame
-no_resume_of steps (Resume stored) asked = absurd asked
-no_resume_of steps frame asked = tt
-
 -- a price is of a basis, or of another one
 of_basis : (own : BasisValue) (frame : DeviceFrame) → IsOfBasis own frame ⊎ IsOfOtherBasis own frame
 of_basis own (Parent (Price child number index step basis)) = cases_Bool (same_basis basis own)
@@ -108,41 +104,6 @@ of_basis own (Parent (Old child kept)) = inl tt
 of_basis own frame = inl tt
 
 -- ---- offers
-
-abbrev Within : DeviceAgent → Type 0
-Within agent = AreWithin agent.number agent.offers
-
-stored_within : (number : ℕ) (newest : Option (List ℤ)) (index : ℕ) → Within (agent_stored number newest index)
-stored_within number None index = tt
-stored_within number (Some demand) index = (omega arith, tt)
-
-offer_within : (agent : DeviceAgent) (demand : List ℤ) → Within agent → Within (after_offer agent demand)
-offer_within agent demand within =
-    within_push (agent.number + 2) agent.offers (record { number = agent.number + 2; demand = demand })
-    (within_more agent.number (agent.number + 2) (omega arith) agent.offers within) (omega arith)
-
-anew_within : (agent : DeviceAgent) (newest : Option (List ℤ)) → Within agent → Within (offered_anew agent newest)
-anew_within agent None within = within
-anew_within agent (Some demand) within = offer_within (after_leaving agent) demand tt
-
--- the offers of an agent have numbers up to its own
-after_within : (agent : DeviceAgent) (frame : DeviceFrame) → IsNoDeviceResume frame → Within agent → Within (agent_after agent frame)
-after_within agent (Hello basis) other within = within
-after_within agent (Offer form demand) other within =
-    either Within (may_offer agent) (cond (ltb (agent.number + 5) (2 ^ 32)) (after_offer agent demand) agent) agent
-    (λ e. either Within (ltb (agent.number + 5) (2 ^ 32)) (after_offer agent demand) agent (λ e. offer_within agent demand within) (λ e. within))
-    (λ e. within)
-after_within agent (device_frame.Kind named) other within = within
-after_within agent Leave other within =
-    either Within (ltb (agent.number + 3) (2 ^ 32)) (after_leaving agent) agent (λ e. tt) (λ e. within)
-after_within agent (Parent (Price child number index step basis)) other within =
-    (price_leaves agent (price_message number index step) within).within
-after_within agent (Parent (Old child kept)) other within =
-    either Within (ltb agent.number kept) (cond (ltb (agent.number + 7) (2 ^ 32)) (offered_anew agent (newest_demand agent)) agent) agent
-    (λ e. either Within (ltb (agent.number + 7) (2 ^ 32)) (offered_anew agent (newest_demand agent)) agent
-    (λ e. anew_within agent (newest_demand agent) within) (λ e. within))
-    (λ e. within)
-after_within agent (Resume stored) other within = absurd other
 
 -- ---- frames one after the other
 
@@ -161,22 +122,20 @@ module _ (p : Pricing) (child' : ℕ) (basis' : BasisValue) where
     new : DeviceAgent
     outs : List (Output StoredAgent)
     answers : AnswersAgent p basis' agent (record { frame = frame; after = new; outs = outs })
-    within : Within new
     device_is : after ≡ Some (device_with new)
     written : reply ≡ outputs_bytes agent_resume_bytes basis' child' outs
 
-  exchanged : (agent : DeviceAgent) (frame : DeviceFrame) → Within agent → IsAsked basis'.steps frame → (after : Option OpenDevice) (reply : List ℕ) →
+  exchanged : (agent : DeviceAgent) (frame : DeviceFrame) → IsAsked basis'.steps frame → (after : Option OpenDevice) (reply : List ℕ) →
       after ≡ device_after (Some (device_with agent)) frame → reply ≡ reply_to child' (Some (device_with agent)) frame →
       Exchanged agent frame after reply
-  exchanged agent frame within asked after reply after_is reply_is =
-      let other = no_resume_of basis'.steps frame asked in elim (of_basis basis' frame) [
+  exchanged agent frame asked after reply after_is reply_is =
+      elim (of_basis basis' frame) [
         | inl same ↦
-            let f = device_answers_frames p child' basis' agent frame within other same in
+            let f = device_answers_frames p.steps child' basis' agent frame same in
             record {
               new = agent_after agent frame;
-              outs = device_outs p basis' agent frame;
+              outs = device_outs p.steps basis' agent frame;
               answers = inl (asked, same, refl, refl);
-              within = after_within agent frame other within;
               device_is = after_is ∙ ap (λ (d : OpenDevice). Some d) f.1;
               written = reply_is ∙ f.0;
             }
@@ -187,22 +146,21 @@ module _ (p : Pricing) (child' : ℕ) (basis' : BasisValue) where
               new = agent;
               outs = Says said ∷ [];
               answers = inr (differs, refl, said, f.1, refl);
-              within = within;
               device_is = after_is ∙ ap (λ (d : OpenDevice). Some d) f.0;
               written = reply_is ∙ sym (append-nil said);
             }
       ]
 
   one_more : (agent : DeviceAgent) (frame : DeviceFrame) (frames : List DeviceFrame) (service mid : DeviceServiceValue) (first rest : List ℕ) →
-      Within agent → IsAsked basis'.steps frame → service.child ≡ child' → service.device ≡ Some (device_with agent) →
+      IsAsked basis'.steps frame → service.child ≡ child' → service.device ≡ Some (device_with agent) →
       AnswersDevice service frame mid first →
-      ((new : DeviceAgent) → Within new → mid.child ≡ child' → mid.device ≡ Some (device_with new) → Answered new frames rest) →
+      ((new : DeviceAgent) → mid.child ≡ child' → mid.device ≡ Some (device_with new) → Answered new frames rest) →
       Answered agent (frame ∷ frames) (first ++ rest)
-  one_more agent frame frames service mid first rest within asked child_is is did then =
-      let e = exchanged agent frame within asked mid.device first (did.device ∙ ap (λ (o : Option OpenDevice). device_after o frame) is)
+  one_more agent frame frames service mid first rest asked child_is is did then =
+      let e = exchanged agent frame asked mid.device first (did.device ∙ ap (λ (o : Option OpenDevice). device_after o frame) is)
       (did.replied ∙ ap (λ (o : Option OpenDevice). reply_to service.child o frame) is
       ∙ ap (λ (n : ℕ). reply_to n (Some (device_with agent)) frame) child_is) in
-      let others = then e.new e.within (did.child ∙ child_is) e.device_is in
+      let others = then e.new (did.child ∙ child_is) e.device_is in
       record {
         exchanges = record { frame = frame; after = e.new; outs = e.outs } ∷ others.exchanges;
         frames_are = ap (λ (l : List DeviceFrame). frame ∷ l) others.frames_are;
@@ -211,33 +169,33 @@ module _ (p : Pricing) (child' : ℕ) (basis' : BasisValue) where
       }
 
   answered : (frames : List DeviceFrame) (kind : Option Kind) → AllStand device_framing (place_at child' basis' (Running basis') kind) frames →
-      (service after : DeviceServiceValue) (agent : DeviceAgent) → Within agent → service.child ≡ child' →
+      (service after : DeviceServiceValue) (agent : DeviceAgent) → service.child ≡ child' →
       service.device ≡ Some (device_with agent) →
       (reply : List ℕ) → Runs AnswersDevice service frames after reply → Answered agent frames reply
-  answered [] kind stand service after agent within child_is is reply runs =
+  answered [] kind stand service after agent child_is is reply runs =
       record { exchanges = []; frames_are = refl; answers = tt; written = runs.1 }
-  answered (frame ∷ frames) kind stand service after agent within child_is is reply runs =
+  answered (frame ∷ frames) kind stand service after agent child_is is reply runs =
       let later = later_running child' basis' kind frame stand.0 in
       subst (Answered agent (frame ∷ frames)) (sym runs.5)
-      (one_more agent frame frames service runs.0 runs.1 runs.2 within later.asked child_is is runs.3
-      (λ new kept same at. answered frames later.named (subst (λ (q : NodePlace). AllStand device_framing q frames) later.place_is stand.1) runs.0 after
-      new kept same at runs.2 runs.4))
+      (one_more agent frame frames service runs.0 runs.1 runs.2 later.asked child_is is runs.3
+      (λ new same at. answered frames later.named (subst (λ (q : NodePlace). AllStand device_framing q frames) later.place_is stand.1) runs.0 after
+      new same at runs.2 runs.4))
 
   -- the first frame may stand directly behind Hello
   answered_first : (frames : List DeviceFrame) (kind : Option Kind) → AllStand device_framing (place_at child' basis' (Opened basis') kind) frames →
       ((frame : DeviceFrame) (more : List DeviceFrame) → frames ≡ frame ∷ more → IsNoDeviceResume frame) →
-      (service after : DeviceServiceValue) (agent : DeviceAgent) → Within agent → service.child ≡ child' →
+      (service after : DeviceServiceValue) (agent : DeviceAgent) → service.child ≡ child' →
       service.device ≡ Some (device_with agent) →
       (reply : List ℕ) → Runs AnswersDevice service frames after reply → Answered agent frames reply
-  answered_first [] kind stand other service after agent within child_is is reply runs =
+  answered_first [] kind stand other service after agent child_is is reply runs =
       record { exchanges = []; frames_are = refl; answers = tt; written = runs.1 }
-  answered_first (frame ∷ frames) kind stand other service after agent within child_is is reply runs =
+  answered_first (frame ∷ frames) kind stand other service after agent child_is is reply runs =
       let no_resume = other frame frames refl in
       let later = first_running child' basis' kind frame stand.0 no_resume in
       subst (Answered agent (frame ∷ frames)) (sym runs.5)
-      (one_more agent frame frames service runs.0 runs.1 runs.2 within later.asked child_is is runs.3
-      (λ new kept same at. answered frames later.named (subst (λ (q : NodePlace). AllStand device_framing q frames) later.place_is stand.1) runs.0 after
-      new kept same at runs.2 runs.4))
+      (one_more agent frame frames service runs.0 runs.1 runs.2 later.asked child_is is runs.3
+      (λ new same at. answered frames later.named (subst (λ (q : NodePlace). AllStand device_framing q frames) later.place_is stand.1) runs.0 after
+      new same at runs.2 runs.4))
 
 -- ---- a process that is back with what it was given, and answered frames
 
@@ -284,7 +242,7 @@ module _ (p : Pricing) (child : ℕ) (took wrote : List ℕ) where
       Runs AnswersDevice service (Hello basis ∷ frames) after reply → reply ++ beyond ≡ wrote ++ more → DeviceProcess p child took wrote
   alone basis frames rest beyond more reply after begins other runs spelled =
       built basis None frames rest runs.1 runs.2 beyond more tt begins runs.3.replied
-      (answered_first p child basis frames None begins.stand.1 other runs.0 after new_agent tt runs.3.child runs.3.device runs.2 runs.4)
+      (answered_first p child basis frames None begins.stand.1 other runs.0 after new_agent runs.3.child runs.3.device runs.2 runs.4)
       (ap (λ (l : List ℕ). l ++ beyond) (sym runs.5) ∙ spelled)
 
   -- Hello and a Resume
@@ -297,7 +255,7 @@ module _ (p : Pricing) (child : ℕ) (took wrote : List ℕ) where
       let back = device_is_back p service runs.0 then.0 basis stored runs.1 then.1 refl begins.stand.1.0.accepted.2 runs.3 then.3 in
       built basis (Some stored) frames rest then.1 then.2 beyond more
       (newest_stored basis.steps stored.number stored.newest begins.stand.1.0.formed.1.3 begins.stand.1.0.accepted.2) begins back.written
-      (answered p child basis frames None begins.stand.1.1 then.0 after (agent_of stored) (stored_within stored.number stored.newest stored.index)
+      (answered p child basis frames None begins.stand.1.1 then.0 after (agent_of stored)
       (then.3.child ∙ runs.3.child) back.device_is then.2 then.4)
       (ap (λ (l : List ℕ). l ++ beyond) (sym then.5) ∙ ap (λ (l : List ℕ). (l ++ runs.2) ++ beyond) (sym back.silent)
       ∙ ap (λ (l : List ℕ). l ++ beyond) (sym runs.5) ∙ spelled)

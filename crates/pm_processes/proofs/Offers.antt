@@ -18,7 +18,7 @@ use Rattle.pm_frames.specs.declared.parent.ParentFrame.TheVariants.{Price, Old}
 use Rattle.pm_frames.specs.declared.device.DeviceFrame.{DeviceFrame}
 use Rattle.pm_frames.specs.declared.device.DeviceFrame.TheVariants.{Hello, Offer, Kind, Leave, Parent, Resume}
 use Rattle.pm_system.specs.Given.{IsDemand}
-use Rattle.pm_lives.specs.DeviceWrites.{agent_after}
+use Rattle.pm_services.specs.DeviceWrites.{agent_after}
 use Rattle.pm_processes.specs.DeviceProcess.{IsAsked}
 
 -- ---- an offer that is accepted

@@ -13,18 +13,19 @@ use Rattle.pm_frames.specs.declared.place.Stage.TheVariants.{Opened, Running}
 use Rattle.pm_frames.specs.declared.relay.RelayFrame.{RelayFrame}
 use Rattle.pm_frames.specs.declared.relay.RelayFrame.TheVariants.{Child, Parent, Send, Expire, Bound, Resume}
 use Rattle.pm_frames.specs.declared.relay.RelayFrame.TheVariants as given
-use Rattle.pm_services.specs.RelayAnswers.{OpenRelay, WaitingRelay, RelayServiceValue, AnswersRelay, AnswersNow}
+use Rattle.pm_services.specs.RelayAnswers.{OpenRelay, RelayServiceValue, AnswersRelay, WritesOpenRelay, WritesNow, written_by}
+use Rattle.pm_services.specs.RelayWrites.{WaitingRelay, WritesRelay, relay_bytes}
 use Rattle.pm_services.specs.RelaySetups.{RelaySetup}
-use Rattle.pm_lives.specs.Outputs.{outputs_bytes}
-use Rattle.pm_lives.specs.RelayWrites.{WritesRelay}
+use Rattle.pm_base.specs.declared.limits.Limits.{Limits}
+use Rattle.pm_services.specs.Bounds.{no_bounds}
+use Rattle.pm_services.specs.Outputs.{Output, outputs_bytes}
 use Rattle.pm_lives.specs.Answering.{IsNoRelayResume}
 use Rattle.pm_lives.specs.Carrying.{RelayIsBack, hello, resumed}
-use Rattle.pm_lives.proofs.Answering.{relay_answers_frames}
 use Rattle.pm_lives.proofs.Carrying.{relay_is_back}
 use Rattle.pm_processes.specs.Processes.{IsRelayProcess, HasNoFrame, relay_start, new_relay_service}
-use Rattle.pm_processes.specs.RelayProcess.{RelayExchange, RelayExchanges, RelayProcess, relay_frames}
+use Rattle.pm_processes.specs.RelayProcess.{RelayExchange, RelayExchanges, AreRelayBounds, RelayProcess, relay_frames}
 use Rattle.pm_processes.specs.RelayProcess.{relay_outs, setup_with, relay_start_frames, relay_resumed}
-use Rattle.pm_lives.proofs.Downs.{written_then}
+use Rattle.pm_services.proofs.Written.{written_then}
 use Rattle.pm_processes.proofs.Runs.{ran, wrote_of}
 
 -- behind the start of a stream there is no Hello and no Resume
@@ -33,16 +34,16 @@ module _ (child' : ℕ) (terms' : RelayTerms) (basis : BasisValue) where
   place_at stage' = record { child = child'; terms = terms'; stage = stage' }
 
   later_running : (frame : RelayFrame) → IsRelayFormed (place_at (Running basis)) frame →
-      IsNoRelayResume frame × (relay_place_after (place_at (Running basis)) frame ≡ place_at (Running basis))
+      relay_place_after (place_at (Running basis)) frame ≡ place_at (Running basis)
   later_running (Child (Hello b)) formed = absurd formed.0
-  later_running (Child (Bid sender number demand)) formed = (tt, refl)
-  later_running (Child (Gone sender number)) formed = (tt, refl)
+  later_running (Child (Bid sender number demand)) formed = refl
+  later_running (Child (Gone sender number)) formed = refl
   later_running (Child Clear) formed = absurd formed.1
-  later_running (Parent frame) formed = (tt, refl)
-  later_running Send formed = (tt, refl)
-  later_running (Expire sender) formed = (tt, refl)
-  later_running (given.Limits number limits) formed = (tt, refl)
-  later_running (Bound sender bound) formed = (tt, refl)
+  later_running (Parent frame) formed = refl
+  later_running Send formed = refl
+  later_running (Expire sender) formed = refl
+  later_running (given.Limits number limits) formed = refl
+  later_running (Bound sender bound) formed = refl
   later_running (Resume stored) formed = absurd formed.0
 
   first_running : (frame : RelayFrame) → IsRelayFormed (place_at (Opened basis)) frame → IsNoRelayResume frame →
@@ -60,29 +61,25 @@ module _ (child' : ℕ) (terms' : RelayTerms) (basis : BasisValue) where
 
 module _ (own : RelaySetup) where
   -- the frames are answered one after the other
-  record Answered (held : WaitingRelay) (frames : List RelayFrame) (reply : List ℕ) : Type 0 where
+  record Answered (held : WaitingRelay) (bounds : List Limits) (frames : List RelayFrame) (reply : List ℕ) : Type 0 where
     exchanges : List RelayExchange
     frames_are : relay_frames exchanges ≡ frames
     answers : RelayExchanges own held exchanges
+    bounded : AreRelayBounds bounds exchanges
     written : reply ≡ outputs_bytes relay_resume_bytes own.basis own.child (relay_outs exchanges)
 
-  one_more : (held : WaitingRelay) (frame : RelayFrame) (frames : List RelayFrame) (old new : OpenRelay) (first rest : List ℕ) →
-      old.setup ≡ own → old.held ≡ held → IsNoRelayResume frame →
-      Rattle.pm_services.specs.RelayAnswers.AnswersRelayFrame old frame new first →
-      (new.setup ≡ own → Answered new.held frames rest) → Answered held (frame ∷ frames) (first ++ rest)
-  one_more held frame frames old new first rest setup is no_resume did then =
-      let f = relay_answers_frames old frame new first no_resume did in
-      let others = then (f.setup ∙ setup) in
+  one_more : (frame : RelayFrame) (frames : List RelayFrame) (old new : OpenRelay) (outs' : List (Output StoredRelay)) (first rest : List ℕ) →
+      old.setup ≡ own → WritesOpenRelay old frame new outs' → first ≡ relay_bytes old.setup outs' →
+      (new.setup ≡ own → Answered new.held new.bounds frames rest) → Answered old.held old.bounds (frame ∷ frames) (first ++ rest)
+  one_more frame' frames old new outs' first rest setup did spelled then =
+      let others = then (did.setup ∙ setup) in
       record {
-        exchanges = record { frame = frame; after = new.held; outs = f.outs } ∷ others.exchanges;
-        frames_are = ap (λ (l : List RelayFrame). frame ∷ l) others.frames_are;
-        answers = (
-          subst (λ (s : RelaySetup). WritesRelay s held frame new.held f.outs) setup
-              (subst (λ (h : WaitingRelay). WritesRelay old.setup h frame new.held f.outs) is f.writes),
-          others.answers,
-        );
-        written = written_then relay_resume_bytes own.basis own.child f.outs (relay_outs others.exchanges) first rest
-            (subst (λ (s : RelaySetup). first ≡ outputs_bytes relay_resume_bytes s.basis s.child f.outs) setup f.written) others.written;
+        exchanges = record { frame = frame'; bounds = old.bounds; after = new.held; outs = outs' } ∷ others.exchanges;
+        frames_are = ap (λ (l : List RelayFrame). frame' ∷ l) others.frames_are;
+        answers = (subst (λ (s : RelaySetup). WritesRelay s old.bounds old.held frame' new.held outs') setup did.held, others.answers);
+        bounded = (refl, subst (λ (b : List Limits). AreRelayBounds b others.exchanges) did.bounds others.bounded);
+        written = written_then relay_resume_bytes own.basis own.child outs' (relay_outs others.exchanges) first rest
+            (subst (λ (s : RelaySetup). first ≡ relay_bytes s outs') setup spelled) others.written;
       }
 
   abbrev behind : Stage → RelayPlace
@@ -90,27 +87,29 @@ module _ (own : RelaySetup) where
 
   answered : (frames : List RelayFrame) → AllStand relay_framing (behind (Running own.basis)) frames →
       (service after : RelayServiceValue) (old : OpenRelay) → service.relay ≡ Some old → old.setup ≡ own → (reply : List ℕ) →
-      Runs AnswersRelay service frames after reply → Answered old.held frames reply
-  answered [] stand service after old is setup reply runs = record { exchanges = []; frames_are = refl; answers = tt; written = runs.1 }
+      Runs AnswersRelay service frames after reply → Answered old.held old.bounds frames reply
+  answered [] stand service after old is setup reply runs = record { exchanges = []; frames_are = refl; answers = tt; bounded = tt; written = runs.1 }
   answered (frame ∷ frames) stand service after old is setup reply runs =
       let later = later_running own.child own.terms own.basis frame stand.0.formed in
-      let now = subst (λ (o : Option OpenRelay). AnswersNow service.child service.terms o frame runs.0.relay runs.1) is runs.3.answers in
-      subst (Answered old.held (frame ∷ frames)) (sym runs.5)
-      (one_more old.held frame frames old now.0 runs.1 runs.2 setup refl later.0 now.2
-      (λ same. answered frames (subst (λ (q : RelayPlace). AllStand relay_framing q frames) later.1 stand.1) runs.0 after now.0 now.1 same runs.2 runs.4))
+      let now = subst (λ (o : Option OpenRelay). WritesNow service.child service.terms o frame runs.0.relay runs.3.outs) is runs.3.writes in
+      subst (Answered old.held old.bounds (frame ∷ frames)) (sym runs.5)
+      (one_more frame frames old now.0 runs.3.outs runs.1 runs.2 setup now.2
+      (runs.3.written ∙ ap (λ (o : Option OpenRelay). written_by o runs.3.outs) is)
+      (λ same. answered frames (subst (λ (q : RelayPlace). AllStand relay_framing q frames) later stand.1) runs.0 after now.0 now.1 same runs.2 runs.4))
 
   -- the first frame may stand directly behind Hello
   answered_first : (frames : List RelayFrame) → AllStand relay_framing (behind (Opened own.basis)) frames →
       ((frame : RelayFrame) (more : List RelayFrame) → frames ≡ frame ∷ more → IsNoRelayResume frame) →
       (service after : RelayServiceValue) (old : OpenRelay) → service.relay ≡ Some old → old.setup ≡ own → (reply : List ℕ) →
-      Runs AnswersRelay service frames after reply → Answered old.held frames reply
-  answered_first [] stand other service after old is setup reply runs = record { exchanges = []; frames_are = refl; answers = tt; written = runs.1 }
+      Runs AnswersRelay service frames after reply → Answered old.held old.bounds frames reply
+  answered_first [] stand other service after old is setup reply runs = record { exchanges = []; frames_are = refl; answers = tt; bounded = tt; written = runs.1 }
   answered_first (frame ∷ frames) stand other service after old is setup reply runs =
       let no_resume = other frame frames refl in
       let later = first_running own.child own.terms own.basis frame stand.0.formed no_resume in
-      let now = subst (λ (o : Option OpenRelay). AnswersNow service.child service.terms o frame runs.0.relay runs.1) is runs.3.answers in
-      subst (Answered old.held (frame ∷ frames)) (sym runs.5)
-      (one_more old.held frame frames old now.0 runs.1 runs.2 setup refl no_resume now.2
+      let now = subst (λ (o : Option OpenRelay). WritesNow service.child service.terms o frame runs.0.relay runs.3.outs) is runs.3.writes in
+      subst (Answered old.held old.bounds (frame ∷ frames)) (sym runs.5)
+      (one_more frame frames old now.0 runs.3.outs runs.1 runs.2 setup now.2
+      (runs.3.written ∙ ap (λ (o : Option OpenRelay). written_by o runs.3.outs) is)
       (λ same. answered frames (subst (λ (q : RelayPlace). AllStand relay_framing q frames) later stand.1) runs.0 after now.0 now.1 same runs.2 runs.4))
 
 -- a process that is back with what it was given, and answered frames
@@ -122,7 +121,7 @@ module _ (child : ℕ) (terms : RelayTerms) (took wrote : List ℕ) where
       (after : RelayServiceValue) →
       BeginsWith relay_framing (relay_start child terms) took (relay_start_frames basis resume ++ frames) rest →
       (back : RelayIsBack (new_relay_service child terms) basis after (relay_resumed (setup_with child terms basis) resume) first) →
-      Answered (setup_with child terms basis) back.held frames others → (first ++ others) ++ beyond ≡ wrote ++ more →
+      Answered (setup_with child terms basis) back.held no_bounds frames others → (first ++ others) ++ beyond ≡ wrote ++ more →
       RelayProcess child terms took wrote
   built basis resume frames rest first others beyond more after begins back then spelled = record {
     basis = basis;
@@ -137,6 +136,7 @@ module _ (child : ℕ) (terms : RelayTerms) (took wrote : List ℕ) where
     outs = back.outs;
     learns = back.learns;
     answers = then.answers;
+    bounded = then.bounded;
     written = wrote_of relay_resume_bytes basis child (back.outs ++ relay_outs then.exchanges) (first ++ others) beyond wrote more
         (written_then relay_resume_bytes basis child back.outs (relay_outs then.exchanges) first others back.written then.written) spelled;
   }
@@ -153,7 +153,7 @@ module _ (child : ℕ) (terms : RelayTerms) (took wrote : List ℕ) where
       let back = relay_is_back service basis runs.0 (relay_resumed (setup_with child terms basis) None) runs.1 refl (hello runs.1 runs.3) in
       built basis None frames rest runs.1 runs.2 beyond more runs.0 begins back
       (answered_first (setup_with child terms basis) frames begins.stand.1 other runs.0 after
-      (record { setup = setup_with child terms basis; bounds = back.bounds; held = back.held }) back.relay_is refl runs.2 runs.4)
+      (record { setup = setup_with child terms basis; bounds = no_bounds; held = back.held }) back.relay_is refl runs.2 runs.4)
       (ap (λ (l : List ℕ). l ++ beyond) (sym runs.5) ∙ spelled)
 
   -- Hello and a Resume
@@ -164,10 +164,10 @@ module _ (child : ℕ) (terms : RelayTerms) (took wrote : List ℕ) where
   again basis stored frames rest beyond more reply after begins runs spelled =
       let then = runs.4 in
       let back = relay_is_back service basis then.0 stored then.1 refl (resumed runs.0 runs.1 then.1 stored runs.3 then.3) in
-      let silent : runs.1 ≡ [] = runs.3.answers.1 in
+      let silent : runs.1 ≡ [] = runs.3.written in
       built basis (Some stored) frames rest then.1 then.2 beyond more then.0 begins back
       (answered (setup_with child terms basis) frames begins.stand.1.1 then.0 after
-      (record { setup = setup_with child terms basis; bounds = back.bounds; held = back.held }) back.relay_is refl then.2 then.4)
+      (record { setup = setup_with child terms basis; bounds = no_bounds; held = back.held }) back.relay_is refl then.2 then.4)
       (ap (λ (l : List ℕ). l ++ beyond) (sym then.5) ∙ ap (λ (l : List ℕ). (l ++ runs.2) ++ beyond) (sym silent)
       ∙ ap (λ (l : List ℕ). l ++ beyond) (sym runs.5) ∙ spelled)
 

@@ -9,7 +9,7 @@ use Rattle.pm_wire.specs.Framing.{Framing, Stops, BeginsBadly, BeginsWith, place
 use Rattle.pm_wire.specs.Taking.{Runs, AnswersFrom}
 use Rattle.pm_wire.specs.Services.{IsReplyDue, answered, refused, fault_bytes}
 use Rattle.pm_wire.specs.Services as services
-use Rattle.pm_lives.specs.Outputs.{Output, outputs_bytes}
+use Rattle.pm_services.specs.Outputs.{Output, outputs_bytes}
 use Rattle.pm_lives.proofs.Cutting.{cut_anywhere}
 use Rattle.pm_processes.specs.Processes.{IsProcess, Wrote}
 

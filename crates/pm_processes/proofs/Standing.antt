@@ -18,13 +18,13 @@ use Rattle.pm_frames.specs.declared.stored.StoredAgent.{StoredAgent}
 use Rattle.pm_frames.specs.declared.parent.ParentFrame.TheVariants.{Price, Old}
 use Rattle.pm_frames.specs.declared.device.DeviceFrame.{DeviceFrame}
 use Rattle.pm_frames.specs.declared.device.DeviceFrame.TheVariants as device_frame
-use Rattle.pm_services.specs.DeviceAnswers.{same_basis}
+use Rattle.pm_services.specs.DeviceWrites.{same_basis}
 use Rattle.pm_system.specs.System.{System, with_relay, with_root, with_agent}
 use Rattle.pm_system.specs.Given.{IsTreeMarket, IsDemand}
 use Rattle.pm_system.proofs.Moving.{relay_no_leaf, relay_no_root}
-use Rattle.pm_lives.specs.Outputs.{Output}
-use Rattle.pm_lives.specs.RelayWrites.{WritesKept}
-use Rattle.pm_lives.specs.DeviceWrites.{device_outs, agent_after}
+use Rattle.pm_services.specs.Outputs.{Output}
+use Rattle.pm_services.specs.RelayWrites.{WritesKept}
+use Rattle.pm_services.specs.DeviceWrites.{device_outs, agent_after}
 use Rattle.pm_lives.specs.Answering.{IsOfOtherBasis}
 use Rattle.pm_lives.specs.Lives as lives
 use Rattle.pm_lives.specs.Lives.{World, LifeStep, setup_of, handed_out, stored_last, let_go_at_relay, let_go_at_root, HandledSome, restart_outs}
@@ -179,6 +179,7 @@ module _ (lists : Lists) (p : Pricing) (numbering : Numbering) (market : IsTreeM
             passes = relay_passes (world.terms c) world.basis e did.exchanges stream;
             after = e.after;
             outs = e.outs;
+            bounds = e.bounds;
             writes = now.0;
             handled = did.promised.in_order;
             new_is = ap (λ (s : Scene). s.world) did.new_is;
@@ -269,6 +270,7 @@ module _ (lists : Lists) (p : Pricing) (numbering : Numbering) (market : IsTreeM
             may = root_free lists p numbering world.seen world.basis e did.exchanges stream did.promised.handed_on;
             after = e.after;
             outs = e.outs;
+            bounds = e.bounds;
             writes = now.0;
             handled = did.promised.in_order;
             new_is = ap (λ (s : Scene). s.world) did.new_is;
@@ -341,7 +343,7 @@ module _ (lists : Lists) (p : Pricing) (numbering : Numbering) (market : IsTreeM
     record IsOwn (d : ℕ) (e : DeviceExchange) : Type 0 where
       asked : IsAsked world.basis.steps e.frame
       after : e.after ≡ agent_after (world.seen.agents d) e.frame
-      outs : e.outs ≡ device_outs p world.basis (world.seen.agents d) e.frame
+      outs : e.outs ≡ device_outs p.steps world.basis (world.seen.agents d) e.frame
 
     of_own_basis : (d : ℕ) (e : DeviceExchange) → DeviceIsGiven world.basis world.seen d e.frame →
         AnswersAgent p world.basis (world.seen.agents d) e → IsOwn d e

@@ -31,7 +31,7 @@ use Rattle.pm_frames.specs.declared.root.RootFrame.TheVariants as root_frame
 use Rattle.pm_frames.specs.declared.device.DeviceFrame.{DeviceFrame}
 use Rattle.pm_frames.specs.declared.device.DeviceFrame.TheVariants as device_frame
 use Rattle.pm_services.specs.RelaySetups.{RelaySetup}
-use Rattle.pm_services.specs.DeviceAnswers.{same_basis}
+use Rattle.pm_services.specs.DeviceWrites.{same_basis}
 use Rattle.pm_system.specs.System.{System, bid_in_channel, price_in_channel}
 use Rattle.pm_system.proofs.Moving.{relay_no_root}
 use Rattle.pm_lives.specs.Outputs.{PriceWasSent}

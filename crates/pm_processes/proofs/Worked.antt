@@ -19,7 +19,7 @@ use Rattle.pm_frames.specs.declared.form.OfferForm.TheVariants.{Array}
 use Rattle.pm_system.specs.System.{with_agent}
 use Rattle.pm_system.specs.Given.{IsDemand}
 use Rattle.pm_system.specs.Worked.{small_tree, small_places, small_pricing}
-use Rattle.pm_lives.specs.DeviceWrites.{device_outs, agent_after, stored_agent}
+use Rattle.pm_services.specs.DeviceWrites.{device_outs, agent_after, stored_agent}
 use Rattle.pm_lives.specs.Lives.{handed_out, stored_last, restart_outs, no_agent_stored}
 use Rattle.pm_lives.specs.WorkedLives.{small_basis}
 use Rattle.pm_processes.specs.DeviceProcess.{DeviceProcess, DeviceExchange}
@@ -46,7 +46,7 @@ abbrev stored : StoredAgent
 stored = stored_agent small_basis agent_then
 
 abbrev answer : DeviceExchange
-answer = record { frame = Offer Array demand; after = agent_then; outs = device_outs small_pricing small_basis agent_first (Offer Array demand) }
+answer = record { frame = Offer Array demand; after = agent_then; outs = device_outs small_pricing.steps small_basis agent_first (Offer Array demand) }
 
 process_first : DeviceProcess small_pricing 1 took_first wrote_first
 process_first = record {

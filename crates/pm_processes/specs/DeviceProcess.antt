@@ -11,10 +11,10 @@ use Rattle.pm_frames.specs.declared.device.DeviceFrame.{DeviceFrame}
 use Rattle.pm_frames.specs.declared.device.DeviceFrame.TheVariants.{Hello, Offer, Resume}
 use Rattle.pm_frames.specs.DeviceFrames.{device_framing}
 use Rattle.pm_system.specs.Given.{IsDemand}
-use Rattle.pm_lives.specs.Outputs.{Output, Says}
+use Rattle.pm_services.specs.Outputs.{Output, Says}
 use Rattle.pm_lives.specs.Answering.{IsOfBasis, IsOfOtherBasis, SaysOtherBasis}
 use Rattle.pm_lives.specs.Lives.{no_agent_stored, restart_outs}
-use Rattle.pm_lives.specs.DeviceWrites.{device_outs, agent_after}
+use Rattle.pm_services.specs.DeviceWrites.{device_outs, agent_after}
 use Rattle.pm_processes.specs.Processes.{stream_start, Wrote}
 
 -- a frame that an agent read behind its start, the agent after it, and the frames that answer it
@@ -32,7 +32,7 @@ IsAsked steps frame = ⊤
 -- what an agent makes of a frame; a price of another basis changes nothing
 abbrev pub AnswersAgent : Pricing → BasisValue → DeviceAgent → DeviceExchange → Type 0
 AnswersAgent p basis old e =
-    (IsAsked basis.steps e.frame × IsOfBasis basis e.frame × (e.after ≡ agent_after old e.frame) × (e.outs ≡ device_outs p basis old e.frame))
+    (IsAsked basis.steps e.frame × IsOfBasis basis e.frame × (e.after ≡ agent_after old e.frame) × (e.outs ≡ device_outs p.steps basis old e.frame))
     ⊎ (IsOfOtherBasis basis e.frame × (e.after ≡ old) × (said : List ℕ) × SaysOtherBasis said e.frame × (e.outs ≡ Says said ∷ []))
 
 abbrev pub DeviceExchanges : Pricing → BasisValue → DeviceAgent → List DeviceExchange → Type 0

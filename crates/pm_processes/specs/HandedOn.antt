@@ -20,7 +20,7 @@ use Rattle.pm_frames.specs.declared.device.DeviceFrame.{DeviceFrame}
 use Rattle.pm_frames.specs.declared.device.DeviceFrame.TheVariants as device_frame
 use Rattle.pm_services.specs.RelaySetups.{RelaySetup}
 use Rattle.pm_system.specs.System.{System, bid_in_channel, price_in_channel}
-use Rattle.pm_lives.specs.Outputs.{up_bytes, down_frame_bytes}
+use Rattle.pm_services.specs.Outputs.{up_bytes, down_frame_bytes}
 use Rattle.pm_lives.specs.Carrying.{bid_frame, price_frame}
 use Rattle.pm_lives.specs.RelayLife.{RelayMayRead}
 use Rattle.pm_lives.specs.Free.{CarriesLetGo}

@@ -14,7 +14,7 @@ use Rattle.pm_frames.specs.DeviceFrames.{device_framing}
 use Rattle.pm_services.specs.RelayAnswers.{RelayServiceValue, AnswersRelay}
 use Rattle.pm_services.specs.RootAnswers.{AnswersRoot}
 use Rattle.pm_services.specs.DeviceAnswers.{DeviceServiceValue, AnswersDevice}
-use Rattle.pm_lives.specs.Outputs.{Output, outputs_bytes}
+use Rattle.pm_services.specs.Outputs.{Output, outputs_bytes}
 use Rattle.pm_lives.specs.Cutting.{IsCutStream}
 
 -- What was written is a beginning of what is due for the bytes that were taken. `left` is what was left to be taken.

@@ -1,5 +1,6 @@
 -- A process of a relay, frame by frame.
 use Rattle.std.specs.Prelude.{ℕ, List, [], ◌∷◌, ◌++◌, Option, Some, None, ⊤}
+use Rattle.pm_base.specs.declared.limits.Limits.{Limits}
 use Rattle.pm_basis.specs.Prices.{BasisValue}
 use Rattle.pm_relay.specs.Relays.{RelayValue, RelayComesBack}
 use Rattle.pm_wire.specs.declared.frame.Frame.TheVariants.{Hello}
@@ -9,22 +10,30 @@ use Rattle.pm_frames.specs.declared.terms.RelayTerms.{RelayTerms}
 use Rattle.pm_frames.specs.declared.relay.RelayFrame.{RelayFrame}
 use Rattle.pm_frames.specs.declared.relay.RelayFrame.TheVariants.{Child, Resume}
 use Rattle.pm_frames.specs.RelayFrames.{relay_framing}
-use Rattle.pm_services.specs.RelayAnswers.{WaitingRelay}
+use Rattle.pm_services.specs.RelayWrites.{WaitingRelay}
 use Rattle.pm_services.specs.RelaySetups.{RelaySetup}
-use Rattle.pm_lives.specs.Outputs.{Output}
+use Rattle.pm_services.specs.Outputs.{Output}
 use Rattle.pm_lives.specs.RelayLife.{no_relay_stored}
-use Rattle.pm_lives.specs.RelayWrites.{WritesRelay, WritesKept}
+use Rattle.pm_services.specs.RelayWrites.{WritesRelay, WritesKept, bounds_after}
+use Rattle.pm_services.specs.Bounds.{no_bounds}
 use Rattle.pm_processes.specs.Processes.{relay_start, Wrote}
 
 -- a frame that a relay read behind its start, the relay after it, and the frames that answer it
 pub record RelayExchange : Type 0 where
   pub frame : RelayFrame
+  -- the bounds of its children before it
+  pub bounds : List Limits
   pub after : WaitingRelay
   pub outs : List (Output StoredRelay)
 
 abbrev pub RelayExchanges : RelaySetup → WaitingRelay → List RelayExchange → Type 0
 RelayExchanges own old [] = ⊤
-RelayExchanges own old (e ∷ es) = WritesRelay own old e.frame e.after e.outs × RelayExchanges own e.after es
+RelayExchanges own old (e ∷ es) = WritesRelay own e.bounds old e.frame e.after e.outs × RelayExchanges own e.after es
+
+-- the bounds are those that the frames gave
+abbrev pub AreRelayBounds : List Limits → List RelayExchange → Type 0
+AreRelayBounds bounds [] = ⊤
+AreRelayBounds bounds (e ∷ es) = (e.bounds ≡ bounds) × AreRelayBounds (bounds_after bounds e.frame) es
 
 abbrev pub relay_frames : List RelayExchange → List RelayFrame
 relay_frames [] = []
@@ -63,4 +72,5 @@ pub record RelayProcess (child : ℕ) (terms : RelayTerms) (took wrote : List �
   pub learns : WritesKept terms.giver (setup_with child terms basis) (record { relay = relay; waiting = None })
       (relay_resumed (setup_with child terms basis) resume) held outs
   pub answers : RelayExchanges (setup_with child terms basis) held exchanges
+  pub bounded : AreRelayBounds no_bounds exchanges
   pub written : Wrote relay_resume_bytes basis child (outs ++ relay_outs exchanges) wrote

@@ -1,5 +1,6 @@
 -- A process of an auctioneer, frame by frame.
 use Rattle.std.specs.Prelude.{ℕ, List, [], ◌∷◌, ◌++◌, Option, Some, None, ⊤}
+use Rattle.pm_base.specs.declared.limits.Limits.{Limits}
 use Rattle.pm_basis.specs.Prices.{BasisValue}
 use Rattle.pm_relay.specs.Roots.{RootValue, RootComesBack}
 use Rattle.pm_wire.specs.declared.frame.Frame.TheVariants.{Hello}
@@ -9,20 +10,28 @@ use Rattle.pm_frames.specs.declared.place.Stage.TheVariants.{Start}
 use Rattle.pm_frames.specs.declared.root.RootFrame.{RootFrame}
 use Rattle.pm_frames.specs.declared.root.RootFrame.TheVariants.{Market, Resume}
 use Rattle.pm_frames.specs.RootFrames.{root_framing}
-use Rattle.pm_lives.specs.Outputs.{Output}
+use Rattle.pm_services.specs.Outputs.{Output}
 use Rattle.pm_lives.specs.Lives.{no_root_stored}
-use Rattle.pm_lives.specs.RootWrites.{WritesRoot}
+use Rattle.pm_services.specs.RootWrites.{WritesRoot, root_bounds_after}
+use Rattle.pm_services.specs.Bounds.{no_bounds}
 use Rattle.pm_processes.specs.Processes.{Wrote}
 
 -- a frame that an auctioneer read behind its start, the auctioneer after it, and the frames that answer it
 pub record RootExchange : Type 0 where
   pub frame : RootFrame
+  -- the bounds of its children before it
+  pub bounds : List Limits
   pub after : RootValue
   pub outs : List (Output StoredRoot)
 
 abbrev pub RootExchanges : BasisValue → RootValue → List RootExchange → Type 0
 RootExchanges basis old [] = ⊤
-RootExchanges basis old (e ∷ es) = WritesRoot basis old e.frame e.after e.outs × RootExchanges basis e.after es
+RootExchanges basis old (e ∷ es) = WritesRoot basis e.bounds old e.frame e.after e.outs × RootExchanges basis e.after es
+
+-- the bounds are those that the frames gave
+abbrev pub AreRootBounds : List Limits → List RootExchange → Type 0
+AreRootBounds bounds [] = ⊤
+AreRootBounds bounds (e ∷ es) = (e.bounds ≡ bounds) × AreRootBounds (root_bounds_after bounds e.frame) es
 
 abbrev pub root_frames : List RootExchange → List RootFrame
 root_frames [] = []
@@ -52,4 +61,5 @@ pub record RootProcess (took wrote : List ℕ) : Type 0 where
   pub root : RootValue
   pub back : RootComesBack basis.steps (root_resumed basis resume).last (root_resumed basis resume).numbers root
   pub answers : RootExchanges basis root exchanges
+  pub bounded : AreRootBounds no_bounds exchanges
   pub written : Wrote root_resume_bytes basis 0 (root_outs exchanges) wrote

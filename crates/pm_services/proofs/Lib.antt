@@ -1,3 +1,5 @@
+pub mod Written
+pub mod Learning
 pub mod RelaySteps
 pub mod RelayPlaces
 pub mod RelayReplies

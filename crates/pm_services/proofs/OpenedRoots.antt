@@ -1,50 +1,50 @@
 -- What an auctioneer after Hello answers, by what the auctioneer that it holds answers.
-use Rattle.std.proofs.Common.{◌≡◌, sym, refl, ℕ, ◌+◌, ℤ, List, [], ◌++◌, None, Some, inl, inr, arith}
-use Rattle.std.proofs.lemmas.List.{append-nil}
+use Rattle.std.proofs.Common.{◌≡◌, sym, refl, ℕ, ◌+◌, ◌≤◌, ℤ, List, ◌++◌, Some, inl, inr, arith}
 use Rattle.pm_relay.specs.Roots.{RootValue, RootComesBack}
-use Rattle.pm_wire.specs.declared.frame.Frame.TheVariants.{Gone, Clear}
+use Rattle.pm_wire.specs.declared.frame.Frame.TheVariants.{Bid}
 use Rattle.pm_frames.specs.Answers.{too_much_bytes}
-use Rattle.pm_frames.specs.Stored.{StoredRoot}
+use Rattle.pm_frames.specs.Stored.{StoredRoot, root_resume_bytes}
+use Rattle.pm_frames.specs.declared.root.RootFrame.{RootFrame}
 use Rattle.pm_frames.specs.declared.root.RootFrame.TheVariants.{Market, Resume}
 use Rattle.pm_services.specs.Bounds.{KeepsBound}
 use Rattle.pm_services.specs.Limits.{root_reply_limit, prices_limit}
 use Rattle.pm_services.specs.Receipts.{Appended}
-use Rattle.pm_services.specs.RootAnswers.{OpenRoot, AnswersRootBid, AnswersClear, AnswersRootFrame, AnswersRootBounded}
+use Rattle.pm_services.specs.RootWrites.{WritesRoot, WritesRootBid, root_bytes, root_bounds_after}
+use Rattle.pm_services.specs.RootAnswers.{OpenRoot, WritesOpenRoot}
+use Rattle.pm_services.proofs.Written.{mapped, says, says_nothing}
+
+-- what the auctioneer that it holds answers to a frame that gives no bound is its own answer
+pub opened : (old : OpenRoot) (frame : RootFrame) (after : RootValue) (most : ℕ) (out longer : List ℕ) → most ≤ root_reply_limit →
+    root_bounds_after old.bounds frame ≡ old.bounds →
+    Appended (root_bytes old.basis) (WritesRoot old.basis old.bounds old.root frame after) most out longer →
+    Appended (root_bytes old.basis) (WritesOpenRoot old frame (record old { root = after })) root_reply_limit out longer
+opened old frame after most out longer within stays a =
+    mapped (root_bytes old.basis) (WritesRoot old.basis old.bounds old.root frame after) (WritesOpenRoot old frame (record old { root = after }))
+    most root_reply_limit out longer within (λ outs writes. record { basis = refl; bounds = sym stays; held = writes }) a
 
 -- a bid within the bound of its child is answered as the auctioneer answers it
 pub counts : (old : OpenRoot) (sender number : ℕ) (demand : List ℤ) (after : RootValue) (out longer : List ℕ) → KeepsBound old.bounds sender demand →
-    Appended (AnswersRootBid old.basis old.root sender number (Some demand) after) (7 + prices_limit) out longer →
-    Appended (AnswersRootBounded old sender number demand (record old { root = after })) root_reply_limit out longer
+    Appended (root_bytes old.basis) (WritesRootBid old.root sender number (Some demand) after) (7 + prices_limit) out longer →
+    Appended (root_bytes old.basis) (WritesOpenRoot old (Market (Bid sender number demand)) (record old { root = after })) root_reply_limit out longer
 counts old sender number demand after out longer keeps a =
-    record { reply = a.reply; answers = inl (keeps, (after, refl, a.answers)); appended = a.appended; few = omega (arith, a.few) }
+    opened old (Market (Bid sender number demand)) after (7 + prices_limit) out longer (omega arith) refl
+    (mapped (root_bytes old.basis) (WritesRootBid old.root sender number (Some demand) after)
+    (WritesRoot old.basis old.bounds old.root (Market (Bid sender number demand)) after) (7 + prices_limit) (7 + prices_limit) out longer (omega arith)
+    (λ outs writes. inl (keeps, writes)) a)
 
 -- a bid beyond the bound of its child is answered TooMuch, and changes nothing
 pub is_beyond : (old : OpenRoot) (sender number : ℕ) (demand : List ℤ) (out longer : List ℕ) → ¬ KeepsBound old.bounds sender demand →
     longer ≡ out ++ too_much_bytes sender number →
-    Appended (AnswersRootBounded old sender number demand old) root_reply_limit out longer
+    Appended (root_bytes old.basis) (WritesOpenRoot old (Market (Bid sender number demand)) old) root_reply_limit out longer
 is_beyond old sender number demand out longer beyond written =
-    record { reply = too_much_bytes sender number; answers = inr (beyond, (refl, refl)); appended = written; few = omega arith }
-
--- an open auctioneer answers Gone as the auctioneer that it holds does
-pub hands_gone : (old : OpenRoot) (sender number : ℕ) (after : RootValue) (out longer : List ℕ) →
-    Appended (AnswersRootBid old.basis old.root sender number None after) (7 + prices_limit) out longer →
-    Appended (AnswersRootFrame old (Market (Gone sender number)) (record old { root = after })) root_reply_limit out longer
-hands_gone old sender number after out longer a =
-    record { reply = a.reply; answers = (after, refl, a.answers); appended = a.appended; few = omega (arith, a.few) }
-
--- an open auctioneer answers Clear as the auctioneer that it holds does
-pub hands_clear : (old : OpenRoot) (after : RootValue) (out longer : List ℕ) →
-    Appended (AnswersClear old.basis old.root after) root_reply_limit out longer →
-    Appended (AnswersRootFrame old (Market Clear) (record old { root = after })) root_reply_limit out longer
-hands_clear old after out longer a = record { reply = a.reply; answers = (after, refl, a.answers); appended = a.appended; few = a.few }
+    opened old (Market (Bid sender number demand)) old.root root_reply_limit out longer (omega arith) refl
+    (says root_resume_bytes old.basis 0 (WritesRoot old.basis old.bounds old.root (Market (Bid sender number demand)) old.root)
+    root_reply_limit out longer (too_much_bytes sender number) written (omega arith) (inr (beyond, refl, refl)))
 
 -- an auctioneer that comes back with what it kept answers nothing
 pub comes_back : (old : OpenRoot) (stored : StoredRoot) (after : RootValue) (out : List ℕ) →
     RootComesBack old.basis.steps stored.last stored.numbers after →
-    Appended (AnswersRootFrame old (Resume stored) (record old { root = after })) root_reply_limit out out
-comes_back old stored after out back = record {
-  reply = [];
-  answers = (after, refl, (back, refl));
-  appended = sym (append-nil out);
-  few = omega arith;
-}
+    Appended (root_bytes old.basis) (WritesOpenRoot old (Resume stored) (record old { root = after })) root_reply_limit out out
+comes_back old stored after out back =
+    opened old (Resume stored) after root_reply_limit out out (omega arith) refl
+    (says_nothing root_resume_bytes old.basis 0 (WritesRoot old.basis old.bounds old.root (Resume stored) after) root_reply_limit out (back, refl))

@@ -1,8 +1,7 @@
 -- Where the frames to a relay's service stand, by what it knows: it knows the steps of the basis that Hello had.
 use Rattle.std.proofs.Common.{◌≡◌, ◌∙◌, sym, ap, refl, subst, ℕ, ◌≤◌, ℤ, List, [], ◌∷◌}
-use Rattle.std.proofs.Common.{length, Option, None, Some, inl, inr}
+use Rattle.std.proofs.Common.{length, Option, None, Some}
 use Rattle.pm_base.specs.Limits.{most_nodes, demand_limit}
-use Rattle.pm_base.specs.declared.limits.Limits.{Limits}
 use Rattle.pm_bid.specs.Bids.{AllWithinLimit}
 use Rattle.pm_wire.specs.Framing.{MayStand, AllStand, place_behind}
 use Rattle.pm_wire.specs.Taking.{Runs, CanTake}
@@ -12,7 +11,6 @@ use Rattle.pm_wire.proofs.Markets.{accepted_small}
 use Rattle.pm_frames.specs.Places.{bid_place, IsOpen, IsFresh, stage_behind}
 use Rattle.pm_frames.specs.RelayFrames.{relay_framing, relay_place_after}
 use Rattle.pm_frames.specs.Stored.{StoredRelay}
-use Rattle.pm_frames.specs.declared.parent.ParentFrame.TheVariants.{Price, Old}
 use Rattle.pm_frames.specs.declared.place.RelayPlace.{RelayPlace}
 use Rattle.pm_frames.specs.declared.place.Stage.{Stage}
 use Rattle.pm_frames.specs.declared.place.Stage.TheVariants.{Start, Opened, Running}
@@ -22,44 +20,9 @@ use Rattle.pm_frames.specs.declared.relay.RelayFrame.TheVariants.{Child, Parent,
 use Rattle.pm_frames.specs.declared.relay.RelayFrame.TheVariants as given
 use Rattle.pm_frames.proofs.NodePlaces.{same_bid_place}
 use Rattle.pm_services.specs.RelaySetups.{RelaySetup}
-use Rattle.pm_services.specs.RelayAnswers.{OpenRelay, RelayServiceValue, AnswersRelayFrame, AnswersGivenIn, AnswersKeptIn}
-use Rattle.pm_services.specs.RelayAnswers.{AnswersNow, AnswersRelay, IsRelayStart}
+use Rattle.pm_services.specs.Outputs.{Output}
+use Rattle.pm_services.specs.RelayAnswers.{OpenRelay, RelayServiceValue, WritesNow, AnswersRelay, IsRelayStart}
 use Rattle.pm_services.specs.RelayStands.{steps_known, MayStandWithSteps}
-
--- ---- what a relay knows of itself stays
-
-abbrev SameSetup : OpenRelay → OpenRelay → Type 0
-SameSetup old new = new.setup ≡ old.setup
-
-same_of : (old new other : OpenRelay) → new ≡ other → other.setup ≡ old.setup → SameSetup old new
-same_of old new other is same = ap (λ (r : OpenRelay). r.setup) is ∙ same
-
-given_same : (giver : Option ℕ) (old : OpenRelay) (number : ℕ) (limits : Limits) (new : OpenRelay) (reply : List ℕ) →
-    AnswersGivenIn giver old number limits new reply → SameSetup old new
-given_same None old number limits new reply answers = same_of old new old answers.0 refl
-given_same (Some giver) old number limits new reply answers = same_of old new _ answers.1 refl
-
-kept_same : (giver : Option ℕ) (old : OpenRelay) (stored : StoredRelay) (new : OpenRelay) (reply : List ℕ) →
-    AnswersKeptIn giver old stored new reply → SameSetup old new
-kept_same None old stored new reply answers = same_of old new old answers.0 refl
-kept_same (Some giver) old stored new reply (inl none) = same_of old new old none.1.0 refl
-kept_same (Some giver) old stored new reply (inr some) = given_same old.setup.terms.giver old _ stored.limits new reply some.1
-
-setup_same : (old : OpenRelay) (frame : RelayFrame) (new : OpenRelay) (reply : List ℕ) → AnswersRelayFrame old frame new reply → SameSetup old new
-setup_same old (Child (Hello basis)) new reply answers = same_of old new old answers.0 refl
-setup_same old (Child (Bid sender number demand)) new reply (inl counts) = same_of old new _ counts.1.1 refl
-setup_same old (Child (Bid sender number demand)) new reply (inr beyond) = same_of old new old beyond.1.0 refl
-setup_same old (Child (Gone sender number)) new reply answers = same_of old new _ answers.1 refl
-setup_same old (Child Clear) new reply answers = same_of old new old answers.0 refl
-setup_same old (Parent (Price own number index step basis)) new reply (inl taken) = same_of old new _ taken.1.1 refl
-setup_same old (Parent (Price own number index step basis)) new reply (inr other) = same_of old new old other.1.0 refl
-setup_same old (Parent (Old own kept)) new reply answers = same_of old new old answers.0 refl
-setup_same old Send new reply answers = same_of old new _ answers.1 refl
-setup_same old (Expire sender) new reply answers = same_of old new _ answers.1 refl
-setup_same old (given.Limits number limits) new reply answers = given_same old.setup.terms.giver old number limits new reply answers
-setup_same old (Bound sender bound) new reply answers = same_of old new _ answers.0 refl
-setup_same old (Resume stored) new reply answers =
-    kept_same old.setup.terms.giver (record old { held = answers.back }) stored new reply answers.learns
 
 -- ---- the place
 
@@ -89,25 +52,25 @@ no_hello place old (Resume stored) is stands = refl
 
 -- a frame that may stand leads to the place that the service knows then
 steps_after : (place : RelayPlace) (child : ℕ) (terms : RelayTerms) (old : Option OpenRelay) (frame : RelayFrame) (new : Option OpenRelay)
-    (reply : List ℕ) →
-    bid_place place.stage ≡ steps_known old → MayStand relay_framing place frame → AnswersNow child terms old frame new reply →
+    (outs : List (Output StoredRelay)) →
+    bid_place place.stage ≡ steps_known old → MayStand relay_framing place frame → WritesNow child terms old frame new outs →
     bid_place (relay_place_after place frame).stage ≡ steps_known new
-steps_after place child terms None (Child (Hello basis)) new reply is stands answers = sym (ap steps_known answers.0.opened)
-steps_after place child terms None (Child (Bid sender number demand)) new reply is stands answers =
+steps_after place child terms None (Child (Hello basis)) new outs is stands writes = sym (ap steps_known writes.0.opened)
+steps_after place child terms None (Child (Bid sender number demand)) new outs is stands writes =
     absurd (subst (λ p. IsFormed p (Bid sender number demand)) is stands.formed.0)
-steps_after place child terms None (Child (Gone sender number)) new reply is stands answers =
+steps_after place child terms None (Child (Gone sender number)) new outs is stands writes =
     absurd (subst (λ p. IsFormed p (Gone sender number)) is stands.formed.0)
-steps_after place child terms None (Child Clear) new reply is stands answers = absurd stands.formed.1
-steps_after place child terms None (Parent frame) new reply is stands answers = absurd (open_known place.stage stands.formed.0 is)
-steps_after place child terms None Send new reply is stands answers = absurd (open_known place.stage stands.formed is)
-steps_after place child terms None (Expire sender) new reply is stands answers = absurd (open_known place.stage stands.formed.0 is)
-steps_after place child terms None (given.Limits number limits) new reply is stands answers = absurd (open_known place.stage stands.formed.0 is)
-steps_after place child terms None (Bound sender bound) new reply is stands answers = absurd (open_known place.stage stands.formed.0 is)
-steps_after place child terms None (Resume stored) new reply is stands answers =
+steps_after place child terms None (Child Clear) new outs is stands writes = absurd stands.formed.1
+steps_after place child terms None (Parent frame) new outs is stands writes = absurd (open_known place.stage stands.formed.0 is)
+steps_after place child terms None Send new outs is stands writes = absurd (open_known place.stage stands.formed is)
+steps_after place child terms None (Expire sender) new outs is stands writes = absurd (open_known place.stage stands.formed.0 is)
+steps_after place child terms None (given.Limits number limits) new outs is stands writes = absurd (open_known place.stage stands.formed.0 is)
+steps_after place child terms None (Bound sender bound) new outs is stands writes = absurd (open_known place.stage stands.formed.0 is)
+steps_after place child terms None (Resume stored) new outs is stands writes =
     absurd (open_known place.stage (fresh_open place.stage stands.formed.0) is)
-steps_after place child terms (Some old) frame new reply is stands answers =
+steps_after place child terms (Some old) frame new outs is stands writes =
     no_hello place old frame is stands ∙ same_bid_place place.stage ∙ is
-    ∙ ap (λ (own : RelaySetup). Some own.basis.steps) (sym (setup_same old frame answers.0 reply answers.2)) ∙ ap steps_known (sym answers.1)
+    ∙ ap (λ (own : RelaySetup). Some own.basis.steps) (sym writes.2.setup) ∙ ap steps_known (sym writes.1)
 
 -- so do frames
 steps_after_frames : (frames : List RelayFrame) (place : RelayPlace) (service after : RelayServiceValue) (reply : List ℕ) →
@@ -116,7 +79,7 @@ steps_after_frames : (frames : List RelayFrame) (place : RelayPlace) (service af
 steps_after_frames [] place service after reply is stand runs = is ∙ ap (λ (s : RelayServiceValue). steps_known s.relay) (sym runs.0)
 steps_after_frames (frame ∷ frames) place service after reply is stand runs =
     steps_after_frames frames (relay_place_after place frame) runs.0 after runs.2
-    (steps_after place service.child service.terms service.relay frame runs.0.relay runs.1 is stand.0 runs.3.answers) stand.1 runs.4
+    (steps_after place service.child service.terms service.relay frame runs.0.relay runs.3.outs is stand.0 runs.3.writes) stand.1 runs.4
 
 -- a frame that may be taken may stand at a place with the steps that the service knows
 pub relay_stands : (service : RelayServiceValue) (frame : RelayFrame) → CanTake relay_framing IsRelayStart AnswersRelay service frame →

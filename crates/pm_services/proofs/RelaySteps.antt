@@ -9,7 +9,9 @@ use Rattle.pm_relay.specs.declared.outcome.PriceOutcome.{PriceOutcome}
 use Rattle.pm_relay.specs.declared.outcome.PriceOutcome.TheVariants.{PassedOn, Alone, Waits, Dropped}
 use Rattle.pm_frames.proofs.Sizes.{either}
 use Rattle.pm_services.specs.RelaySetups.{RelaySetup}
-use Rattle.pm_services.specs.RelayAnswers.{WaitingRelay, TriesWaiting, AnswersAsked, AnswersBid, AnswersPrice, AnswersLimits, AnswersExpire, AnswersSend}
+use Rattle.pm_frames.specs.Stored.{StoredRelay}
+use Rattle.pm_services.specs.Outputs.{Output}
+use Rattle.pm_services.specs.RelayWrites.{WaitingRelay, WritesWaiting, WritesAsked, WritesBid, WritesPrice, WritesLimits, WritesExpire, WritesSend}
 
 -- ---- the steps of a relay stay
 
@@ -42,17 +44,17 @@ price_steps old new price Waits takes = ap (λ (r : RelayValue). r.gathered.cach
 price_steps old new price Alone takes = ap (λ (r : RelayValue). r.gathered.cache.steps) takes.3
 
 -- one that tries the price that waits
-tries_steps : (own : RelaySetup) (waiting : Option PriceUpdate) (relay : RelayValue) (new : WaitingRelay) (reply : List ℕ) →
-    TriesWaiting own waiting relay new reply →
+tries_steps : (own : RelaySetup) (waiting : Option PriceUpdate) (relay : RelayValue) (new : WaitingRelay) (outs : List (Output StoredRelay)) →
+    WritesWaiting own waiting relay new outs →
     new.relay.gathered.cache.steps ≡ relay.gathered.cache.steps
-tries_steps own None relay new reply tries = ap (λ (r : WaitingRelay). r.relay.gathered.cache.steps) tries.0
-tries_steps own (Some price) relay new reply tries = price_steps relay new.relay price tries.outcome tries.takes
+tries_steps own None relay new outs tries = ap (λ (r : WaitingRelay). r.relay.gathered.cache.steps) tries.0
+tries_steps own (Some price) relay new outs tries = price_steps relay new.relay price tries.outcome tries.takes
 
 -- and one that is asked for its bid
-asked_steps : (own : RelaySetup) (old new : RelayValue) (reply : List ℕ) → AnswersAsked own old new reply →
+asked_steps : (own : RelaySetup) (old new : RelayValue) (outs : List (Output StoredRelay)) → WritesAsked own old new outs →
     new.gathered.cache.steps ≡ old.gathered.cache.steps
-asked_steps own old new reply (inl sent) = ap (λ (k : Cache). k.steps) sent.1.made.cache
-asked_steps own old new reply (inr stays) = ap (λ (r : RelayValue). r.gathered.cache.steps) stays.2
+asked_steps own old new outs (inl sent) = ap (λ (k : Cache). k.steps) sent.1.made.cache
+asked_steps own old new outs (inr stays) = ap (λ (r : RelayValue). r.gathered.cache.steps) stays.2
 
 -- ---- so does one that answers
 
@@ -60,29 +62,29 @@ abbrev pub KeepsSteps : WaitingRelay → WaitingRelay → Type 0
 KeepsSteps old new = new.relay.gathered.cache.steps ≡ old.relay.gathered.cache.steps
 
 -- a child's Bid or Gone
-pub bid_keeps : (own : RelaySetup) (old : WaitingRelay) (sender number : ℕ) (demand : Option (List ℤ)) (new : WaitingRelay) (reply : List ℕ) →
-    AnswersBid own old sender number demand new reply → KeepsSteps old new
-bid_keeps own old sender number demand new reply answers =
+pub bid_keeps : (own : RelaySetup) (old : WaitingRelay) (sender number : ℕ) (demand : Option (List ℤ)) (new : WaitingRelay) (outs : List (Output StoredRelay)) →
+    WritesBid own old sender number demand new outs → KeepsSteps old new
+bid_keeps own old sender number demand new outs answers =
     tries_steps own old.waiting answers.learnt new answers.waiting_reply answers.tries ∙ bid_steps old.relay answers.learnt _ number demand answers.looks
 
 -- a price
-pub price_keeps : (own : RelaySetup) (old : WaitingRelay) (price : PriceUpdate) (new : WaitingRelay) (reply : List ℕ) →
-    AnswersPrice own old price new reply → KeepsSteps old new
-price_keeps own old price new reply answers = price_steps old.relay new.relay price answers.outcome answers.takes
+pub price_keeps : (own : RelaySetup) (old : WaitingRelay) (price : PriceUpdate) (new : WaitingRelay) (outs : List (Output StoredRelay)) →
+    WritesPrice own old price new outs → KeepsSteps old new
+price_keeps own old price new outs answers = price_steps old.relay new.relay price answers.outcome answers.takes
 
 -- limits
-pub limits_keep : (own : RelaySetup) (old : WaitingRelay) (sender number : ℕ) (limits : Limits) (new : WaitingRelay) (reply : List ℕ) →
-    AnswersLimits own old sender number limits new reply → KeepsSteps old new
-limits_keep own old sender number limits new reply answers =
+pub limits_keep : (own : RelaySetup) (old : WaitingRelay) (sender number : ℕ) (limits : Limits) (new : WaitingRelay) (outs : List (Output StoredRelay)) →
+    WritesLimits own old sender number limits new outs → KeepsSteps old new
+limits_keep own old sender number limits new outs answers =
     tries_steps own old.waiting answers.learnt new answers.waiting_reply answers.tries ∙ limits_steps old.relay answers.learnt _ number limits answers.looks
 
 -- Expire
-pub expire_keeps : (own : RelaySetup) (old : WaitingRelay) (sender : ℕ) (new : WaitingRelay) (reply : List ℕ) →
-    AnswersExpire own old sender new reply → KeepsSteps old new
-expire_keeps own old sender new reply answers =
+pub expire_keeps : (own : RelaySetup) (old : WaitingRelay) (sender : ℕ) (new : WaitingRelay) (outs : List (Output StoredRelay)) →
+    WritesExpire own old sender new outs → KeepsSteps old new
+expire_keeps own old sender new outs answers =
     tries_steps own old.waiting answers.learnt new answers.waiting_reply answers.tries ∙ bid_steps old.relay answers.learnt _ _ None answers.looks
 
 -- Send
-pub send_keeps : (own : RelaySetup) (old new : WaitingRelay) (reply : List ℕ) → AnswersSend own old new reply → KeepsSteps old new
-send_keeps own old new reply answers =
+pub send_keeps : (own : RelaySetup) (old new : WaitingRelay) (outs : List (Output StoredRelay)) → WritesSend own old new outs → KeepsSteps old new
+send_keeps own old new outs answers =
     tries_steps own old.waiting answers.asked new answers.waiting_reply answers.tries ∙ asked_steps own old.relay answers.asked answers.first answers.answers

@@ -11,46 +11,34 @@ use Rattle.pm_wire.specs.declared.frame.Frame.TheVariants.{Hello, Bid, Gone, Cle
 use Rattle.pm_wire.proofs.Markets.{accepted_small}
 use Rattle.pm_relay.specs.Roots.{RootValue}
 use Rattle.pm_frames.specs.Places.{bid_place, stage_behind}
+use Rattle.pm_frames.specs.Stored.{StoredRoot}
 use Rattle.pm_frames.specs.RootFrames.{root_framing, root_stage_after}
 use Rattle.pm_frames.specs.declared.place.Stage.{Stage}
 use Rattle.pm_frames.specs.declared.root.RootFrame.{RootFrame}
 use Rattle.pm_frames.specs.declared.root.RootFrame.TheVariants.{Market, Expire, Bound, Resume}
 use Rattle.pm_frames.proofs.NodePlaces.{same_bid_place}
-use Rattle.pm_services.specs.RootAnswers.{OpenRoot, AnswersClear, AnswersRootBid, AnswersRootExpire, AnswersRootFrame, AnswersRoot, IsRootStart}
+use Rattle.pm_services.specs.Outputs.{Output}
+use Rattle.pm_services.specs.RootWrites.{WritesClear, WritesRootBid, WritesRootExpire}
+use Rattle.pm_services.specs.RootAnswers.{OpenRoot, WritesRootNow, AnswersRoot, IsRootStart}
 use Rattle.pm_services.specs.RootStands.{steps_known, MayStandWithSteps}
 use Rattle.pm_services.proofs.OpenRoots.{bid_steps}
 
 -- ---- an auctioneer keeps its steps
 
-pub clear_keeps : (basis : BasisValue) (old new : RootValue) (reply : List ℕ) → AnswersClear basis old new reply →
+pub clear_keeps : (basis : BasisValue) (old new : RootValue) (outs : List (Output StoredRoot)) → WritesClear basis old new outs →
     new.auction.cache.steps ≡ old.auction.cache.steps
-clear_keeps basis old new reply (inl made) = ap (λ (k : Cache). k.steps) made.2.cleared.cache
-clear_keeps basis old new reply (inr stays) = ap (λ (r : RootValue). r.auction.cache.steps) stays.2
+clear_keeps basis old new outs (inl made) = ap (λ (k : Cache). k.steps) made.2.cleared.cache
+clear_keeps basis old new outs (inr stays) = ap (λ (r : RootValue). r.auction.cache.steps) stays.2
 
 -- a bid leaves the number of steps as it was
-pub bid_keeps : (basis : BasisValue) (old : RootValue) (sender number : ℕ) (demand : Option (List ℤ)) (new : RootValue) (reply : List ℕ) →
-    AnswersRootBid basis old sender number demand new reply → new.auction.cache.steps ≡ old.auction.cache.steps
-bid_keeps basis old sender number demand new reply answers = bid_steps old new _ number demand answers.looks
+pub bid_keeps : (old : RootValue) (sender number : ℕ) (demand : Option (List ℤ)) (new : RootValue) (outs : List (Output StoredRoot)) →
+    WritesRootBid old sender number demand new outs → new.auction.cache.steps ≡ old.auction.cache.steps
+bid_keeps old sender number demand new outs answers = bid_steps old new _ number demand answers.looks
 
 -- so does a child that is let go
-pub expire_keeps : (basis : BasisValue) (old : RootValue) (sender : ℕ) (new : RootValue) (reply : List ℕ) →
-    AnswersRootExpire basis old sender new reply → new.auction.cache.steps ≡ old.auction.cache.steps
-expire_keeps basis old sender new reply answers = bid_steps old new _ _ None answers.looks
-
--- ---- the basis stays
-
-same_of : (old new other : OpenRoot) → new ≡ other → other.basis ≡ old.basis → new.basis ≡ old.basis
-same_of old new other is same = ap (λ (r : OpenRoot). r.basis) is ∙ same
-
-basis_same : (old : OpenRoot) (frame : RootFrame) (new : OpenRoot) (reply : List ℕ) → AnswersRootFrame old frame new reply → new.basis ≡ old.basis
-basis_same old (Market (Hello basis)) new reply answers = same_of old new old answers.0 refl
-basis_same old (Market (Bid sender number demand)) new reply (inl counts) = same_of old new _ counts.1.1 refl
-basis_same old (Market (Bid sender number demand)) new reply (inr beyond) = same_of old new old beyond.1.0 refl
-basis_same old (Market (Gone sender number)) new reply answers = same_of old new _ answers.1 refl
-basis_same old (Market Clear) new reply answers = same_of old new _ answers.1 refl
-basis_same old (Expire sender) new reply answers = same_of old new _ answers.1 refl
-basis_same old (Bound sender bound) new reply answers = same_of old new _ answers.0 refl
-basis_same old (Resume stored) new reply answers = same_of old new _ answers.1 refl
+pub expire_keeps : (old : RootValue) (sender : ℕ) (new : RootValue) (outs : List (Output StoredRoot)) →
+    WritesRootExpire old sender new outs → new.auction.cache.steps ≡ old.auction.cache.steps
+expire_keeps old sender new outs answers = bid_steps old new _ _ None answers.looks
 
 -- ---- the steps that are known after a frame
 
@@ -64,25 +52,25 @@ no_hello stage old (Expire sender) is stands = refl
 no_hello stage old (Bound sender bound) is stands = refl
 no_hello stage old (Resume stored) is stands = refl
 
-known_after : (stage : Stage) (old new : Option OpenRoot) (frame : RootFrame) (reply : List ℕ) → bid_place stage ≡ steps_known old →
-    MayStand root_framing stage frame → AnswersRoot old frame new reply → bid_place (root_stage_after stage frame) ≡ steps_known new
-known_after stage None new (Market (Hello basis)) reply same stands answers = sym (ap steps_known answers.0.opened)
-known_after stage None new (Market (Bid child number demand)) reply same stands answers = same_bid_place stage ∙ same ∙ ap steps_known (sym answers.0)
-known_after stage None new (Market (Gone child number)) reply same stands answers = same_bid_place stage ∙ same ∙ ap steps_known (sym answers.0)
-known_after stage None new (Market Clear) reply same stands answers = same_bid_place stage ∙ same ∙ ap steps_known (sym answers.0)
-known_after stage None new (Expire child) reply same stands answers = same_bid_place stage ∙ same ∙ ap steps_known (sym answers.0)
-known_after stage None new (Bound child bound) reply same stands answers = same_bid_place stage ∙ same ∙ ap steps_known (sym answers.0)
-known_after stage None new (Resume stored) reply same stands answers = same_bid_place stage ∙ same ∙ ap steps_known (sym answers.0)
-known_after stage (Some old) new frame reply same stands answers =
+known_after : (stage : Stage) (old new : Option OpenRoot) (frame : RootFrame) (outs : List (Output StoredRoot)) → bid_place stage ≡ steps_known old →
+    MayStand root_framing stage frame → WritesRootNow old frame new outs → bid_place (root_stage_after stage frame) ≡ steps_known new
+known_after stage None new (Market (Hello basis)) outs same stands writes = sym (ap steps_known writes.0.opened)
+known_after stage None new (Market (Bid child number demand)) outs same stands writes = same_bid_place stage ∙ same ∙ ap steps_known (sym writes.0)
+known_after stage None new (Market (Gone child number)) outs same stands writes = same_bid_place stage ∙ same ∙ ap steps_known (sym writes.0)
+known_after stage None new (Market Clear) outs same stands writes = same_bid_place stage ∙ same ∙ ap steps_known (sym writes.0)
+known_after stage None new (Expire child) outs same stands writes = same_bid_place stage ∙ same ∙ ap steps_known (sym writes.0)
+known_after stage None new (Bound child bound) outs same stands writes = same_bid_place stage ∙ same ∙ ap steps_known (sym writes.0)
+known_after stage None new (Resume stored) outs same stands writes = same_bid_place stage ∙ same ∙ ap steps_known (sym writes.0)
+known_after stage (Some old) new frame outs same stands writes =
     no_hello stage old frame same stands ∙ same_bid_place stage ∙ same
-    ∙ ap (λ (basis : BasisValue). Some basis.steps) (sym (basis_same old frame answers.0 reply answers.2)) ∙ ap steps_known (sym answers.1)
+    ∙ ap (λ (basis : BasisValue). Some basis.steps) (sym writes.2.basis) ∙ ap steps_known (sym writes.1)
 
 -- and after frames
 known_after_frames : (frames : List RootFrame) (stage : Stage) (old new : Option OpenRoot) (reply : List ℕ) → bid_place stage ≡ steps_known old →
     AllStand root_framing stage frames → Runs AnswersRoot old frames new reply → bid_place (place_behind root_framing stage frames) ≡ steps_known new
 known_after_frames [] stage old new reply same all runs = same ∙ ap steps_known (sym runs.0)
 known_after_frames (frame ∷ frames) stage old new reply same all runs =
-    known_after_frames frames (root_stage_after stage frame) runs.0 new runs.2 (known_after stage old runs.0 frame runs.1 same all.0 runs.3) all.1 runs.4
+    known_after_frames frames (root_stage_after stage frame) runs.0 new runs.2 (known_after stage old runs.0 frame runs.3.outs same all.0 runs.3.writes) all.1 runs.4
 
 -- a frame that may be taken stands where what is known leaves the stream
 pub known_stands : (root : Option OpenRoot) (frame : RootFrame) → CanTake root_framing IsRootStart AnswersRoot root frame →

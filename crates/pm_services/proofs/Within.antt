@@ -8,7 +8,7 @@ use Rattle.pm_base.specs.declared.limits.Limits.{Limits}
 use Rattle.pm_bid.specs.Bids.{demand_at}
 use Rattle.pm_bid.specs.Taken.{IsWithinLimits, HasStepWithin}
 use Rattle.pm_relay.specs.Relays.{HasStepWithinAny}
-use Rattle.pm_services.specs.RelayAnswers.{some_within, some_within_any}
+use Rattle.pm_services.specs.RelayWrites.{some_within, some_within_any}
 
 -- one that is within is found
 found : (limits : Limits) (sum : List ℤ) (step : ℕ) → step < length sum → IsWithinLimits limits (demand_at sum step) → some_within limits sum ≡ true

@@ -1,7 +1,7 @@
 -- What the fields of a relay with the price that waits stand for, and what they keep.
 use Rattle.std.specs.Prelude.{◌<◌, IfSome}
 use Rattle.pm_base.specs.Limits.{AreSteps}
-use Rattle.pm_services.specs.RelayAnswers.{WaitingRelay}
+use Rattle.pm_services.specs.RelayWrites.{WaitingRelay}
 use Rattle.pm_services.specs.declared.waiting_relay.WaitingRelay.TheInside.{Inside}
 
 abbrev pub waiting_relay_of : Inside → WaitingRelay

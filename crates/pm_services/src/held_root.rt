@@ -1,7 +1,7 @@
 //! An auctioneer after Hello, whatever its children may bid.
 
 ghost use Rattle.std.specs.Prelude.{◌≡◌, ◌+◌, ◌≤◌, ◌++◌, length, replicate, vec_len, vec_capacity, IfOk, OnOk, OnErr};
-ghost use Rattle.std.specs.Prelude.{Some, None, if◌then◌else◌, []};
+ghost use Rattle.std.specs.Prelude.{Some, None, if◌then◌else◌, [], ◌∷◌};
 ghost use Rattle.std.specs.Option.{option_copied};
 ghost use Rattle.pm_base.specs.Limits.{AreSteps, demand_limit, most_nodes};
 ghost use Rattle.pm_bid.specs.Bids.{AllWithinLimit};
@@ -11,7 +11,8 @@ ghost use Rattle.pm_relay.specs.Roots.{RootComesBack, with_root_bid, LooksForCle
 ghost use Rattle.pm_relay.specs.Numbers.{known_number, parents_number};
 ghost use Rattle.pm_services.specs.Limits.{root_reply_limit, prices_limit};
 ghost use Rattle.pm_services.specs.Receipts.{sender_place, receipt_bytes, Appended};
-ghost use Rattle.pm_services.specs.RootAnswers.{AnswersRootExpire, AnswersRootBid, AnswersClear, stored_root, not_cleared_reply, kept_prices_bytes};
+ghost use Rattle.pm_services.specs.Outputs.{Output};
+ghost use Rattle.pm_services.specs.RootWrites.{WritesRootExpire, WritesRootBid, WritesClear, stored_root, not_cleared_reply, kept_prices_outs, root_bytes};
 ghost use Rattle.pm_frames.specs.Stored.{root_resume_bytes, root_resume_size};
 
 use pm_basis::Basis;
@@ -100,7 +101,7 @@ impl HeldRoot {
         requires small { AllWithinLimit demand_limit
             (demand_of_offer self.old.auction.cache (option_copied demand)) }
         requires room { vec_len out.old + (7 + prices_limit) ≤ vec_capacity out.old }
-        ensures answered { Appended (AnswersRootBid basis.now self.old sender number
+        ensures answered { Appended (root_bytes basis.now) (WritesRootBid self.old sender number
             (option_copied demand.entry) self.new) (7 + prices_limit) out.old.items out.new.items }
     {
         let had_prices = self.root.prices().is_some();
@@ -113,7 +114,7 @@ impl HeldRoot {
         requires first { 1 ≤ sender }
         requires last { sender ≤ most_nodes }
         requires room { vec_len out.old + prices_limit ≤ vec_capacity out.old }
-        ensures answered { Appended (AnswersRootExpire basis.now self.old sender self.new)
+        ensures answered { Appended (root_bytes basis.now) (WritesRootExpire self.old sender self.new)
             prices_limit out.old.items out.new.items }
     {
         let had_prices = self.root.prices().is_some();
@@ -163,7 +164,7 @@ impl HeldRoot {
     fn send_again(&self, basis: &Basis, had_prices: bool, out: &mut Vec<u8>)
         requires room { vec_len out.old + prices_limit ≤ vec_capacity out.old }
         ensures written { out.new.items ≡ out.old.items
-            ++ (if had_prices then [] else kept_prices_bytes basis.now self.now) }
+            ++ root_bytes basis.now (if had_prices then [] else kept_prices_outs self.now) }
         ensures few { length out.new.items ≤ length out.old.items + prices_limit }
     {
         if !had_prices {
@@ -174,7 +175,8 @@ impl HeldRoot {
     /// Appends the prices of the newest clearing, if the auctioneer has them.
     fn write_prices(&self, basis: &Basis, out: &mut Vec<u8>)
         requires room { vec_len out.old + prices_limit ≤ vec_capacity out.old }
-        ensures written { out.new.items ≡ out.old.items ++ kept_prices_bytes basis.now self.now }
+        ensures written { out.new.items ≡ out.old.items
+            ++ root_bytes basis.now (kept_prices_outs self.now) }
         ensures few { length out.new.items ≤ length out.old.items + prices_limit }
     {
         if let Some(clearing) = self.root.prices() {
@@ -186,8 +188,8 @@ impl HeldRoot {
     /// not cleared.
     pub(crate) fn clear(&mut self, basis: &Basis, out: &mut Vec<u8>)
         requires room { vec_len out.old + root_reply_limit ≤ vec_capacity out.old }
-        ensures answered { Appended (AnswersClear basis.now self.old self.new) root_reply_limit
-            out.old.items out.new.items }
+        ensures answered { Appended (root_bytes basis.now) (WritesClear basis.now self.old self.new)
+            root_reply_limit out.old.items out.new.items }
     {
         match self.root.clear() {
             Ok(_cleared) => self.write_cleared(basis, out),
@@ -199,8 +201,8 @@ impl HeldRoot {
     fn write_cleared(&self, basis: &Basis, out: &mut Vec<u8>)
         requires room { vec_len out.old + (root_resume_size + prices_limit) ≤ vec_capacity out.old }
         ensures written { out.new.items ≡ out.old.items
-            ++ (root_resume_bytes (stored_root basis.now self.now)
-            ++ kept_prices_bytes basis.now self.now) }
+            ++ root_bytes basis.now (Output.Keeps (stored_root basis.now self.now)
+            ∷ kept_prices_outs self.now) }
         ensures few { length out.new.items
             ≤ length out.old.items + (root_resume_size + prices_limit) }
     {

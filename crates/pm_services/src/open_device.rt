@@ -1,19 +1,20 @@
 //! A device's agent after Hello: what it makes of each frame, and the bytes of its answers.
 
 ghost use Rattle.std.specs.Prelude.{◌≡◌, ◌⊎◌, ◌+◌, ◌<◌, ◌≤◌, ◌^◌, ◌++◌, length, vec_len, vec_capacity, IfOk};
-ghost use Rattle.std.specs.Prelude.{OnOk, OnErr, MatchOption};
+ghost use Rattle.std.specs.Prelude.{ℕ, OnOk, OnErr, MatchOption};
 ghost use Rattle.std.specs.Option.{option_copied};
 ghost use Rattle.pm_io.specs.Causes.{HasCause, Rose};
 ghost use Rattle.pm_base.specs.Limits.{demand_limit, most_steps};
 ghost use Rattle.pm_bid.specs.Bids.{AllWithinLimit};
-ghost use Rattle.pm_net.specs.Agents.{new_agent, after_price};
+ghost use Rattle.pm_net.specs.Agents.{new_agent, after_price, setpoints_for};
 ghost use Rattle.pm_control.specs.Control.{message_of, agent_stored, after_old, newest_demand};
 ghost use Rattle.pm_wire.specs.Memory.{frame_limit};
+ghost use Rattle.pm_frames.specs.Stored.{agent_resume_bytes};
 ghost use Rattle.pm_frames.specs.DeviceFrames.{device_frame_limit};
 ghost use Rattle.pm_services.specs.Limits.{device_reply_limit};
-ghost use Rattle.pm_services.specs.DeviceAnswers.{own_resume_bytes, after_asking, offer_reply, after_asking_to_leave, leave_reply};
-ghost use Rattle.pm_services.specs.DeviceAnswers.{price_reply, sent_again, old_reply, with_held_agent, after_price_of, price_reply_of, open_device_after};
-ghost use Rattle.pm_services.specs.DeviceAnswers.{device_reply};
+ghost use Rattle.pm_services.specs.DeviceWrites.{stored_agent, after_asking, after_asking_to_leave, after_price_of};
+ghost use Rattle.pm_services.specs.DeviceWrites.{again_outs, offer_outs, leave_outs, price_outs_of, told_outs, old_outs, device_bytes};
+ghost use Rattle.pm_services.specs.DeviceAnswers.{with_held_agent, open_device_after, device_reply};
 ghost use Rattle.pm_services.specs.DeviceServiceFields.{HasSmallDemand, IsSmall};
 ghost use Rattle.pm_services.specs.SettingUp.{SetsUpDevice};
 
@@ -95,7 +96,8 @@ fn send_again(child: u16, stored: &StoredAgent, out: &mut Vec<u8>)
     requires small { IsSmall stored.now.newest }
     requires room { vec_len out.old + device_reply_limit ≤ vec_capacity out.old }
     ensures written { out.new.items ≡ out.old.items
-        ++ sent_again child stored.now.number stored.now.newest }
+        ++ device_bytes child stored.now.basis
+        (again_outs stored.now.basis.steps stored.now.number stored.now.newest) }
     ensures few { length out.new.items ≤ length out.old.items + device_reply_limit }
 {
     if let Some(demand) = &stored.newest {
@@ -177,7 +179,7 @@ impl OpenDevice {
     fn write_resume(&self, out: &mut Vec<u8>)
         requires room { vec_len out.old + device_frame_limit ≤ vec_capacity out.old }
         ensures written { out.new.items ≡ out.old.items
-            ++ own_resume_bytes self.now.basis self.now.agent }
+            ++ agent_resume_bytes (stored_agent self.now.basis self.now.agent) }
         ensures few { length out.new.items ≤ length out.old.items + device_frame_limit }
         ensures capacity { vec_capacity out.old ≤ vec_capacity out.new }
     {
@@ -200,7 +202,8 @@ impl OpenDevice {
         ensures offered { OnOk result
             (self.new ≡ with_held_agent self.old (after_asking self.old.agent demand.now)) }
         ensures answered { OnOk result (out.new.items ≡ out.old.items
-            ++ offer_reply child self.old.basis self.old.agent demand.now) }
+            ++ device_bytes child self.old.basis (offer_outs self.old.basis.steps self.old.basis
+            self.old.agent demand.now)) }
         ensures unchanged { OnErr result ((self.new ≡ self.old) × (out.new.items ≡ out.old.items)) }
         ensures few { length out.new.items ≤ length out.old.items + device_reply_limit }
         ensures cause { HasCause (M.refusals memory.old) (M.refusals memory.new) result }
@@ -219,7 +222,8 @@ impl OpenDevice {
         ensures offered { self.new
             ≡ with_held_agent self.old (after_asking self.old.agent demand.now) }
         ensures answered { out.new.items ≡ out.old.items
-            ++ offer_reply child self.old.basis self.old.agent demand.now }
+            ++ device_bytes child self.old.basis (offer_outs self.old.basis.steps self.old.basis
+            self.old.agent demand.now) }
         ensures few { length out.new.items ≤ length out.old.items + device_reply_limit }
     {
         match self.agent.offer(kept) {
@@ -237,7 +241,8 @@ impl OpenDevice {
         requires room { vec_len out.old + device_reply_limit ≤ vec_capacity out.old }
         ensures left { self.new ≡ with_held_agent self.old (after_asking_to_leave self.old.agent) }
         ensures answered { out.new.items ≡ out.old.items
-            ++ leave_reply child self.old.basis self.old.agent }
+            ++ device_bytes child self.old.basis (leave_outs self.old.basis.steps self.old.basis
+            self.old.agent) }
         ensures few { length out.new.items ≤ length out.old.items + device_reply_limit }
     {
         let Some(number) = self.agent.leave() else {
@@ -252,9 +257,11 @@ impl OpenDevice {
     fn take_price_of(&mut self, price: PriceUpdate, basis: &NamedBasis, out: &mut Vec<u8>)
         requires step { price.step < 2 ^ 16 }
         requires room { vec_len out.old + device_reply_limit ≤ vec_capacity out.old }
-        ensures taken { self.new ≡ after_price_of self.old (message_of price) basis.now }
-        ensures answered { out.new.items ≡ out.old.items
-            ++ price_reply_of self.old (message_of price) basis.now }
+        ensures taken { self.new ≡ with_held_agent self.old
+            (after_price_of self.old.basis self.old.agent (message_of price) basis.now) }
+        ensures answered { (child : ℕ) → out.new.items ≡ out.old.items
+            ++ device_bytes child self.old.basis (price_outs_of self.old.basis self.old.agent
+            (message_of price) basis.now) }
         ensures few { length out.new.items ≤ length out.old.items + device_reply_limit }
     {
         if basis.is(&self.basis) {
@@ -271,8 +278,10 @@ impl OpenDevice {
         requires room { vec_len out.old + device_reply_limit ≤ vec_capacity out.old }
         ensures taken { self.new
             ≡ with_held_agent self.old (after_price self.old.agent (message_of price)) }
-        ensures answered { out.new.items ≡ out.old.items
-            ++ price_reply self.old.basis self.old.agent (message_of price) }
+        ensures answered { (child : ℕ) → out.new.items ≡ out.old.items
+            ++ device_bytes child self.old.basis (told_outs self.old.basis
+            (after_price self.old.agent (message_of price)) (message_of price)
+            (setpoints_for self.old.agent (message_of price))) }
         ensures few { length out.new.items ≤ length out.old.items + device_reply_limit }
     {
         let Some(setpoint) = self.agent.take_price(price) else {
@@ -289,7 +298,8 @@ impl OpenDevice {
         requires room { vec_len out.old + device_reply_limit ≤ vec_capacity out.old }
         ensures taken { self.new ≡ with_held_agent self.old (after_old self.old.agent kept) }
         ensures answered { out.new.items ≡ out.old.items
-            ++ old_reply child self.old.basis self.old.agent (after_old self.old.agent kept) }
+            ++ device_bytes child self.old.basis (old_outs self.old.basis.steps self.old.basis
+            self.old.agent (after_old self.old.agent kept)) }
         ensures few { length out.new.items ≤ length out.old.items + device_reply_limit }
     {
         if self.agent.take_old(kept).is_none() {
@@ -303,7 +313,8 @@ impl OpenDevice {
     fn send_newest(&self, child: u16, out: &mut Vec<u8>)
         requires room { vec_len out.old + frame_limit ≤ vec_capacity out.old }
         ensures written { out.new.items ≡ out.old.items
-            ++ sent_again child self.now.agent.number (newest_demand self.now.agent) }
+            ++ device_bytes child self.now.basis (again_outs self.now.basis.steps
+            self.now.agent.number (newest_demand self.now.agent)) }
         ensures few { length out.new.items ≤ length out.old.items + frame_limit }
     {
         let resume = self.agent.resume();
@@ -330,7 +341,8 @@ impl OpenDevice {
         ensures back { OnOk result (self.new ≡ with_held_agent self.old
             (agent_stored stored.now.number stored.now.newest stored.now.index)) }
         ensures answered { OnOk result (out.new.items ≡ out.old.items
-            ++ sent_again child stored.now.number stored.now.newest) }
+            ++ device_bytes child self.old.basis (again_outs self.old.basis.steps stored.now.number
+            stored.now.newest)) }
         ensures unchanged { OnErr result ((self.new ≡ self.old) × (out.new.items ≡ out.old.items)) }
         ensures few { length out.new.items ≤ length out.old.items + device_reply_limit }
         ensures count { M.refusals memory.old ≤ M.refusals memory.new }

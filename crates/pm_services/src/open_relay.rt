@@ -6,8 +6,8 @@ ghost use Rattle.pm_bid.specs.Bids.{AllWithinLimit};
 ghost use Rattle.pm_relay.specs.Relays.{AreRelayLimits};
 ghost use Rattle.pm_services.specs.Limits.{relay_reply_limit};
 ghost use Rattle.pm_services.specs.Receipts.{Appended};
-ghost use Rattle.pm_services.specs.RelayAnswers.{AnswersOpen, AnswersRelayFrame, AnswersBounded, AnswersGiven, AnswersTold, AnswersKept, RelayComesUp};
-ghost use Rattle.pm_services.specs.RelayAnswers.{RelayComesUpAgain, HasStored, with_childs_bound};
+ghost use Rattle.pm_services.specs.RelayWrites.{relay_bytes, WritesGiven, WritesTold, WritesKept, HasStored};
+ghost use Rattle.pm_services.specs.RelayAnswers.{WritesOpenRelay, RelayComesUp, with_held, with_childs_bound};
 ghost use Rattle.pm_services.specs.RelayStands.{MayStandWithSteps};
 ghost use Rattle.pm_services.specs.SettingUp.{SetsUpRelay};
 ghost use Rattle.pm_wire.specs.declared.frame.Frame.{Frame};
@@ -83,8 +83,9 @@ impl OpenRelay {
     ) -> Result<(), AllocError>
         requires stands { MayStandWithSteps (Some self.old.setup.basis.steps) frame.now }
         requires room { vec_len out.old + relay_reply_limit ≤ vec_capacity out.old }
-        ensures answered { OnOk result (Appended (AnswersOpen self.old frame.now
-            (Some self.new)) relay_reply_limit out.old.items out.new.items) }
+        ensures answered { OnOk result (Appended (relay_bytes self.old.setup)
+            (WritesOpenRelay self.old frame.now self.new) relay_reply_limit out.old.items
+            out.new.items) }
         ensures unchanged { OnErr result (self.new ≡ self.old) }
         ensures nothing_appended { OnErr result (out.new.items ≡ out.old.items) }
         ensures cause { OnErr result (SetsUpRelay frame.now) }
@@ -146,8 +147,9 @@ impl OpenRelay {
         requires steps { length demand.now ≡ self.old.setup.basis.steps }
         requires small { AllWithinLimit demand_limit demand.now }
         requires room { vec_len out.old + relay_reply_limit ≤ vec_capacity out.old }
-        ensures answered { Appended (AnswersBounded self.old sender number demand.now self.new)
-            relay_reply_limit out.old.items out.new.items }
+        ensures answered { Appended (relay_bytes self.old.setup) (WritesOpenRelay self.old
+            (RelayFrame.Child (Frame.Bid sender number demand.now)) self.new) relay_reply_limit
+            out.old.items out.new.items }
     {
         if !self.bounds.admit(sender, demand) {
             write_too_much(sender, number, out);
@@ -161,8 +163,10 @@ impl OpenRelay {
     fn take_price(&mut self, price: PriceUpdate, basis: &NamedBasis, out: &mut Vec<u8>)
         requires step { price.step < basis.now.steps }
         requires room { vec_len out.old + relay_reply_limit ≤ vec_capacity out.old }
-        ensures answered { Appended (AnswersTold self.old price basis.now self.new)
-            relay_reply_limit out.old.items out.new.items }
+        ensures answered { Appended (relay_bytes self.old.setup) (WritesTold self.old.setup
+            self.old.held price basis.now self.new.held) relay_reply_limit out.old.items
+            out.new.items }
+        ensures kept { self.new ≡ with_held self.old self.new.held }
     {
         if !self.setup.has_basis(basis) {
             write_other_basis(price.number, price.index, out);
@@ -175,8 +179,10 @@ impl OpenRelay {
     fn take_limits(&mut self, number: u32, limits: Limits, out: &mut Vec<u8>)
         requires limits { AreRelayLimits limits }
         requires room { vec_len out.old + relay_reply_limit ≤ vec_capacity out.old }
-        ensures answered { Appended (AnswersGiven self.old number limits self.new)
+        ensures answered { Appended (relay_bytes self.old.setup) (WritesGiven
+            self.old.setup.terms.giver self.old.setup self.old.held number limits self.new.held)
             relay_reply_limit out.old.items out.new.items }
+        ensures kept { self.new ≡ with_held self.old self.new.held }
     {
         let place = self.setup.giver();
         let Some(giver) = place else {
@@ -191,7 +197,7 @@ impl OpenRelay {
         requires first { 1 ≤ sender }
         requires last { sender ≤ most_nodes }
         requires room { vec_len out.old + relay_reply_limit ≤ vec_capacity out.old }
-        ensures answered { Appended (AnswersRelayFrame self.old
+        ensures answered { Appended (relay_bytes self.old.setup) (WritesOpenRelay self.old
             (RelayFrame.Child (Frame.Gone sender number)) self.new) relay_reply_limit
             out.old.items out.new.items }
     {
@@ -201,8 +207,8 @@ impl OpenRelay {
     /// Sends the relay's bid, or appends why there is none, and what is due for the price that waits.
     fn send(&mut self, out: &mut Vec<u8>)
         requires room { vec_len out.old + relay_reply_limit ≤ vec_capacity out.old }
-        ensures answered { Appended (AnswersRelayFrame self.old RelayFrame.Send self.new)
-            relay_reply_limit out.old.items out.new.items }
+        ensures answered { Appended (relay_bytes self.old.setup) (WritesOpenRelay self.old
+            RelayFrame.Send self.new) relay_reply_limit out.old.items out.new.items }
     {
         self.held.send(&self.setup, out);
     }
@@ -212,8 +218,8 @@ impl OpenRelay {
         requires first { 1 ≤ sender }
         requires last { sender ≤ most_nodes }
         requires room { vec_len out.old + relay_reply_limit ≤ vec_capacity out.old }
-        ensures answered { Appended (AnswersRelayFrame self.old (RelayFrame.Expire sender) self.new)
-            relay_reply_limit out.old.items out.new.items }
+        ensures answered { Appended (relay_bytes self.old.setup) (WritesOpenRelay self.old
+            (RelayFrame.Expire sender) self.new) relay_reply_limit out.old.items out.new.items }
     {
         self.held.take_expire(&self.setup, sender, out);
     }
@@ -236,8 +242,9 @@ impl OpenRelay {
     ) -> Result<(), AllocError>
         requires stored { HasStored stored.now }
         requires room { vec_len out.old + relay_reply_limit ≤ vec_capacity out.old }
-        ensures answered { OnOk result (Appended (RelayComesUpAgain self.old stored.now self.new)
-            relay_reply_limit out.old.items out.new.items) }
+        ensures answered { OnOk result (Appended (relay_bytes self.old.setup)
+            (WritesOpenRelay self.old (RelayFrame.Resume stored.now) self.new) relay_reply_limit
+            out.old.items out.new.items) }
         ensures unchanged { OnErr result (self.new ≡ self.old) }
         ensures nothing_appended { OnErr result (out.new.items ≡ out.old.items) }
     {
@@ -251,8 +258,10 @@ impl OpenRelay {
     fn learn_kept(&mut self, stored: &StoredRelay, out: &mut Vec<u8>)
         requires stored { HasStored stored.now }
         requires room { vec_len out.old + relay_reply_limit ≤ vec_capacity out.old }
-        ensures answered { Appended (AnswersKept self.old stored.now self.new) relay_reply_limit
-            out.old.items out.new.items }
+        ensures answered { Appended (relay_bytes self.old.setup) (WritesKept
+            self.old.setup.terms.giver self.old.setup self.old.held stored.now self.new.held)
+            relay_reply_limit out.old.items out.new.items }
+        ensures kept { self.new ≡ with_held self.old self.new.held }
     {
         let place = self.setup.giver();
         let Some(giver) = place else {

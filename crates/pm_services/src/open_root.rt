@@ -5,7 +5,8 @@ ghost use Rattle.pm_base.specs.Limits.{demand_limit, most_nodes};
 ghost use Rattle.pm_bid.specs.Bids.{AllWithinLimit};
 ghost use Rattle.pm_services.specs.Limits.{root_reply_limit};
 ghost use Rattle.pm_services.specs.Receipts.{Appended};
-ghost use Rattle.pm_services.specs.RootAnswers.{AnswersOpenRoot, AnswersRootFrame, AnswersRootBounded, RootComesUp};
+ghost use Rattle.pm_services.specs.RootWrites.{root_bytes};
+ghost use Rattle.pm_services.specs.RootAnswers.{WritesOpenRoot, RootComesUp};
 ghost use Rattle.pm_services.specs.RootStands.{MayStandWithSteps};
 ghost use Rattle.pm_services.specs.SettingUp.{SetsUpRoot};
 ghost use Rattle.pm_wire.specs.declared.frame.Frame.{Frame};
@@ -66,8 +67,8 @@ impl OpenRoot {
     ) -> Result<(), AllocError>
         requires stands { MayStandWithSteps (Some self.old.basis.steps) frame.now }
         requires room { vec_len out.old + root_reply_limit ≤ vec_capacity out.old }
-        ensures answered { OnOk result (Appended
-            (AnswersOpenRoot self.old frame.now (Some self.new)) root_reply_limit out.old.items
+        ensures answered { OnOk result (Appended (root_bytes self.old.basis)
+            (WritesOpenRoot self.old frame.now self.new) root_reply_limit out.old.items
             out.new.items) }
         ensures unchanged { OnErr result (self.new ≡ self.old) }
         ensures nothing_appended { OnErr result (out.new.items ≡ out.old.items) }
@@ -113,8 +114,9 @@ impl OpenRoot {
         requires steps { length demand.now ≡ self.old.basis.steps }
         requires small { AllWithinLimit demand_limit demand.now }
         requires room { vec_len out.old + root_reply_limit ≤ vec_capacity out.old }
-        ensures answered { Appended (AnswersRootBounded self.old sender number demand.now self.new)
-            root_reply_limit out.old.items out.new.items }
+        ensures answered { Appended (root_bytes self.old.basis) (WritesOpenRoot self.old
+            (RootFrame.Market (Frame.Bid sender number demand.now)) self.new) root_reply_limit
+            out.old.items out.new.items }
     {
         if !self.bounds.admit(sender, demand) {
             write_too_much(sender, number, out);
@@ -129,7 +131,7 @@ impl OpenRoot {
         requires first { 1 ≤ sender }
         requires last { sender ≤ most_nodes }
         requires room { vec_len out.old + root_reply_limit ≤ vec_capacity out.old }
-        ensures answered { Appended (AnswersRootFrame self.old
+        ensures answered { Appended (root_bytes self.old.basis) (WritesOpenRoot self.old
             (RootFrame.Market (Frame.Gone sender number)) self.new) root_reply_limit
             out.old.items out.new.items }
     {
@@ -139,8 +141,9 @@ impl OpenRoot {
     /// Clears the market, and appends what is answered.
     fn clear(&mut self, out: &mut Vec<u8>)
         requires room { vec_len out.old + root_reply_limit ≤ vec_capacity out.old }
-        ensures answered { Appended (AnswersRootFrame self.old (RootFrame.Market Frame.Clear)
-            self.new) root_reply_limit out.old.items out.new.items }
+        ensures answered { Appended (root_bytes self.old.basis) (WritesOpenRoot self.old
+            (RootFrame.Market Frame.Clear) self.new) root_reply_limit out.old.items
+            out.new.items }
     {
         self.held.clear(&self.basis, out);
     }
@@ -153,7 +156,7 @@ impl OpenRoot {
         out: &mut Vec<u8>,
     ) -> Result<(), AllocError>
         requires children { length stored.now.numbers ≡ most_nodes }
-        ensures answered { OnOk result (Appended (AnswersRootFrame self.old
+        ensures answered { OnOk result (Appended (root_bytes self.old.basis) (WritesOpenRoot self.old
             (RootFrame.Resume stored.now) self.new) root_reply_limit out.old.items out.new.items) }
         ensures unchanged { OnErr result (self.new ≡ self.old) }
         ensures nothing_appended { out.new.items ≡ out.old.items }

@@ -13,8 +13,8 @@ ghost use Rattle.pm_frames.specs.Stored.{relay_resume_size};
 ghost use Rattle.pm_services.specs.Limits.{relay_reply_limit, price_reply_limit, own_bid_limit};
 ghost use Rattle.pm_services.specs.Receipts.{Appended, sender_place, receipt_bytes};
 ghost use Rattle.pm_relay.specs.Numbers.{known_number, parents_number};
-ghost use Rattle.pm_services.specs.RelayAnswers.{AnswersPrice, AnswersExpire, AnswersLimits, AnswersBid, AnswersAsked, AnswersSend, Opens};
-ghost use Rattle.pm_services.specs.RelayAnswers.{TriesWaiting, kept_bid_bytes, dropped_with, waiting_with};
+ghost use Rattle.pm_services.specs.RelayWrites.{WritesPrice, WritesExpire, WritesLimits, WritesBid, WritesAsked, WritesSend, Opens};
+ghost use Rattle.pm_services.specs.RelayWrites.{WritesWaiting, relay_bytes, kept_bid_outs, dropped_with, waiting_with};
 
 use crate::relay_bytes::{write_down, write_own_bid, write_resume, write_sent};
 use crate::setup::RelaySetup;
@@ -41,7 +41,7 @@ pub(crate) struct WaitingRelay {
 }
 
 impl Model for WaitingRelay {
-    ghost use Rattle.pm_services.specs.RelayAnswers.{WaitingRelay};
+    ghost use Rattle.pm_services.specs.RelayWrites.{WaitingRelay};
 
     ghost Value = { WaitingRelay };
 
@@ -119,7 +119,7 @@ impl WaitingRelay {
         requires small { AllWithinLimit demand_limit
             (demand_of_offer self.old.relay.gathered.cache (option_copied demand)) }
         requires room { vec_len out.old + relay_reply_limit ≤ vec_capacity out.old }
-        ensures answered { Appended (AnswersBid own.now self.old sender number
+        ensures answered { Appended (relay_bytes own.now) (WritesBid own.now self.old sender number
             (option_copied demand.entry) self.new) relay_reply_limit out.old.items out.new.items }
     {
         let had_record = self.relay.resend().is_some();
@@ -142,8 +142,8 @@ impl WaitingRelay {
         requires last { sender ≤ most_nodes }
         requires limits { AreRelayLimits limits }
         requires room { vec_len out.old + relay_reply_limit ≤ vec_capacity out.old }
-        ensures answered { Appended (AnswersLimits own.now self.old sender number limits self.new)
-            relay_reply_limit out.old.items out.new.items }
+        ensures answered { Appended (relay_bytes own.now) (WritesLimits own.now self.old sender number
+            limits self.new) relay_reply_limit out.old.items out.new.items }
     {
         let had_record = self.relay.resend().is_some();
         self.learn_limits(sender, number, limits, out);
@@ -181,8 +181,8 @@ impl WaitingRelay {
         requires first { 1 ≤ sender }
         requires last { sender ≤ most_nodes }
         requires room { vec_len out.old + relay_reply_limit ≤ vec_capacity out.old }
-        ensures answered { Appended (AnswersExpire own.now self.old sender self.new)
-            relay_reply_limit out.old.items out.new.items }
+        ensures answered { Appended (relay_bytes own.now) (WritesExpire own.now self.old sender
+            self.new) relay_reply_limit out.old.items out.new.items }
     {
         let had_record = self.relay.resend().is_some();
         self.expire(sender);
@@ -234,7 +234,7 @@ impl WaitingRelay {
     fn send_again(&self, own: &RelaySetup, had_record: bool, out: &mut Vec<u8>)
         requires room { vec_len out.old + own_bid_limit ≤ vec_capacity out.old }
         ensures written { out.new.items ≡ out.old.items
-            ++ (if had_record then [] else kept_bid_bytes own.now self.now.relay) }
+            ++ relay_bytes own.now (if had_record then [] else kept_bid_outs self.now.relay) }
         ensures few { vec_len out.new ≤ vec_len out.old + own_bid_limit }
         ensures capacity { vec_capacity out.old ≤ vec_capacity out.new }
     {
@@ -246,8 +246,8 @@ impl WaitingRelay {
     /// Sends the relay's bid, or appends why there is none, and then tries the price that waits again.
     pub(crate) fn send(&mut self, own: &RelaySetup, out: &mut Vec<u8>)
         requires room { vec_len out.old + relay_reply_limit ≤ vec_capacity out.old }
-        ensures answered { Appended (AnswersSend own.now self.old self.new) relay_reply_limit
-            out.old.items out.new.items }
+        ensures answered { Appended (relay_bytes own.now) (WritesSend own.now self.old self.new)
+            relay_reply_limit out.old.items out.new.items }
     {
         self.send_bid(own, out);
         self.try_waiting(own, out);
@@ -257,8 +257,8 @@ impl WaitingRelay {
     fn send_bid(&mut self, own: &RelaySetup, out: &mut Vec<u8>)
         requires room { vec_len out.old + (relay_resume_size + own_bid_limit)
             ≤ vec_capacity out.old }
-        ensures answered { Appended (AnswersAsked own.now self.old.relay self.new.relay)
-            (relay_resume_size + own_bid_limit) out.old.items out.new.items }
+        ensures answered { Appended (relay_bytes own.now) (WritesAsked own.now self.old.relay
+            self.new.relay) (relay_resume_size + own_bid_limit) out.old.items out.new.items }
         ensures waits { self.new.waiting ≡ self.old.waiting }
         ensures few { vec_len out.new ≤ vec_len out.old + (relay_resume_size + own_bid_limit) }
         ensures capacity { vec_capacity out.old ≤ vec_capacity out.new }
@@ -277,8 +277,8 @@ impl WaitingRelay {
     pub(crate) fn take_price(&mut self, own: &RelaySetup, price: PriceUpdate, out: &mut Vec<u8>)
         requires step { price.step < self.old.relay.gathered.cache.steps }
         requires room { vec_len out.old + price_reply_limit ≤ vec_capacity out.old }
-        ensures answered { Appended (AnswersPrice own.now self.old price self.new) price_reply_limit
-            out.old.items out.new.items }
+        ensures answered { Appended (relay_bytes own.now) (WritesPrice own.now self.old price self.new)
+            price_reply_limit out.old.items out.new.items }
     {
         match self.relay.take_price(price) {
             PriceOutcome::PassedOn => {
@@ -316,8 +316,8 @@ impl WaitingRelay {
     /// Takes the price that waits, if there is one, as if it came now.
     fn try_waiting(&mut self, own: &RelaySetup, out: &mut Vec<u8>)
         requires room { vec_len out.old + price_reply_limit ≤ vec_capacity out.old }
-        ensures answered { Appended (TriesWaiting own.now self.old.waiting self.old.relay self.new)
-            price_reply_limit out.old.items out.new.items }
+        ensures answered { Appended (relay_bytes own.now) (WritesWaiting own.now self.old.waiting
+            self.old.relay self.new) price_reply_limit out.old.items out.new.items }
     {
         if let Some(price) = self.waiting {
             self.waiting = None;

@@ -3,7 +3,7 @@ use Rattle.std.proofs.Common.{ap, subst, ℕ, List, Some, replicate}
 use Rattle.pm_base.specs.Limits.{most_nodes}
 use Rattle.pm_base.specs.declared.limits.Limits.{Limits}
 use Rattle.pm_services.specs.RelaySetups.{RelaySetup}
-use Rattle.pm_services.specs.RelayAnswers.{Opens}
+use Rattle.pm_services.specs.RelayWrites.{Opens}
 use Rattle.pm_services.proofs.open_relay.OpenRelay.new.Goals as goal
 
 pub returns : goal.returns

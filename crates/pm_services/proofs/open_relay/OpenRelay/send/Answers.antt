@@ -1,10 +1,11 @@
 -- Of `OpenRelay::send`: what it ensures.
-use Rattle.std.proofs.Common.{subst}
+use Rattle.std.proofs.Common.{refl, subst}
 use Rattle.pm_frames.specs.declared.relay.RelayFrame.TheVariants.{Send}
 use Rattle.pm_services.specs.Limits.{relay_reply_limit}
 use Rattle.pm_services.specs.Receipts.{Appended}
-use Rattle.pm_services.specs.RelayAnswers.{OpenRelay, AnswersRelayFrame}
-use Rattle.pm_services.proofs.OpenRelays.{hands_send}
+use Rattle.pm_services.specs.RelayWrites.{relay_bytes}
+use Rattle.pm_services.specs.RelayAnswers.{OpenRelay, WritesOpenRelay}
+use Rattle.pm_services.proofs.OpenRelays.{opened}
 use Rattle.pm_services.proofs.open_relay.OpenRelay.send.Goals as goal
 
 pub returns : goal.returns
@@ -12,8 +13,8 @@ returns c =
     let old : OpenRelay = record { setup = c.self.inside.setup; bounds = c.self.inside.bounds; held = c.self.inside.held } in
     record {
       answered =
-          subst (λ (it : OpenRelay). Appended
-          (AnswersRelayFrame it Send (record { setup = c.self.inside.setup; bounds = c.self.inside.bounds; held = c.send.new.self }))
+          subst (λ (it : OpenRelay). Appended (relay_bytes it.setup)
+          (WritesOpenRelay it Send (record { setup = c.self.inside.setup; bounds = c.self.inside.bounds; held = c.send.new.self }))
           relay_reply_limit c.args.out.now.items c.send.new.out.items) c.self.view_is
-          (hands_send old _ _ _ c.send.ensures.answered);
+          (opened old Send c.send.new.self _ _ refl c.send.ensures.answered);
     }

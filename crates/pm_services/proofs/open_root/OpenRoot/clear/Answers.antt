@@ -1,11 +1,12 @@
 -- Of `OpenRoot::clear`: what it ensures.
-use Rattle.std.proofs.Common.{subst}
+use Rattle.std.proofs.Common.{refl, subst, arith}
 use Rattle.pm_wire.specs.declared.frame.Frame.TheVariants.{Clear}
 use Rattle.pm_frames.specs.declared.root.RootFrame.TheVariants.{Market}
 use Rattle.pm_services.specs.Limits.{root_reply_limit}
 use Rattle.pm_services.specs.Receipts.{Appended}
-use Rattle.pm_services.specs.RootAnswers.{OpenRoot, AnswersRootFrame}
-use Rattle.pm_services.proofs.OpenedRoots.{hands_clear}
+use Rattle.pm_services.specs.RootWrites.{root_bytes}
+use Rattle.pm_services.specs.RootAnswers.{OpenRoot, WritesOpenRoot}
+use Rattle.pm_services.proofs.OpenedRoots.{opened}
 use Rattle.pm_services.proofs.open_root.OpenRoot.clear.Goals as goal
 
 pub returns : goal.returns
@@ -13,8 +14,8 @@ returns c =
     let old : OpenRoot = record { basis = c.self.inside.basis; bounds = c.self.inside.bounds; root = c.self.inside.held } in
     record {
       answered =
-          subst (λ (it : OpenRoot). Appended
-          (AnswersRootFrame it (Market Clear) (record { basis = c.self.inside.basis; bounds = c.self.inside.bounds; root = c.clear.new.self }))
+          subst (λ (it : OpenRoot). Appended (root_bytes it.basis)
+          (WritesOpenRoot it (Market Clear) (record { basis = c.self.inside.basis; bounds = c.self.inside.bounds; root = c.clear.new.self }))
           root_reply_limit c.args.out.now.items c.clear.new.out.items) c.self.view_is
-          (hands_clear old _ _ _ c.clear.ensures.answered);
+          (opened old (Market Clear) c.clear.new.self (root_reply_limit) _ _ (omega arith) refl c.clear.ensures.answered);
     }

@@ -1,9 +1,12 @@
 -- Of `OpenRoot::take_bid`: what it ensures.
 use Rattle.std.proofs.Common.{subst}
+use Rattle.pm_wire.specs.declared.frame.Frame.TheVariants.{Bid}
+use Rattle.pm_frames.specs.declared.root.RootFrame.TheVariants.{Market}
 use Rattle.pm_frames.proofs.ReadNodes.{fails, passes}
 use Rattle.pm_services.specs.Limits.{root_reply_limit}
 use Rattle.pm_services.specs.Receipts.{Appended}
-use Rattle.pm_services.specs.RootAnswers.{OpenRoot, AnswersRootBounded}
+use Rattle.pm_services.specs.RootWrites.{root_bytes}
+use Rattle.pm_services.specs.RootAnswers.{OpenRoot, WritesOpenRoot}
 use Rattle.pm_services.proofs.OpenedRoots.{counts, is_beyond}
 use Rattle.pm_services.proofs.open_root.OpenRoot.take_bid.Goals as goal
 
@@ -12,12 +15,10 @@ returns-then-not-admit c =
     let old : OpenRoot = record { basis = c.self.inside.basis; bounds = c.self.inside.bounds; root = c.self.inside.held } in
     record {
       answered =
-          subst (λ (it : OpenRoot). Appended
-          (AnswersRootBounded it c.args.sender c.args.number c.args.demand.now c.args.self.now) root_reply_limit c.args.out.now.items
+          subst (λ (it : OpenRoot). Appended (root_bytes it.basis)
+          (WritesOpenRoot it (Market (Bid c.args.sender c.args.number c.args.demand.now)) it) root_reply_limit c.args.out.now.items
           c.write_too_much.new.out.items) c.self.view_is
-          (subst (λ (now : OpenRoot). Appended (AnswersRootBounded old c.args.sender c.args.number c.args.demand.now now) root_reply_limit c.args.out.now.items
-          c.write_too_much.new.out.items) c.self.view_is
-          (is_beyond old _ _ _ _ _ (fails c.admit.result c.if-not-admit.true c.admit.ensures.1) c.write_too_much.ensures.written));
+          (is_beyond old _ _ _ _ _ (fails c.admit.result c.if-not-admit.true c.admit.ensures.1) c.write_too_much.ensures.written);
     }
 
 pub returns : goal.returns
@@ -25,9 +26,9 @@ returns c =
     let old : OpenRoot = record { basis = c.self.inside.basis; bounds = c.self.inside.bounds; root = c.self.inside.held } in
     record {
       answered =
-          subst (λ (it : OpenRoot). Appended
-          (AnswersRootBounded it c.args.sender c.args.number c.args.demand.now
+          subst (λ (it : OpenRoot). Appended (root_bytes it.basis)
+          (WritesOpenRoot it (Market (Bid c.args.sender c.args.number c.args.demand.now))
           (record { basis = c.self.inside.basis; bounds = c.self.inside.bounds; root = c.take_bid.new.self })) root_reply_limit
           c.args.out.now.items c.take_bid.new.out.items) c.self.view_is
-          (counts old _ _ _ _ _ _ (passes c.admit.result c.if-not-admit.false c.admit.ensures.0) c.take_bid.ensures.answered);
+          (counts old _ _ _ c.take_bid.new.self _ _ (passes c.admit.result c.if-not-admit.false c.admit.ensures.0) c.take_bid.ensures.answered);
     }

@@ -5,7 +5,7 @@ use Rattle.pm_wire.specs.declared.frame.Frame.{Frame}
 use Rattle.pm_wire.specs.declared.frame.Frame.TheVariants.{Hello}
 use Rattle.pm_frames.specs.declared.root.RootFrame.{RootFrame}
 use Rattle.pm_frames.specs.declared.root.RootFrame.TheVariants.{Market}
-use Rattle.pm_services.specs.RootAnswers.{OpenRoot, AnswersRoot, AnswersClosedRoot}
+use Rattle.pm_services.specs.RootAnswers.{OpenRoot, AnswersRoot, RootComesUpBy}
 use Rattle.pm_services.specs.RootStands.{steps_known, MayStandWithSteps}
 use Rattle.pm_services.proofs.RootPlaces.{known_stands}
 use Rattle.pm_services.proofs.root.RootServiceServiceRootFrame.answer.Goals as goal
@@ -17,18 +17,18 @@ take-requires-clause-stands g c =
 
 -- before Hello a frame of the market is answered so
 answered_before : (service : Option OpenRoot) (frame : RootFrame) (first : Frame) (new : OpenRoot) → service ≡ None → frame ≡ Market first →
-    AnswersClosedRoot (Market first) (Some new) [] → AnswersRoot service frame (Some new) []
-answered_before service frame first new closed is answers =
+    RootComesUpBy (Market first) (Some new) → AnswersRoot service frame (Some new) []
+answered_before service frame first new closed is comes =
     subst (λ (known : Option OpenRoot). AnswersRoot known frame (Some new) []) (sym closed)
-    (subst (λ (it : RootFrame). AnswersClosedRoot it (Some new) []) (sym is) answers)
+    (record { outs = []; writes = (subst (λ (it : RootFrame). RootComesUpBy it (Some new)) (sym is) comes, refl); written = refl })
 
 pub returns-in_ok-new-clause-taken : goal.returns-in_ok-new-clause-taken
 returns-in_ok-new-clause-taken g c =
     let hello : c.in-Market-Hello.field-0 ≡ Hello c.in-Market-Hello.basis = rw c.in-Market-Hello.is at c.in-Market-Hello.field-0-is in
-    let answers = subst (λ (first : Frame). AnswersClosedRoot (Market first) (Some c.in_ok-new.field-0) []) (sym hello) (c.in_ok-new.ensures.opens, refl) in
+    let comes = subst (λ (first : Frame). RootComesUpBy (Market first) (Some c.in_ok-new.field-0)) (sym hello) c.in_ok-new.ensures.opens in
     record {
       reply = [];
       answers = answered_before c.args.self.now c.args.frame.now c.in-Market-Hello.field-0 c.in_ok-new.field-0
-          (sym c.self.view_is ∙ c.in_default.is) c.in-Market-Hello.is answers;
+          (sym c.self.view_is ∙ c.in_default.is) c.in-Market-Hello.is comes;
       appended = c.in_ok-reserve.ensures.items ∙ sym (append-nil _);
     }

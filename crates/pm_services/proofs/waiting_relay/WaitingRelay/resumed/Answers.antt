@@ -5,7 +5,7 @@ use Rattle.pm_relay.specs.Relays.{limits_of_number}
 use Rattle.pm_base.specs.Limits.{most_nodes}
 use Rattle.pm_concentrator.specs.Concentrators.{IsNewConcentrator}
 use Rattle.pm_services.specs.RelaySetups.{RelaySetup}
-use Rattle.pm_services.specs.RelayAnswers.{Opens}
+use Rattle.pm_services.specs.RelayWrites.{Opens}
 use Rattle.pm_services.proofs.waiting_relay.WaitingRelay.resumed.Goals as goal
 
 pub returns : goal.returns

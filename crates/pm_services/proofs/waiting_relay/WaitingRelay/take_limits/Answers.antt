@@ -1,60 +1,39 @@
 -- Of `WaitingRelay::take_limits`: what it ensures.
-use Rattle.std.proofs.Common.{◌≡◌, ◌∙◌, sym, ap, subst, ℕ, Bool, true, false, not, ◌&&◌, cond, List, [], ◌++◌, length, Option}
-use Rattle.std.proofs.Common.{arith, refl, length-append}
-use Rattle.std.specs.Prelude.{◌==◌, if◌then◌else◌}
-use Rattle.std.proofs.lemmas.Bool.{true≢false}
-use Rattle.std.proofs.lemmas.List.{append_assoc}
-use Rattle.pm_session.specs.declared.price.PriceUpdate.{PriceUpdate}
+use Rattle.std.proofs.Common.{◌≡◌, ◌∙◌, ap, ℕ, Bool, not, List, ◌++◌, arith}
+use Rattle.std.specs.Prelude.{◌==◌}
 use Rattle.pm_cache.specs.Cache.{kept_number}
-use Rattle.pm_services.specs.Receipts.{sender_place, receipt_bytes}
-use Rattle.pm_services.specs.RelayAnswers.{TriesWaiting, kept_bid_bytes, own_bid_bytes, bid_again}
+use Rattle.pm_frames.specs.Stored.{StoredRelay}
+use Rattle.pm_services.specs.Receipts.{sender_place, receipt_outs}
+use Rattle.pm_frames.specs.Stored.{relay_resume_bytes}
+use Rattle.pm_services.specs.Limits.{relay_reply_limit}
+use Rattle.pm_services.specs.RelayWrites.{WritesLimits, relay_bytes}
+use Rattle.pm_services.proofs.Written.{mapped, receipt_written}
+use Rattle.pm_services.proofs.Learning.{WritesLearnt, learnt_answered}
 use Rattle.pm_services.proofs.waiting_relay.WaitingRelay.take_limits.Goals as goal
-
-again_of : (had none lost : Bool) (bytes : List ℕ) → had ≡ not none → cond had [] (cond lost [] bytes) ≡ cond (none && not lost) bytes []
-again_of true true lost bytes e = absurd (true≢false e)
-again_of true false lost bytes e = refl
-again_of false true true bytes e = refl
-again_of false true false bytes e = refl
-again_of false false lost bytes e = absurd (true≢false (sym e))
 
 pub returns : goal.returns
 returns c =
     let own = c.args.own.now in
     let old = c.args.self.now in
     let learnt = c.learn_limits.new.self.relay in
-    let had : Bool = c.is_some-had_record.result in
-    let tried = c.try_waiting.ensures.answered in
+    let new = c.try_waiting.new.self in
     let out : List ℕ = c.args.out.now.items in
-    let again : List ℕ = if had then [] else kept_bid_bytes own learnt in
+    let longer : List ℕ = c.try_waiting.new.out.items in
+    let had : Bool = c.is_some-had_record.result in
     let is_had : had ≡ not (old.relay.gathered.window.last == 0) = grind (arith, c.resend.ensures, c.is_some-had_record.ensures) in
-    let same : again ≡ bid_again own old.relay learnt =
-    again_of had (old.relay.gathered.window.last == 0) (learnt.gathered.window.last == 0) (own_bid_bytes own learnt) is_had in
-    let receipt : List ℕ = receipt_bytes (kept_number old.relay.gathered.cache (sender_place c.args.sender)) c.args.sender c.args.number in
-    let two : List ℕ = again ++ tried.reply in
+    let kept : ℕ = kept_number old.relay.gathered.cache (sender_place c.args.sender) in
+    let receipt = receipt_outs {K = StoredRelay} kept c.args.sender c.args.number in
     record {
-      answered = record {
-        reply = receipt ++ two;
-        answers = record {
-          learnt = learnt;
-          looks = c.learn_limits.ensures.learnt;
-          waiting_reply = tried.reply;
-          tries = subst (λ (w : Option PriceUpdate). TriesWaiting own w learnt c.try_waiting.new.self tried.reply) c.learn_limits.ensures.waits tried.answers;
-          replied = ap (λ (l : List ℕ). receipt ++ (l ++ tried.reply)) same;
-        };
-        appended = tried.appended ∙ ap (λ (l : List ℕ). l ++ tried.reply) c.send_again.ensures.written
-            ∙ ap (λ (l : List ℕ). (l ++ again) ++ tried.reply) c.learn_limits.ensures.written
-            ∙ append_assoc (out ++ receipt) again tried.reply ∙ append_assoc out receipt two;
-        few = omega (
-          arith,
-          length-append receipt two,
-          length-append again tried.reply,
-          length-append out receipt,
-          length-append c.learn_limits.new.out.items again,
-          ap (λ (l : List ℕ). length l) c.learn_limits.ensures.written,
-          c.learn_limits.ensures.few,
-          ap (λ (l : List ℕ). length l) c.send_again.ensures.written,
-          c.send_again.ensures.few,
-          tried.few,
-        );
-      };
+      answered =
+          mapped (relay_bytes own) (WritesLearnt own old learnt new receipt) (WritesLimits own old c.args.sender c.args.number c.args.limits new) relay_reply_limit relay_reply_limit out longer (omega arith)
+          (λ outs writes. record {
+            learnt = learnt;
+            looks = c.learn_limits.ensures.learnt;
+            waiting_reply = writes.waiting_reply;
+            tries = writes.tries;
+            replied = writes.replied;
+          })
+          (learnt_answered own old learnt new had c.learn_limits.new.self.waiting receipt out _ _ longer is_had c.learn_limits.ensures.waits
+          (c.learn_limits.ensures.written ∙ ap (λ (l : List ℕ). out ++ l)
+          (receipt_written relay_resume_bytes own.basis own.child kept c.args.sender c.args.number)) (omega (arith, c.learn_limits.ensures.few)) c.send_again.ensures.written (omega (arith, c.send_again.ensures.few)) c.try_waiting.ensures.answered);
     }
