@@ -28,12 +28,12 @@ use Rattle.pm_system.specs.Settled.{number_made, number_held, index_of_held, num
 use Rattle.pm_system.specs.Worked.{small_tree, small_places}
 use Rattle.pm_system.proofs.Worked.{s0, reaches, reached}
 use Rattle.pm_system.proofs.WorkedGiven.{each_node, each_leaf, only_one}
-use Rattle.pm_lives.specs.DeviceWrites.{device_outs, agent_after}
+use Rattle.pm_services.specs.DeviceWrites.{device_outs, agent_after}
 use Rattle.pm_lives.specs.DeviceLife.{DeviceMayRead, IsGivenOffer, IsGivenLeaving}
 use Rattle.pm_lives.specs.Lives.{World, LifeStep, BeginsOnce, handed_out, stored_last, restart_outs}
 use Rattle.pm_lives.specs.Settled.{index_above, number_stored, number_noted, IsSettledWorld, IsTakenWorld}
 use Rattle.pm_processes.specs.Kept.{HistoriesKeepTheLaw, HistoryKeepsTheLaw}
-use Rattle.pm_processes.specs.WorkedLimits.{narrow_limits, limits_given, limits_pricing, asked, limits_events, limits_scene, settled_setpoint}
+use Rattle.pm_processes.specs.WorkedLimits.{narrow_limits, limits_given, limits_pricing, asked_demand, limits_events, limits_scene, settled_setpoint}
 use Rattle.pm_processes.specs.WorkedLimits.{LimitsHistorySays, LimitsHistoryKeepsTheLaw}
 use Rattle.pm_processes.proofs.LimitsMarket.{market, around, starts}
 use Rattle.pm_processes.proofs.Said.{same_leaf, same_node}
@@ -57,21 +57,21 @@ only_setpoint a b (zero, inside, is) = is
 only_setpoint a b (suc k, inside, is) = absurd (omega (arith, inside))
 
 -- what device 2 asks for may be said in a bid, at each step
-within_asked : (step : ℕ) → IsWithin demand_limit (demand_at asked step)
+within_asked : (step : ℕ) → IsWithin demand_limit (demand_at asked_demand step)
 within_asked zero = record { low = omega (arith, ints); high = omega (arith, ints) }
 within_asked (suc zero) = record { low = omega (arith, ints); high = omega (arith, ints) }
 within_asked (suc (suc zero)) = record { low = omega (arith, ints); high = omega (arith, ints) }
 within_asked (suc (suc (suc step))) = record { low = omega (arith, ints); high = omega (arith, ints) }
 
 -- some step of it is within the limits given
-step_within : HasStepWithin narrow_limits asked
+step_within : HasStepWithin narrow_limits asked_demand
 step_within = record { step = 1; inside = omega arith; keeps = record { floor = omega (arith, ints); ceiling = omega (arith, ints) } }
 
 -- if device 3 asks for nothing, the sum at the relay is what device 2 asks for
-sum_is : (f : ℕ → List ℤ) → f 2 ≡ asked → f 3 ≡ zeros 3 → sum_of 3 (demands_of 3 small_places 1 f) ≡ asked
+sum_is : (f : ℕ → List ℤ) → f 2 ≡ asked_demand → f 3 ≡ zeros 3 → sum_of 3 (demands_of 3 small_places 1 f) ≡ asked_demand
 unfolding parent children_to place_in child_in demands_of
 sum_is f two three = ap (λ (l : List ℤ). sum_of 3 (l ∷ f 3 ∷ replicate 254 (zeros 3))) two
-    ∙ ap (λ (l : List ℤ). sum_of 3 (asked ∷ l ∷ replicate 254 (zeros 3))) three
+    ∙ ap (λ (l : List ℤ). sum_of 3 (asked_demand ∷ l ∷ replicate 254 (zeros 3))) three
 
 one_process : BeginsOnce 2 limits_steps
 one_process = inl (
@@ -172,10 +172,10 @@ module _ (root : RootValue) (relays : ℕ → RelayValue) where
   }
 
   abbrev offer : DeviceFrame
-  offer = device_frame.Offer Array asked
+  offer = device_frame.Offer Array asked_demand
 
   given_offer : (lists : Lists) (p : Pricing) (world : World) → world ≡ up_after lists p first 2 4 →
-      DeviceMayRead lists p world.basis world.seen 2 offer → IsGivenOffer lists p 2 2 asked
+      DeviceMayRead lists p world.basis world.seen 2 offer → IsGivenOffer lists p 2 2 asked_demand
   unfolding update
   given_offer lists p world is may =
       let May : World → Type 0 = λ w. DeviceMayRead lists p w.basis w.seen 2 offer in
@@ -214,16 +214,16 @@ module _ (root : RootValue) (relays : ℕ → RelayValue) where
       let limits_are : p.limits 1 counted ≡ Some narrow_limits =
       has.same_limits 1 counted ∙ ap (λ (n : ℕ). Some (limits_given 1 n)) three in
       let offers : ℕ → List ℤ = λ x. p.offer x counted in
-      let asks : offers 2 ≡ asked = has.market.by_nodes.device 2 counted leaf ∙ ap (p.demand 2) two ∙ sym offer_is.is in
+      let asks : offers 2 ≡ asked_demand = has.market.by_nodes.device 2 counted leaf ∙ ap (p.demand 2) two ∙ sym offer_is.is in
       let none : offers 3 ≡ zeros 3 = has.market.by_nodes.device 3 counted giver ∙ ap (p.demand 3) three
       ∙ has.market.absent 3 2 giver leaving.absent ∙ ap zeros has.same_steps in
-      let sum : sum_of_offers p counted 1 ≡ asked = has.market.by_places 1 offers
+      let sum : sum_of_offers p counted 1 ≡ asked_demand = has.market.by_places 1 offers
       ∙ ap (λ (n : ℕ). sum_of n (demands_of n small_places 1 offers)) has.same_steps ∙ sum_is offers asks none in
       let can : SaysBelow lists p counted 1 = λ c inner below. each_node
       (λ c. is_leaf lists c ≡ false → CanSay (p.limits c counted) (p.local counted c) (sum_of_offers p counted c))
       (λ e. subst (λ (l : List ℤ). CanSay (p.limits 1 counted) (p.local counted 1) l) (sym sum)
-      (subst (λ (o : Option Limits). CanSay o (p.local counted 1) asked) (sym limits_are)
-      (within_asked (settled_in narrow_limits (p.local counted 1) asked))))
+      (subst (λ (o : Option Limits). CanSay o (p.local counted 1) asked_demand) (sym limits_are)
+      (within_asked (settled_in narrow_limits (p.local counted 1) asked_demand))))
       (λ e. absurd (both_ways (is_leaf lists 2) e leaf)) (λ e. absurd (both_ways (is_leaf lists 3) e giver)) c
       (same_node lists small_tree has.parents c (inner.0, inner.1)) inner.2 in
       record {

@@ -35,6 +35,7 @@ givers c = elim (cases_eq c 1) [
       inr (λ n. ap (λ (l : Limits). Some l) (one n ∙ sym (one 0)))
 ]
 
+-- the small tree with these limits is a market
 pub market : IsTreeMarket small_tree limits_pricing small_places
 market = is_market small_tree 3 small_device_demand limits_given (λ c. 3) (record {
   law = given.law;
@@ -47,11 +48,13 @@ market = is_market small_tree 3 small_device_demand limits_given (λ c. 3) (reco
   givers = givers;
 })
 
+-- its limits are limits
 pub around : (x : ℕ) (cut : Cut) (l : Limits) → limits_pricing.limits x cut ≡ Some l → AreLimits l
 around x cut l e =
     let Are : Limits → Type 0 = λ k. AreLimits k in
     subst Are (some_same (limits_given x (cut 3)) l e) (are_limits x (cut 3)).around
 
+-- its nodes come up for the first time
 pub starts : IsStarted small_tree limits_pricing s0
 starts = record {
   root = started.root;

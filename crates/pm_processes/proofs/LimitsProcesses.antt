@@ -20,36 +20,38 @@ use Rattle.pm_frames.specs.declared.form.OfferForm.TheVariants.{Array}
 use Rattle.pm_services.specs.RootAnswers.{stored_root}
 use Rattle.pm_system.specs.Given.{IsDemand}
 use Rattle.pm_system.proofs.Worked.{reaches, reached, noted, new_root, cleared_root}
-use Rattle.pm_lives.specs.Outputs.{Keeps}
-use Rattle.pm_lives.specs.RootWrites.{clearing_outs}
-use Rattle.pm_lives.specs.DeviceWrites.{device_outs, agent_after}
+use Rattle.pm_services.specs.Outputs.{Keeps}
+use Rattle.pm_services.specs.RootWrites.{clearing_outs}
+use Rattle.pm_services.specs.DeviceWrites.{device_outs, agent_after}
 use Rattle.pm_lives.specs.WorkedLives.{small_basis}
 use Rattle.pm_processes.specs.RootProcess.{RootProcess, RootExchange}
 use Rattle.pm_processes.specs.DeviceProcess.{DeviceProcess, DeviceExchange}
-use Rattle.pm_processes.specs.WorkedLimits.{limits_pricing, asked}
+use Rattle.pm_processes.specs.WorkedLimits.{limits_pricing, asked_demand}
 use Rattle.pm_processes.specs.WorkedLimits.{giver_took, giver_wrote, device_took, device_wrote}
 use Rattle.pm_processes.specs.WorkedLimits.{root_took, root_wrote}
 use Rattle.pm_processes.proofs.Offers.{is_demand}
 
 -- ---- device 2
 
-pub asked_is : IsDemand 3 asked
-asked_is = is_demand 3 asked refl refl
+-- what it asks for is a demand, and fits a frame
+pub asked_is : IsDemand 3 asked_demand
+asked_is = is_demand 3 asked_demand refl refl
 
-pub asked_fits : AllByRecursion (λ (z : ℤ). FitsSigned w32 z) asked
+-- each power has its four bytes
+pub asked_fits : AllByRecursion (λ (z : ℤ). FitsSigned w32 z) asked_demand
 asked_fits = (omega (arith, ints), (omega (arith, ints), (omega (arith, ints), tt)))
 
 abbrev pub agent_new : DeviceAgent
 agent_new = agent_stored 0 None 0
 
 abbrev agent_offered : DeviceAgent
-agent_offered = agent_after agent_new (device_frame.Offer Array asked)
+agent_offered = agent_after agent_new (device_frame.Offer Array asked_demand)
 
 abbrev pub offers : DeviceExchange
 offers = record {
-  frame = device_frame.Offer Array asked;
+  frame = device_frame.Offer Array asked_demand;
   after = agent_offered;
-  outs = device_outs limits_pricing small_basis agent_new (device_frame.Offer Array asked);
+  outs = device_outs limits_pricing small_basis agent_new (device_frame.Offer Array asked_demand);
 }
 
 abbrev pub settles : DeviceExchange
@@ -146,6 +148,7 @@ root_clears = record {
   outs = Keeps (stored_root small_basis root_cleared) ∷ clearing_outs root_cleared;
 }
 
+-- the auctioneer clears under index 1
 pub is_cleared : RootCleared root_heard root_cleared 1 (clearing_step (aggregate_of root_heard.auction.cache))
 unfolding reaches
 is_cleared = record {

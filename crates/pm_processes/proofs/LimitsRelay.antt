@@ -22,11 +22,11 @@ use Rattle.pm_services.specs.RelaySetups.{RelaySetup}
 use Rattle.pm_system.specs.Worked.{small_limits}
 use Rattle.pm_system.proofs.Worked.{reaches, reached, suffices, enough, noted, one_kept, relay_back, sent_relay, rebuilt_relay}
 use Rattle.pm_system.proofs.Worked.{passed_relay}
-use Rattle.pm_lives.specs.Outputs.{Keeps}
-use Rattle.pm_lives.specs.RelayWrites.{WritesRelay, WritesKept, bid_outs, price_outs}
+use Rattle.pm_services.specs.Outputs.{Keeps}
+use Rattle.pm_services.specs.RelayWrites.{WritesRelay, WritesKept, bid_outs, price_outs}
 use Rattle.pm_lives.specs.WorkedLives.{small_basis}
 use Rattle.pm_processes.specs.RelayProcess.{RelayProcess, RelayExchange}
-use Rattle.pm_processes.specs.WorkedLimits.{narrow_limits, giver_terms, asked, relay_bid_begun, relay_bid_rest}
+use Rattle.pm_processes.specs.WorkedLimits.{narrow_limits, giver_terms, asked_demand, relay_bid_begun, relay_bid_rest}
 use Rattle.pm_processes.specs.WorkedLimits.{relay_took, relay_wrote, next_took, next_wrote}
 use Rattle.pm_processes.proofs.LimitsProcesses.{asked_fits}
 
@@ -42,7 +42,7 @@ abbrev pub relay_new : RelayValue
 relay_new = relay_back 0 0 0 (replicate most_nodes 0)
 
 abbrev heard : RelayValue
-heard = with_child_bid relay_new 0 2 (Some asked)
+heard = with_child_bid relay_new 0 2 (Some asked_demand)
 
 abbrev given : RelayValue
 given = with_new_limits heard 1 2 narrow_limits
@@ -51,7 +51,7 @@ abbrev sent : RelayValue
 sent = record (sent_relay given) { made_under = small_limits ∷ narrow_limits ∷ [] }
 
 abbrev pub hears : RelayExchange
-hears = record { frame = relay_frame.Child (Bid 1 2 asked); after = alone heard; outs = [] }
+hears = record { frame = relay_frame.Child (Bid 1 2 asked_demand); after = alone heard; outs = [] }
 
 abbrev pub is_given : RelayExchange
 is_given = record { frame = relay_frame.Limits 2 narrow_limits; after = alone given; outs = [] }
@@ -59,10 +59,12 @@ is_given = record { frame = relay_frame.Limits 2 narrow_limits; after = alone gi
 abbrev pub sends : RelayExchange
 sends = record { frame = relay_frame.Send; after = alone sent; outs = Keeps (stored_relay setup sent) ∷ bid_outs sent }
 
+-- the relay learns the bid
 pub does_hear : WritesRelay setup (alone relay_new) hears.frame hears.after hears.outs
 does_hear =
     inl (record { learnt = heard; looks = inr ((λ h. omega (arith, h.came_back)), refl); waiting_reply = []; tries = (refl, refl); replied = refl })
 
+-- it learns the limits
 pub does_take_limits : WritesRelay setup hears.after is_given.frame is_given.after is_given.outs
 does_take_limits =
     record { learnt = given; looks = inr ((λ h. omega (arith, h.came_back)), refl); waiting_reply = []; tries = (refl, refl); replied = refl }
@@ -104,6 +106,7 @@ is_sent = record {
   kept_under = kept_limits;
 }
 
+-- it sends its bid
 pub does_send : WritesRelay setup is_given.after sends.frame sends.after sends.outs
 does_send = record { asked = sent; first = sends.outs; answers = inl (1, is_sent, refl); waiting_reply = []; tries = (refl, refl); replied = refl }
 
@@ -113,6 +116,7 @@ no_giver e =
     let same : 2 ≡ 1 = ap (λ (o : Option ℕ). unwrap_or o 0) e in
     omega (arith, same)
 
+-- a relay may have the limits given
 pub are_narrow : AreRelayLimits narrow_limits
 are_narrow = record {
   around = record {
@@ -204,7 +208,7 @@ abbrev pub given_again : RelayValue
 given_again = with_new_limits relay_again 1 2 narrow_limits
 
 abbrev heard_again : RelayValue
-heard_again = with_child_bid given_again 0 2 (Some asked)
+heard_again = with_child_bid given_again 0 2 (Some asked_demand)
 
 abbrev rebuilt : RelayValue
 rebuilt = rebuilt_relay heard_again
@@ -216,7 +220,7 @@ abbrev price : PriceUpdate
 price = record { step = 0; number = 1; index = 1 }
 
 abbrev pub sends_again : RelayExchange
-sends_again = record { frame = relay_frame.Child (Bid 1 2 asked); after = alone rebuilt; outs = bid_outs rebuilt }
+sends_again = record { frame = relay_frame.Child (Bid 1 2 asked_demand); after = alone rebuilt; outs = bid_outs rebuilt }
 
 abbrev pub passes_down : RelayExchange
 passes_down = record {
@@ -225,6 +229,7 @@ passes_down = record {
   outs = price_outs setup None passed price PassedOn;
 }
 
+-- the next process learns the limits that were stored
 pub does_learn : WritesKept (Some 2) setup (alone relay_again) stored (alone given_again) []
 does_learn = inr (
   omega arith,
@@ -237,6 +242,7 @@ does_learn = inr (
   },
 )
 
+-- it hears the bid again, and sends its own
 pub does_send_again : WritesRelay setup (alone given_again) sends_again.frame sends_again.after sends_again.outs
 unfolding said_between reaches suffices
 does_send_again = inl (record {
@@ -269,6 +275,7 @@ does_send_again = inl (record {
   replied = refl;
 })
 
+-- it settles for step 1, and passes that down
 pub does_pass_down : WritesRelay setup sends_again.after passes_down.frame passes_down.after passes_down.outs
 unfolding said_between
 does_pass_down = inl (
@@ -304,6 +311,7 @@ does_pass_down = inl (
   },
 )
 
+-- zeros are numbers of children
 pub are_zero : (count : ℕ) → AllByRecursion (λ (number : ℕ). number < 2 ^ 32) (replicate count 0)
 are_zero zero = tt
 are_zero (suc count) = (omega arith, are_zero count)

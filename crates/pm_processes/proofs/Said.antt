@@ -39,14 +39,17 @@ module _ (tree : Lists) (p : Pricing) (numbering : Numbering) (d : ℕ) where
 
 -- ---- lists over the same tree
 
+-- they have the same parents
 pub same_parent : (lists tree : Lists) → lists.parents ≡ tree.parents → (x : ℕ) → parent lists x ≡ parent tree x
 unfolding parent
 same_parent lists tree is x = ap (λ (l : List ℕ). slice_index_or (0 ∷ l) x 0) is
 
+-- they have the same devices
 pub same_leaf : (lists tree : Lists) → lists.leaves ≡ tree.leaves → (x : ℕ) → is_leaf lists x ≡ is_leaf tree x
 unfolding is_leaf
 same_leaf lists tree is x = ap (λ (l : List Bool). slice_index_or (false ∷ l) x false) is
 
+-- and the same nodes
 pub same_node : (lists tree : Lists) → lists.parents ≡ tree.parents → (x : ℕ) → IsNode lists x → IsNode tree x
 same_node lists tree is x node =
     let within : List ℕ → Type 0 = λ l. x ≤ length l in

@@ -397,6 +397,7 @@ module _ (root : RootValue) (relays : ℕ → RelayValue) where
     new_is = refl;
   }
 
+  -- nothing runs and nothing is stored at first
   pub new : IsNewScene limits_pricing small_places scene_0
   new = record {
     new_world = record {

@@ -16,6 +16,7 @@ use Rattle.pm_relay.specs.Relays.{RelayValue}
 use Rattle.pm_relay.specs.Roots.{RootValue}
 use Rattle.pm_relay.specs.Numbers.{child_number}
 use Rattle.pm_frames.specs.declared.terms.RelayTerms.{RelayTerms}
+use Rattle.pm_frames.specs.Kinds.{send_kind}
 use Rattle.pm_system.specs.Given.{placed_pricing}
 use Rattle.pm_system.specs.Flow.{TakeWhatWasTold}
 use Rattle.pm_system.specs.Settled.{numbers_counted, WasTold}
@@ -47,8 +48,8 @@ limits_scene root relays = new_scene giver_terms root relays
 -- ---- fields and frames
 
 -- 6, -2 and -3 watts; and what the relay announces of them, since 6 is above 5: -2, -2 and -3 watts
-abbrev pub asked : List ℤ
-asked = pos 6 ∷ negsuc 1 ∷ negsuc 2 ∷ []
+abbrev pub asked_demand : List ℤ
+asked_demand = pos 6 ∷ negsuc 1 ∷ negsuc 2 ∷ []
 
 abbrev pub asked_field : List ℕ
 asked_field = 0 ∷ 0 ∷ 0 ∷ 6 ∷ 255 ∷ 255 ∷ 255 ∷ 254 ∷ 255 ∷ 255 ∷ 255 ∷ 253 ∷ []
@@ -119,7 +120,7 @@ device_wrote =
 
 -- The relay: Hello, the Bid, the Limits and Send; a Resume, and a part of its Bid
 abbrev pub relay_took : List ℕ
-relay_took = hello_bytes ++ (device_bid_bytes ++ (given_limits_bytes ++ (9 ∷ [])))
+relay_took = hello_bytes ++ (device_bid_bytes ++ (given_limits_bytes ++ (send_kind ∷ [])))
 
 abbrev pub relay_wrote : List ℕ
 relay_wrote = relay_resume 0 0 ++ relay_bid_begun
@@ -176,7 +177,7 @@ pub record HistoryHoldsLimits (first : Scene) : Type 0 where
 pub record LimitsHistorySays (last : World) : Type 0 where
   pub lists : Lists
   pub pricing : Pricing
-  pub offered : asked ≡ pricing.demand 2 2
+  pub offered : asked_demand ≡ pricing.demand 2 2
   pub member : is_member lists 2 2 ≡ true
   pub absent : is_member lists 3 2 ≡ false
   pub journal : List Move

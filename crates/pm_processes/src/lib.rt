@@ -85,7 +85,7 @@ pub fn a_cut_process_goes_on()
         HistoryGoesOn (small_scene root relays) }
 {}
 
-/// A law: the same of a whole tree with limits. In a worked history, by the bytes of five processes, a device gives a relay its
+/// A law: there are such histories of a tree with given limits. In a worked one, by the bytes of five processes, a device gives a relay its
 /// limits, of -3 to 5 watts. Another asks for 6, -2 and -3 watts. The relay's process is killed within its Bid, and the next one
 /// begins with the stored Resume: it has these limits again, hears the device again and so sends the Bid, of -2, -2 and -3
 /// watts. The auctioneer clears at step 0. There the device would take 6 watts, so the relay settles for step 1, and the

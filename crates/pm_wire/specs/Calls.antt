@@ -37,7 +37,7 @@ MakesCall framing old fails new = new ≡ old
 -- ---- what a call says, whichever memory it asks
 
 -- What feeding a piece answers. Where an allocation fails nothing changes.
-pub record TakesPiece {P F E : Type 0} (framing : Framing P F) (old : Decoding P) (piece : List ℕ) (result : Result (Unit {0}) E) (new : Decoding P) :
+pub record FeedsPiece {P F E : Type 0} (framing : Framing P F) (old : Decoding P) (piece : List ℕ) (result : Result (Unit {0}) E) (new : Decoding P) :
     Type 0 where
   pub fed : OnOk result (new ≡ with_piece old piece)
   pub unchanged : OnErr result (new ≡ old)

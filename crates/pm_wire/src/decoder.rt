@@ -2,7 +2,7 @@
 
 ghost use Rattle.std.specs.Prelude.{◌≡◌, ◌+◌, ◌*◌, ◌≤◌, ◌++◌, length, drop, vec_len, is_ok, if◌then◌else◌};
 ghost use Rattle.pm_io.specs.Causes.{HasCause, Rose};
-ghost use Rattle.pm_wire.specs.Calls.{TakesPiece, GivesNext};
+ghost use Rattle.pm_wire.specs.Calls.{FeedsPiece, GivesNext};
 ghost use Rattle.pm_wire.specs.Decoding.{nothing_fed_at, nothing_fed, HoldsLittle};
 
 use crate::fault::DecodeFault;
@@ -113,7 +113,7 @@ impl<F: StreamFrame> FrameDecoder<F> {
     /// changes.
     pub fn feed(&mut self, piece: &[u8]) -> Result<(), AllocError>
         requires { self.old.offset + length self.old.rest + length piece.now ≤ 4294967296 }
-        ensures { TakesPiece F.framing self.old piece.now result self.new }
+        ensures { FeedsPiece F.framing self.old piece.now result self.new }
     {
         let mut memory = SystemMemory::new(self.alloc);
         self.feed_from(&mut memory, piece)
@@ -122,7 +122,7 @@ impl<F: StreamFrame> FrameDecoder<F> {
     /// Takes the next piece as [`FrameDecoder::feed`] does, and asks this memory for its room.
     pub fn feed_from<M: Memory>(&mut self, memory: &mut M, piece: &[u8]) -> Result<(), AllocError>
         requires { self.old.offset + length self.old.rest + length piece.now ≤ 4294967296 }
-        ensures takes { TakesPiece F.framing self.old piece.now result self.new }
+        ensures takes { FeedsPiece F.framing self.old piece.now result self.new }
 
         // It fails only where memory was refused.
         ensures cause { HasCause (M.refusals memory.old) (M.refusals memory.new) result }

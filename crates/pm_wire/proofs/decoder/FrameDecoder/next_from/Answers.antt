@@ -1,5 +1,6 @@
 -- Of `FrameDecoder::next_from`: what it answers.
-use Rattle.std.proofs.Common.{◌≡◌, ◌∙◌, ◌-◌, ◌+◌, ◌*◌, ◌≤◌, ap, sym, subst, List, ◌++◌, ℕ, Bool, length, take, drop, refl, arith}
+use Rattle.std.proofs.Common.{◌≡◌, ◌∙◌, ◌-◌, ◌+◌, ◌*◌, ◌≤◌, ap, sym, subst, List, ◌++◌, ℕ, Bool}
+use Rattle.std.proofs.Common.{length, take, drop, refl, arith}
 use Rattle.std.proofs.lemmas.List.{take_rest, drop-drop}
 use Rattle.pm_wire.specs.Framing.{Framing, BeginsBadly}
 use Rattle.pm_wire.specs.Decoding.{Decoding, HoldsLittle, with_refusal}
