@@ -1,11 +1,11 @@
 #!/usr/bin/env python3
 """Builds the images of the example, and tries the market of its compose.yaml in containers, by the words of docs/OPERATE.md.
 
-    python3 -m trials.containers PACKAGE [--root FOLDER]
+    python3 -m trials.containers PACKAGE [--root FOLDER] [--without-kills]
 
 PACKAGE is what `make deb` makes. Podman takes the place of Docker, with a storage of its own in a temporary folder, removed in
 the end. The base image debian:bookworm-slim is made by debootstrap, so no registry is asked. With --root it is made from that
-folder, which has the root of a Debian 12.
+folder, which has the root of a Debian 12. With --without-kills no container is killed.
 
 Each line is what was tried, and what was seen. The status is 1 if something failed. It needs root, podman, podman-compose,
 debootstrap, iptables and openssl, mosquitto_passwd of mosquitto, and runc if the system has cgroups of version 1. It takes about
@@ -36,7 +36,8 @@ BASE = "docker.io/library/debian:bookworm-slim"
 ALONE = ["auctioneer", "street", "house", "store"]
 NODES = [*ALONE, *NODES_OF_SITE]
 PARTS = ["broker.example", *ALONE, SITE, "history"]
-PATIENCE = 90
+# The seconds within which anything has to come: on a machine with much else to do a command of podman-compose takes half a minute.
+PATIENCE = 300
 # What the official image has beyond debootstrap: no package's pages are kept, and no downloaded package.
 SLIM = {
     "etc/dpkg/dpkg.cfg.d/docker": "".join(f"path-exclude /usr/share/{folder}/*\n" for folder in ("doc", "man", "locale")),
@@ -211,12 +212,12 @@ class Containers:
         self.run("podman network rm -f market_default", False)
 
 
-def try_containers(found, containers):
-    """The containers that run."""
+def try_containers(found, containers, killed):
+    """The containers that run. Those of the parts `killed` are killed."""
     found.part("offers", containers.offer)
     found.part("the history keeps it", containers.keeps_history)
     found.part("secrets are apart", containers.secrets_are_apart)
-    for part in PARTS:
+    for part in killed:
         found.part(f"the container of {part} is killed", lambda part_name=part: containers.killed(part_name))
     found.part("all containers are made anew", containers.goes_on)
     found.part("a container is stopped", containers.stopped)
@@ -234,6 +235,7 @@ def main():
     parser = argparse.ArgumentParser(description=__doc__.splitlines()[0])
     parser.add_argument("package", help="the Debian package of make deb")
     parser.add_argument("--root", help="a folder with the root of a Debian 12, for the base image")
+    parser.add_argument("--without-kills", action="store_true", help="kill no container")
     arguments = parser.parse_args()
     os.environ["PATH"] += ":/usr/sbin"
     tools = ["podman", "podman-compose", "debootstrap", "iptables", "openssl", "mosquitto_passwd"]
@@ -255,7 +257,7 @@ def main():
                 and found.part("the images, by the words of OPERATE.md", containers.build)
                 and found.part("the market of compose.yaml", containers.start)
             ):
-                try_containers(found, containers)
+                try_containers(found, containers, [] if arguments.without_kills else PARTS)
         finally:
             containers.end()
     return min(found.failed, 1)
