@@ -8,8 +8,8 @@ the end. The base image debian:bookworm-slim is made by debootstrap, so no regis
 folder, which has the root of a Debian 12. With --without-kills no container is killed.
 
 Each line is what was tried, and what was seen. The status is 1 if something failed. It needs root, podman, podman-compose,
-debootstrap, iptables and openssl, mosquitto_passwd of mosquitto, and runc if the system has cgroups of version 1. It takes about
-five minutes.
+debootstrap, iptables and openssl, mosquitto_passwd of mosquitto, a way by which containers find each other by name
+(golang-github-containernetworking-plugin-dnsname), and runc if the system has cgroups of version 1. It takes about five minutes.
 """
 
 import argparse
@@ -35,6 +35,8 @@ TOP = Path(__file__).resolve().parent.parent
 BASE = "docker.io/library/debian:bookworm-slim"
 ALONE = ["auctioneer", "street", "house", "store"]
 NODES = [*ALONE, *NODES_OF_SITE]
+# What lets containers find each other by name: one of these files.
+NAMES = [Path("/usr/lib/cni/dnsname"), Path("/usr/lib/podman/aardvark-dns")]
 PARTS = ["broker.example", *ALONE, SITE, "history"]
 # The seconds within which anything has to come: on a machine with much else to do a command of podman-compose takes half a minute.
 PATIENCE = 300
@@ -244,6 +246,7 @@ def main():
         (os.getuid() == 0, "root: run it as root"),
         (Path(arguments.package).is_file(), f"{arguments.package}: make deb makes it"),
         *((shutil.which(tool), f"{tool}: install its package") for tool in tools),
+        (any(path.exists() for path in NAMES), "names of containers: install golang-github-containernetworking-plugin-dnsname"),
     )
     signal.signal(signal.SIGTERM, lambda *_: sys.exit(1))
     found = Found()
