@@ -132,6 +132,18 @@ def test_the_file_of_bids_does_not_grow_without_end(tmp_path, monkeypatch):
     log.close()
 
 
+def test_a_bid_that_the_file_has_is_not_added_again(tmp_path):
+    """Neither the same one, nor an equal one that was heard again."""
+    log = kept_bids.BidLog(tmp_path, 2)
+    log.begin(SESSION)
+    same = Heard(bid(1, 2, 5, 0), "device", "house", 150.0)
+    for heard, lines in ((same, 1), (same, 1), (Heard(bid(1, 2, 5, 0), "device", "house", 150.0), 1), (Heard(bid(1, 4, 5, 0), "device", "house", 150.0), 2)):
+        log.make_safe({1: heard})
+        (path,) = tmp_path.glob("*.bids")
+        assert path.read_bytes().count(b"\n") == lines
+    log.close()
+
+
 @pytest.mark.parametrize("where", ["", "restarts", "moves"])
 def test_a_number_is_of_one_bid_alone(joined, where, tmp_path):
     """A child repeats its number with other demands. In a relay that restarts they would stand for what it has sent."""
