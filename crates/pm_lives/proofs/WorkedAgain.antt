@@ -21,6 +21,7 @@ use Rattle.pm_system.specs.Worked.{small_tree, small_places, small_device_demand
 use Rattle.pm_system.proofs.Worked.{reaches, reached, suffices, enough, noted, one_kept, relay_back, sent_relay, rebuilt_relay}
 use Rattle.pm_system.proofs.Worked.{cleared_root, passed_relay}
 use Rattle.pm_services.specs.RelayWrites.{bid_outs, price_outs}
+use Rattle.pm_lives.proofs.WorkedBounds.{again_keeps, other_keeps, then_keeps}
 use Rattle.pm_lives.specs.Lives.{Lives1, RelayUp, Relay, Root, Device}
 use Rattle.pm_lives.specs.WorkedLives.{small_basis, bid_to_relay}
 use Rattle.pm_lives.proofs.WorkedWorlds.{small_setup, heard, heard_root, sent_outs, cleared_outs, w11, w12, w13, w14, w15, w16, w17, w18, w19, w20, w21, w22}
@@ -50,8 +51,9 @@ does_13 = record {
   };
   after = record { relay = heard w12 0 4 2; waiting = None };
   outs = [];
+  bounds = [];
   writes = inl
-      (record { learnt = heard w12 0 4 2; looks = inr ((λ h. omega (arith, h.came_back)), refl); waiting_reply = []; tries = (refl, refl); replied = refl });
+      (then_keeps, record { learnt = heard w12 0 4 2; looks = inr ((λ h. omega (arith, h.came_back)), refl); waiting_reply = []; tries = (refl, refl); replied = refl });
   passes = λ giver is same. absurd cc;
   handled = inr refl;
   new_is = refl;
@@ -66,6 +68,7 @@ does_14 = record {
   may = tt;
   after = record { relay = sent_relay (w13.seen.relays 1); waiting = None };
   outs = sent_outs (sent_relay (w13.seen.relays 1));
+  bounds = [];
   writes = record {
     asked = sent_relay (w13.seen.relays 1);
     first = sent_outs (sent_relay (w13.seen.relays 1));
@@ -159,8 +162,9 @@ does_16 = record {
   };
   after = record { relay = heard w15 1 2 3; waiting = None };
   outs = [];
+  bounds = [];
   writes = inl
-      (record {
+      (other_keeps, record {
         learnt = heard w15 1 2 3;
         looks = inr ((λ h. omega (arith, h.caught_up 0 (omega arith))), refl);
         waiting_reply = [];
@@ -192,7 +196,8 @@ does_17 = record {
   };
   after = record { relay = rebuilt_relay (heard w16 0 4 2); waiting = None };
   outs = bid_outs (rebuilt_relay (heard w16 0 4 2));
-  writes = inl (record {
+  bounds = [];
+  writes = inl (then_keeps, record {
     learnt = rebuilt_relay (heard w16 0 4 2);
     looks = inl (
       record {
@@ -247,7 +252,8 @@ does_18 =
           };
       after = heard_root w17 2 (negsuc 0 ∷ negsuc 0 ∷ negsuc 0 ∷ []);
       outs = [];
-      writes = inl (record { looks = inr ((λ h. omega (arith, h.came_back)), refl); replied = refl });
+      bounds = [];
+  writes = inl (again_keeps, record { looks = inr ((λ h. omega (arith, h.came_back)), refl); replied = refl });
       handled = inr refl;
       new_is = refl;
     }
@@ -260,6 +266,7 @@ does_19 = record {
   may = tt;
   after = cleared_root w18.seen.root;
   outs = cleared_outs (cleared_root w18.seen.root);
+  bounds = [];
   writes = inl (
     2,
     clearing_step (aggregate_of w18.seen.root.auction.cache),
@@ -286,6 +293,7 @@ does_20 = record {
   may = (refl, (0, omega arith, refl));
   after = record { relay = passed_relay (w19.seen.relays 1); waiting = None };
   outs = price_outs small_setup None (passed_relay (w19.seen.relays 1)) (record { step = 0; number = 2; index = 2 }) PassedOn;
+  bounds = [];
   writes = inl (
     refl,
     record {

@@ -18,6 +18,7 @@ use Rattle.pm_frames.specs.declared.form.OfferForm.TheVariants.{Array}
 use Rattle.pm_system.specs.Worked.{small_tree, small_places, small_device_demand, small_pricing}
 use Rattle.pm_system.proofs.Worked.{reaches, reached, suffices, noted, relay_back, new_root, sent_relay}
 use Rattle.pm_system.proofs.Worked.{cleared_root}
+use Rattle.pm_lives.proofs.WorkedBounds.{first_keeps, other_keeps, relay_keeps}
 use Rattle.pm_lives.specs.Lives.{Lives1, RelayUp, Relay, RootUp, Root, DeviceUp, Device}
 use Rattle.pm_lives.specs.WorkedLives.{bid_to_relay}
 use Rattle.pm_lives.proofs.WorkedWorlds.{heard, heard_root, sent_outs, cleared_outs, w0, w1, w2, w3, w4, w5, w6, w7, w8, w9, w10, w11}
@@ -105,8 +106,9 @@ does_7 = record {
   };
   after = record { relay = heard w6 0 2 2; waiting = None };
   outs = [];
+  bounds = [];
   writes = inl
-      (record { learnt = heard w6 0 2 2; looks = inr ((λ h. omega (arith, h.came_back)), refl); waiting_reply = []; tries = (refl, refl); replied = refl });
+      (first_keeps, record { learnt = heard w6 0 2 2; looks = inr ((λ h. omega (arith, h.came_back)), refl); waiting_reply = []; tries = (refl, refl); replied = refl });
   passes = λ giver is same. absurd cc;
   handled = inr refl;
   new_is = refl;
@@ -131,8 +133,9 @@ does_8 = record {
   };
   after = record { relay = heard w7 1 2 3; waiting = None };
   outs = [];
+  bounds = [];
   writes = inl
-      (record { learnt = heard w7 1 2 3; looks = inr ((λ h. omega (arith, h.came_back)), refl); waiting_reply = []; tries = (refl, refl); replied = refl });
+      (other_keeps, record { learnt = heard w7 1 2 3; looks = inr ((λ h. omega (arith, h.came_back)), refl); waiting_reply = []; tries = (refl, refl); replied = refl });
   passes = λ giver is same. absurd cc;
   handled = inr refl;
   new_is = refl;
@@ -147,6 +150,7 @@ does_9 = record {
   may = tt;
   after = record { relay = sent_relay (w8.seen.relays 1); waiting = None };
   outs = sent_outs (sent_relay (w8.seen.relays 1));
+  bounds = [];
   writes = record {
     asked = sent_relay (w8.seen.relays 1);
     first = sent_outs (sent_relay (w8.seen.relays 1));
@@ -213,8 +217,9 @@ does_10 =
           };
       after = heard_root w9 1 (pos 5 ∷ pos 5 ∷ negsuc 2 ∷ []);
       outs = [];
-      writes =
-          inl (record { looks = inr ((λ h. omega (arith, h.came_back)), refl); replied = refl });
+      bounds = [];
+  writes =
+          inl (relay_keeps, record { looks = inr ((λ h. omega (arith, h.came_back)), refl); replied = refl });
       handled = inr refl;
       new_is = refl;
     }
@@ -227,6 +232,7 @@ does_11 = record {
   may = tt;
   after = cleared_root w10.seen.root;
   outs = cleared_outs (cleared_root w10.seen.root);
+  bounds = [];
   writes = inl (
     1,
     clearing_step (aggregate_of w10.seen.root.auction.cache),

@@ -5,8 +5,10 @@
 //! restart stands before the bid or the prices that must not be sent without it, and after the prices that a relay passes down:
 //! a carrier that handles the frames in their order stores and sends in the right order.
 //!
-//! The definitions stand in `specs/`: `Receipts`, `RelayAnswers`, `RootAnswers` and `DeviceAnswers` (what is answered to each
-//! frame), `Bounds` (what a child may bid), `Limits` (the most bytes of the answers to a frame). The frames are this project's own profile.
+//! The definitions stand in `specs/`: `Outputs` (a frame that a node writes, and its bytes), `RelayWrites`, `RootWrites` and
+//! `DeviceWrites` (what a node after Hello answers to each frame), `RelayAnswers`, `RootAnswers` and `DeviceAnswers` (the same of the
+//! services, from the first frame on, and in bytes), `Bounds` (what a child may bid), `Limits` (the most bytes of the answers to a
+//! frame). The frames are this project's own profile.
 #![tactic(auto)]
 
 mod bounds;
