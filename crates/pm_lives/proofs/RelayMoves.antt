@@ -27,7 +27,7 @@ use Rattle.pm_base.specs.declared.limits.Limits.{Limits}
 use Rattle.pm_relay_net.specs.RelayIs.{LimitsPassBy, GivesLimits, told_demand, update_of, messages_of, prices_down}
 use Rattle.pm_frames.specs.Stored.{StoredRelay}
 use Rattle.pm_services.specs.Receipts.{sender_place}
-use Rattle.pm_services.specs.RelayAnswers as answers
+use Rattle.pm_services.specs.RelayWrites as answers
 use Rattle.pm_basis.specs.Prices.{BasisValue}
 use Rattle.pm_frames.specs.Answers.{too_much_bytes, other_basis_bytes, out_of_limits_bytes}
 use Rattle.pm_services.specs.RelaySetups.{RelaySetup}

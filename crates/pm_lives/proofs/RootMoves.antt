@@ -310,7 +310,7 @@ module _ (Lets : ℕ → ℕ → Type 0) (lists : Lists) (p : Pricing) (numberin
     bounded_follows : (sender number : ℕ) (demand : List ℤ) → CarriesBid lists p numbering sys 0 sender number (Some demand) →
         (bounds : List Limits) → WritesRootBounded bounds sys.root sender number demand after reply → RootFollows lists p numbering Lets sys after reply
     bounded_follows sender number demand carries bounds (inl did) = bid_follows sender number (Some demand) carries did.1
-    bounded_follows sender number demand carries bounds (inr did) = says_follows (too_much_bytes sender number) did.1.0 did.1.1
+    bounded_follows sender number demand carries bounds (inr did) = says_follows (too_much_bytes sender number) did.1 did.2
 
     silent_follows : after ≡ sys.root → reply ≡ [] → RootFollows lists p numbering Lets sys after reply
     silent_follows same none =

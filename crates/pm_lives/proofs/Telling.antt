@@ -10,7 +10,7 @@ use Rattle.pm_net.specs.Agents.{Setpoint, DeviceAgent, may_offer, after_offer, a
 use Rattle.pm_net.specs.Agents as agents
 use Rattle.pm_net.proofs.Messages.{either}
 use Rattle.pm_net_plan.specs.Places.{Numbering}
-use Rattle.pm_control.specs.Control.{after_old}
+use Rattle.pm_control.specs.Control.{after_old, newest_demand}
 use Rattle.pm_basis.specs.Prices.{BasisValue}
 use Rattle.pm_frames.specs.Answers.{window_full_bytes, out_of_numbers_bytes}
 use Rattle.pm_frames.specs.declared.stored.StoredAgent.{StoredAgent}

@@ -1,5 +1,6 @@
 -- How frames come from node to node, and how lives begin.
 use Rattle.std.specs.Prelude.{◌≡◌, ℕ, if◌then◌else◌, List, [], Option, Some, None}
+use Rattle.pm_base.specs.declared.limits.Limits.{Limits}
 use Rattle.pm_net.specs.Messages.{BidMessage, PriceMessage}
 use Rattle.pm_wire.specs.declared.frame.Frame.{Frame}
 use Rattle.pm_wire.specs.declared.frame.Frame.TheVariants.{Hello, Bid, Gone}
