@@ -1,5 +1,5 @@
 -- A process of an auctioneer, frame by frame.
-use Rattle.std.specs.Prelude.{ℕ, List, [], ◌∷◌, ◌++◌, Option, Some, None, ⊤}
+use Rattle.std.specs.Prelude.{◌≡◌, ℕ, List, [], ◌∷◌, ◌++◌, Option, Some, None, ⊤}
 use Rattle.pm_base.specs.declared.limits.Limits.{Limits}
 use Rattle.pm_basis.specs.Prices.{BasisValue}
 use Rattle.pm_relay.specs.Roots.{RootValue, RootComesBack}
