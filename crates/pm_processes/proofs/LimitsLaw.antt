@@ -1,5 +1,5 @@
 -- What the theorem says of the worked history of a relay under limits.
-use Rattle.std.proofs.Common.{◌≡◌, ◌∙◌, sym, ap, subst, ℕ, zero, suc, ◌<◌, ◌≤◌, Bool, true, false, ℤ}
+use Rattle.std.proofs.Common.{◌≡◌, ◌+◌, ◌∙◌, sym, ap, subst, ℕ, zero, suc, ◌<◌, ◌≤◌, Bool, true, false, ℤ}
 use Rattle.std.proofs.Common.{List, [], ◌∷◌}
 use Rattle.std.proofs.Common.{length, take, replicate, Option, Some, refl, inl, inr, arith}
 use Rattle.std.proofs.lemmas.Int.{ints}
@@ -8,7 +8,8 @@ use Rattle.std.specs.List.{Contains}
 use Rattle.pm_base.specs.Limits.{IsWithin, demand_limit}
 use Rattle.pm_base.specs.declared.limits.Limits.{Limits}
 use Rattle.pm_bid.specs.Bids.{demand_at, sum_of, zeros}
-use Rattle.pm_bid.specs.Taken.{CanSay, HasStepWithin, said_between, settled_in}
+use Rattle.pm_bid.specs.Clearing.{clearing_step}
+use Rattle.pm_bid.specs.Taken.{announced, CanSay, HasStepWithin, said_between, settled_in}
 use Rattle.pm_market.specs.Lists.{Lists, parent, is_leaf, is_member, changes, IsNode, IsConcentrator}
 use Rattle.pm_market.specs.State.{update}
 use Rattle.pm_net.specs.Pricing.{Pricing}
@@ -37,6 +38,7 @@ use Rattle.pm_processes.specs.WorkedLimits.{narrow_limits, limits_given, limits_
 use Rattle.pm_processes.specs.WorkedLimits.{LimitsHistorySays, LimitsHistoryKeepsTheLaw}
 use Rattle.pm_processes.proofs.LimitsMarket.{market, around, starts}
 use Rattle.pm_processes.proofs.Said.{same_leaf, same_node}
+use Rattle.pm_processes.proofs.LimitsProcesses.{announced_demand}
 use Rattle.pm_processes.proofs.WorkedLimits.{limits_steps, scene_0, scene_15, new, happens, steps_are, holds_limits}
 
 -- ---- lists over the small tree
@@ -72,6 +74,16 @@ sum_is : (f : ℕ → List ℤ) → f 2 ≡ asked_demand → f 3 ≡ zeros 3 →
 unfolding parent children_to place_in child_in demands_of
 sum_is f two three = ap (λ (l : List ℤ). sum_of 3 (l ∷ f 3 ∷ replicate 254 (zeros 3))) two
     ∙ ap (λ (l : List ℤ). sum_of 3 (asked_demand ∷ l ∷ replicate 254 (zeros 3))) three
+
+-- it is announced as what is taken at step 1, cut by the ceiling
+announced_is : announced (Some narrow_limits) asked_demand ≡ announced_demand
+unfolding said_between
+announced_is = refl
+
+-- the sum of the market is what the relay announces
+total_is : (f : ℕ → List ℤ) → f 1 ≡ announced_demand → sum_of 3 (demands_of 3 small_places 0 f) ≡ announced_demand
+unfolding parent children_to place_in child_in demands_of
+total_is f one = ap (λ (l : List ℤ). sum_of 3 (l ∷ replicate 255 (zeros 3))) one
 
 one_process : BeginsOnce 2 limits_steps
 one_process = inl (
@@ -219,13 +231,23 @@ module _ (root : RootValue) (relays : ℕ → RelayValue) where
       ∙ has.market.absent 3 2 giver leaving.absent ∙ ap zeros has.same_steps in
       let sum : sum_of_offers p counted 1 ≡ asked_demand = has.market.by_places 1 offers
       ∙ ap (λ (n : ℕ). sum_of n (demands_of n small_places 1 offers)) has.same_steps ∙ sum_is offers asks none in
-      let can : SaysBelow lists p counted 1 = λ c inner below. each_node
+      let can : (x : ℕ) → SaysBelow lists p counted x = λ x c inner below. each_node
       (λ c. is_leaf lists c ≡ false → CanSay (p.limits c counted) (p.local counted c) (sum_of_offers p counted c))
       (λ e. subst (λ (l : List ℤ). CanSay (p.limits 1 counted) (p.local counted 1) l) (sym sum)
       (subst (λ (o : Option Limits). CanSay o (p.local counted 1) asked_demand) (sym limits_are)
       (within_asked (settled_in narrow_limits (p.local counted 1) asked_demand))))
       (λ e. absurd (both_ways (is_leaf lists 2) e leaf)) (λ e. absurd (both_ways (is_leaf lists 3) e giver)) c
       (same_node lists small_tree has.parents c (inner.0, inner.1)) inner.2 in
+      let bids : offers 1 ≡ announced_demand = has.market.by_nodes.relay 1 counted conc
+      ∙ ap (λ (o : Option Limits). announced o (sum_of_offers p counted 1)) limits_are ∙ ap (announced (Some narrow_limits)) sum ∙ announced_is in
+      let total : sum_of_offers p counted 0 ≡ announced_demand = has.market.by_places 0 offers
+      ∙ ap (λ (n : ℕ). sum_of n (demands_of n small_places 0 offers)) has.same_steps ∙ total_is offers bids in
+      let top : parent lists 1 ≡ 0 = over_tree (λ (l : Lists). parent l 1 ≡ 0) (λ l. refl) lists has.parents has.leaves in
+      let step : p.local counted 1 ≡ 0 = has.market.by_nodes.root 1 counted (node 1 (omega arith, omega arith)) top ∙ ap clearing_step total in
+      let before : clearing_step (sum_of_offers p counted 0) + 1 < p.steps =
+      let first_step : clearing_step (sum_of_offers p counted 0) ≡ 0 = ap clearing_step total in
+      let three_steps : p.steps ≡ 3 = has.same_steps in
+      omega (arith, first_step, three_steps) in
       record {
         lists = lists;
         pricing = p;
@@ -237,10 +259,19 @@ module _ (root : RootValue) (relays : ℕ → RelayValue) where
         relay_price = law.law.prices 1 0 (node 1 (omega arith, omega arith)) (omega arith);
         device_price = law.law.prices 2 0 (node 2 (omega arith, omega arith)) (omega arith);
         right = law.law.setpoints 2 settled_setpoint leaf (0, omega arith, refl);
+        counts = (law.current settled).counted 2 leaf member;
+        newest = (law.current settled).held 2 leaf member;
         settles = sym told.step ∙ sym (ap (λ (s : Setpoint). s.step) (only_setpoint settled_setpoint told.setpoint told.given));
         told = (law.taken taken).told 2 leaf member one_process;
-        flows = λ power all. law.flows.within 1 power narrow_limits conc all can limits_are
-            (subst (λ (l : List ℤ). HasStepWithin narrow_limits l) (sym sum) step_within);
+        flows = λ power all. (
+          law.flows.relays 1 power conc all (can 1) ∙ ap (λ (l : List ℤ). demand_at l (p.local counted 1)) bids ∙ ap (demand_at announced_demand) step,
+          law.flows.within 1 power narrow_limits conc all (can 1) limits_are
+              (subst (λ (l : List ℤ). HasStepWithin narrow_limits l) (sym sum) step_within),
+        );
+        balances = λ power all. (
+          law.flows.root power all (can 0) ∙ ap (λ (l : List ℤ). demand_at l (clearing_step l)) total,
+          law.flows.balanced power all (can 0) before,
+        );
       }
 
   -- the worked history keeps the law, by the theorem, and so says this

@@ -1,20 +1,20 @@
 -- The market of the worked history of a relay under limits.
-use Rattle.std.proofs.Common.{◌≡◌, ◌∙◌, ◌⊎◌, sym, ap, subst, ℕ, eqb, cond, Some, refl, inl, inr, arith}
+use Rattle.std.proofs.Common.{◌≡◌, ◌∙◌, ◌⊎◌, sym, ap, subst, ℕ, eqb, cond, replicate, Some, refl, inl, inr, arith}
 use Rattle.std.proofs.lemmas.Bool.{cases_eq, cond-false, ne_eqb}
 use Rattle.pm_base.specs.Cuts.{Cut}
-use Rattle.pm_base.specs.Limits.{AreLimits}
+use Rattle.pm_base.specs.Limits.{AreLimits, most_nodes}
 use Rattle.pm_base.specs.declared.limits.Limits.{Limits}
 use Rattle.pm_market.specs.Lists.{parent, is_leaf}
 use Rattle.pm_net.specs.Pricing.{IsChildDevice, HasOneLimit}
 use Rattle.pm_net.proofs.Messages.{either}
-use Rattle.pm_relay.specs.Relays.{AreRelayLimits}
+use Rattle.pm_relay.specs.Relays.{AreRelayLimits, limits_places}
 use Rattle.pm_system.specs.Given.{IsTreeMarket, IsStarted}
 use Rattle.pm_system.specs.Worked.{small_tree, small_places, small_limits, small_device_demand}
 use Rattle.pm_system.proofs.Given.{is_market, some_same}
 use Rattle.pm_system.proofs.Worked.{s0, started}
 use Rattle.pm_system.proofs.WorkedGiven.{given}
 use Rattle.pm_processes.specs.WorkedLimits.{narrow_limits, limits_given, limits_pricing}
-use Rattle.pm_processes.proofs.LimitsRelay.{are_narrow}
+use Rattle.pm_processes.proofs.LimitsRelay.{are_narrow, came_back}
 use Rattle.pm_processes.proofs.WorkedLimits.{first_limits}
 
 -- what holds of both limits holds of those under each number
@@ -61,20 +61,7 @@ starts = record {
   relays = λ c conc. (
     small_limits,
     ap (λ (l : Limits). Some l) (first_limits c),
-    record {
-      gathered =
-          record {
-            cache = refl;
-            window = record { children = refl; steps = refl; answered = refl; last = refl; opening = refl };
-            limits = refl;
-            announced = refl;
-          };
-      base = refl;
-      answered = refl;
-      index = refl;
-      recorded = refl;
-      made_under = refl;
-    },
+    came_back 0 0 0 (replicate most_nodes 0) small_limits (replicate limits_places small_limits) refl,
   );
   agents = started.agents;
   setpoints = started.setpoints;

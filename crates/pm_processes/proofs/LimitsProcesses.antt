@@ -129,7 +129,7 @@ giver_process = record {
 
 -- ---- the auctioneer
 
-abbrev announced_demand : List ℤ
+abbrev pub announced_demand : List ℤ
 announced_demand = negsuc 1 ∷ negsuc 1 ∷ negsuc 2 ∷ []
 
 abbrev root_heard : RootValue

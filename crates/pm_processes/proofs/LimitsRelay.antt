@@ -1,17 +1,19 @@
 -- The worked history of a relay under limits: the two processes of the relay, frame by frame.
-use Rattle.std.proofs.Common.{◌≡◌, ◌∙◌, sym, ap, ℕ, zero, suc, ◌<◌, ◌≤◌, ◌^◌}
+use Rattle.std.proofs.Common.{◌≡◌, ◌∙◌, sym, ap, ℕ, zero, suc, ◌<◌, ◌≤◌, ◌^◌, ◌%◌}
 use Rattle.std.proofs.Common.{List, [], ◌∷◌, replicate}
 use Rattle.std.proofs.Common.{Option, Some, None, refl, inl, inr, arith}
 use Rattle.std.proofs.lemmas.Int.{ints}
-use Rattle.std.specs.Prelude.{unwrap_or}
+use Rattle.std.specs.Prelude.{unwrap_or, slice_index_or}
 use Rattle.std.specs.List.{AllByRecursion}
 use Rattle.pm_base.specs.Limits.{most_nodes}
+use Rattle.pm_base.specs.declared.limits.Limits.{Limits}
 use Rattle.pm_bid.specs.Taken.{said_between}
 use Rattle.pm_bid.specs.declared.head.BidHead.{BidHead}
 use Rattle.pm_session.specs.Windows.{record_of}
 use Rattle.pm_session.specs.declared.price.PriceUpdate.{PriceUpdate}
 use Rattle.pm_relay.specs.Numbers.{head_number}
-use Rattle.pm_relay.specs.Relays.{RelayValue, AreRelayLimits, BidSent, limits_places, limits_of_number, with_child_bid, with_new_limits}
+use Rattle.pm_relay.specs.Relays.{RelayComesBack, no_limits, RelayValue, AreRelayLimits}
+use Rattle.pm_relay.specs.Relays.{BidSent, limits_places, limits_of_number, with_child_bid, with_new_limits}
 use Rattle.pm_relay.specs.declared.outcome.PriceOutcome.TheVariants.{PassedOn}
 use Rattle.pm_wire.specs.declared.frame.Frame.TheVariants.{Bid}
 use Rattle.pm_frames.specs.Stored.{StoredRelay}
@@ -29,6 +31,25 @@ use Rattle.pm_processes.specs.RelayProcess.{RelayProcess, RelayExchange}
 use Rattle.pm_processes.specs.WorkedLimits.{narrow_limits, giver_terms, asked_demand, relay_bid_begun, relay_bid_rest}
 use Rattle.pm_processes.specs.WorkedLimits.{relay_took, relay_wrote, next_took, next_wrote}
 use Rattle.pm_processes.proofs.LimitsProcesses.{asked_fits}
+
+-- a relay comes back with the limits of the arguments, and with what its numbers were made under
+pub came_back : (last number index' : ℕ) (numbers : List ℕ) (under : Limits) (made : List Limits) →
+    slice_index_or made (last % limits_places) no_limits ≡ under →
+    RelayComesBack 3 small_limits last number index' numbers under (record (relay_back last number index' numbers) { made_under = made })
+came_back last number index' numbers under made is = record {
+  gathered =
+      record {
+        cache = refl;
+        window = record { children = refl; steps = refl; answered = refl; last = refl; opening = refl };
+        limits = refl;
+        announced = refl;
+      };
+  base = refl;
+  answered = refl;
+  index = refl;
+  recorded = refl;
+  made_under = ap (λ (l : Limits). Some l) is;
+}
 
 -- ---- the first one
 
@@ -156,20 +177,7 @@ relay_process = record {
     spelled = refl;
   };
   relay = relay_new;
-  back = record {
-    gathered =
-        record {
-          cache = refl;
-          window = record { children = refl; steps = refl; answered = refl; last = refl; opening = refl };
-          limits = refl;
-          announced = refl;
-        };
-    base = refl;
-    answered = refl;
-    index = refl;
-    recorded = refl;
-    made_under = refl;
-  };
+  back = came_back 0 0 0 (replicate most_nodes 0) small_limits (replicate limits_places small_limits) refl;
   held = alone relay_new;
   outs = [];
   learns = inl (refl, (refl, refl));
@@ -361,20 +369,7 @@ next_process = record {
     spelled = refl;
   };
   relay = relay_again;
-  back = record {
-    gathered =
-        record {
-          cache = refl;
-          window = record { children = refl; steps = refl; answered = refl; last = refl; opening = refl };
-          limits = refl;
-          announced = refl;
-        };
-    base = refl;
-    answered = refl;
-    index = refl;
-    recorded = refl;
-    made_under = refl;
-  };
+  back = came_back 1 0 0 numbers_noted narrow_limits (replicate limits_places narrow_limits) refl;
   held = alone given_again;
   outs = [];
   learns = does_learn;

@@ -1,13 +1,16 @@
 -- The worked history, event by event.
-use Rattle.std.proofs.Common.{◌≡◌, ℕ, ℤ, pos, negsuc, ◌+◌, ◌-◌, List, [], ◌∷◌, ◌++◌, length, take, true, false}
-use Rattle.std.proofs.Common.{Option, Some, None, refl, inl, inr, arith}
+use Rattle.std.proofs.Common.{◌≡◌, sym, ℕ, ℤ, pos, negsuc, ◌-◌, List, [], ◌∷◌, length, take, true}
+use Rattle.std.proofs.Common.{Some, None, refl, inl, inr, arith}
 use Rattle.std.proofs.lemmas.Int.{ints}
 use Rattle.std.specs.Prelude.{FitsSigned}
 use Rattle.std.specs.Int.{w32}
 use Rattle.std.specs.List.{AllByRecursion}
 use Rattle.pm_bid.specs.Taken.{said_between}
 use Rattle.pm_market.specs.Lists.{parent, is_leaf, is_member, changes}
-use Rattle.pm_market.specs.State.{update}
+use Rattle.pm_market.specs.State.{update, no_changes}
+use Rattle.pm_net.specs.Pricing.{Pricing}
+use Rattle.pm_base.specs.declared.limits.Limits.{Limits}
+use Rattle.pm_frames.specs.declared.terms.RelayTerms.{RelayTerms}
 use Rattle.pm_net.specs.Agents.{DeviceAgent}
 use Rattle.pm_net_plan.specs.Places.{children_to, place_in}
 use Rattle.pm_control.specs.Control.{agent_stored}
@@ -18,13 +21,15 @@ use Rattle.pm_frames.specs.declared.device.DeviceFrame.TheVariants.{Offer}
 use Rattle.pm_frames.specs.declared.form.OfferForm.TheVariants.{Array}
 use Rattle.pm_system.specs.System.{with_agent}
 use Rattle.pm_system.specs.Given.{IsDemand}
-use Rattle.pm_system.specs.Worked.{small_tree, small_places, small_pricing}
+use Rattle.pm_system.specs.Worked.{small_tree, small_places, small_limits, small_pricing}
+use Rattle.pm_system.proofs.Given.{some_same}
 use Rattle.pm_services.specs.DeviceWrites.{device_outs, agent_after, stored_agent}
 use Rattle.pm_lives.specs.Lives.{handed_out, stored_last, restart_outs, no_agent_stored}
 use Rattle.pm_lives.specs.WorkedLives.{small_basis}
 use Rattle.pm_processes.specs.DeviceProcess.{DeviceProcess, DeviceExchange}
-use Rattle.pm_processes.specs.History.{Scene, DeviceBegins, DeviceGoesOn, Happens1}
-use Rattle.pm_processes.specs.Worked.{took_first, wrote_first, took_second, wrote_second, bid_begun, bid_rest, small_scene, HistoryGoesOn}
+use Rattle.pm_processes.specs.History.{Scene, DeviceBegins, DeviceGoesOn, Happens1, IsNewScene}
+use Rattle.pm_processes.specs.Worked.{took_first, wrote_first, took_second, wrote_second, bid_begun, bid_rest, new_scene, no_terms, small_scene}
+use Rattle.pm_processes.specs.Worked.{HistoryGoesOn}
 use Rattle.pm_processes.proofs.Offers.{is_demand}
 
 abbrev demand : List ℤ
@@ -102,6 +107,24 @@ process_second = record {
   };
 }
 
+-- of a new scene nothing runs, is stored or was handed out
+pub is_new : (p : Pricing) (terms : ℕ → RelayTerms) (root : RootValue) (relays : ℕ → RelayValue) → p.steps ≡ 3 →
+    ((c : ℕ) (l : Limits) → p.limits c no_changes ≡ Some l → (terms c).limits ≡ l) → IsNewScene p small_places (new_scene terms root relays)
+is_new p terms root relays steps limits = record {
+  new_world = record {
+    up = λ y. refl;
+    limits = limits;
+    relay_kept = λ c. refl;
+    root_kept = refl;
+    agent_kept = λ d. refl;
+    bids_sent = λ x. refl;
+    prices_sent = λ x. refl;
+    setpoints = λ d. refl;
+    let_go = λ d. refl;
+  };
+  steps = sym steps;
+}
+
 module _ (root : RootValue) (relays : ℕ → RelayValue) where
   abbrev scene_0 : Scene
   scene_0 = small_scene root relays
@@ -159,21 +182,7 @@ module _ (root : RootValue) (relays : ℕ → RelayValue) where
   pub goes_on : HistoryGoesOn (small_scene root relays)
   unfolding parent is_leaf is_member changes update place_in children_to said_between
   goes_on = record {
-    none = record {
-      new_world = record {
-        up = λ y. refl;
-        limits = λ c limits is. Rattle.std.proofs.Common.ap (λ (o : Option Rattle.pm_base.specs.declared.limits.Limits.Limits).
-            Rattle.std.specs.Prelude.unwrap_or o Rattle.pm_system.specs.Worked.small_limits) is;
-        relay_kept = λ c. refl;
-        root_kept = refl;
-        agent_kept = λ d. refl;
-        bids_sent = λ x. refl;
-        prices_sent = λ x. refl;
-        setpoints = λ d. refl;
-        let_go = λ d. refl;
-      };
-      steps = refl;
-    };
+    none = is_new small_pricing no_terms root relays refl (λ c l is. some_same small_limits l is);
     last = scene_3;
     happen = (scene_1, happens_1, (scene_2, happens_2, (scene_3, happens_3, refl)));
     bid = refl;

@@ -24,9 +24,11 @@ use Rattle.pm_processes.specs.RootProcess.{RootExchange}
 use Rattle.pm_processes.specs.DeviceProcess.{DeviceExchange}
 use Rattle.pm_processes.specs.History.{Scene, RelayBegins, RelayGoesOn, RootBegins, RootGoesOn, DeviceBegins, DeviceGoesOn}
 use Rattle.pm_processes.specs.History.{Happens1, Happen, life_steps, IsNewScene}
-use Rattle.pm_processes.specs.WorkedLimits.{narrow_limits, limits_given, limits_pricing, limits_scene, limits_events, HistoryHoldsLimits}
+use Rattle.pm_processes.specs.WorkedLimits.{narrow_limits, limits_given, limits_pricing, giver_terms, limits_scene, limits_events, HistoryHoldsLimits}
 use Rattle.pm_processes.specs.WorkedLimits.{giver_took, giver_wrote, device_took, device_wrote, relay_took, relay_wrote, next_took, next_wrote}
 use Rattle.pm_processes.specs.WorkedLimits.{root_took, root_wrote}
+use Rattle.pm_system.proofs.Given.{some_same}
+use Rattle.pm_processes.proofs.Worked.{is_new}
 use Rattle.pm_processes.proofs.LimitsProcesses.{device_process, giver_process, root_process, offers, settles, leaves, root_hears, root_clears}
 use Rattle.pm_processes.proofs.LimitsRelay.{relay_process, next_process, relay_new, given_again, hears, is_given, sends, sends_again, passes_down}
 
@@ -399,20 +401,7 @@ module _ (root : RootValue) (relays : ℕ → RelayValue) where
 
   -- nothing runs and nothing is stored at first
   pub new : IsNewScene limits_pricing small_places scene_0
-  new = record {
-    new_world = record {
-      up = λ y. refl;
-      limits = λ c limits is. sym (first_limits c) ∙ ap (λ (o : Option Limits). unwrap_or o small_limits) is;
-      relay_kept = λ c. refl;
-      root_kept = refl;
-      agent_kept = λ d. refl;
-      bids_sent = λ x. refl;
-      prices_sent = λ x. refl;
-      setpoints = λ d. refl;
-      let_go = λ d. refl;
-    };
-    steps = refl;
-  }
+  new = is_new limits_pricing giver_terms root relays refl (λ c l is. sym (first_limits c) ∙ some_same (limits_given c 0) l is)
 
   -- the bytes are those of such a history
   pub happens : Happen small_tree limits_pricing small_places scene_0 limits_events scene_15

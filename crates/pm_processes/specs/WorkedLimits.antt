@@ -1,6 +1,7 @@
 -- A worked history, by its bytes: a relay under limits that a device gives is killed within its bid. Its next process keeps the limits,
 -- sends the bid, and settles by them for another step than the price that comes.
-use Rattle.std.specs.Prelude.{◌≡◌, ℕ, ◌==◌, if◌then◌else◌, true, false, pos, negsuc, ℤ, List, [], ◌∷◌, ◌++◌, replicate, Some}
+use Rattle.std.specs.Prelude.{◌≡◌, ℕ, ◌==◌, if◌then◌else◌, true, false, pos, negsuc, ℤ, ◌≤ℤ◌, List, [], ◌∷◌, ◌++◌}
+use Rattle.std.specs.Prelude.{replicate, Some}
 use Rattle.pm_base.specs.declared.limits.Limits.{Limits}
 use Rattle.pm_bid.specs.Taken.{IsWithinLimits}
 use Rattle.pm_market.specs.Lists.{Lists, is_member}
@@ -19,7 +20,7 @@ use Rattle.pm_frames.specs.declared.terms.RelayTerms.{RelayTerms}
 use Rattle.pm_frames.specs.Kinds.{send_kind}
 use Rattle.pm_system.specs.Given.{placed_pricing}
 use Rattle.pm_system.specs.Flow.{TakeWhatWasTold}
-use Rattle.pm_system.specs.Settled.{numbers_counted, WasTold}
+use Rattle.pm_system.specs.Settled.{numbers_counted, HoldsNewestBid, WasTold}
 use Rattle.pm_system.specs.Worked.{small_tree, small_places, small_limits, small_device_demand}
 use Rattle.pm_lives.specs.Lives.{World}
 use Rattle.pm_processes.specs.History.{Scene, HistoryEvent, RelayBegins, RelayGoesOn, RootBegins, RootGoesOn}
@@ -172,8 +173,8 @@ pub record HistoryHoldsLimits (first : Scene) : Type 0 where
 
 -- By the law that the history keeps, and by nothing else, there are lists and a market over the tree, of which this is said. Device 2 offered
 -- what its control asked for, and device 3 is no member. All prices are of one legal journal, and the setpoint is right in it. Over
--- all bids that count device 2 settles for step 1, and was told so. If both devices take what they were told, the relay is within the
--- limits that device 3 gave.
+-- all bids that count device 2 settles for step 1, holds a price of its newest bid, and was told so. If both devices take what they were
+-- told, that is -2 watts, as the relay announced: within the limits that device 3 gave, and not above 0 for the market.
 pub record LimitsHistorySays (last : World) : Type 0 where
   pub lists : Lists
   pub pricing : Pricing
@@ -185,10 +186,14 @@ pub record LimitsHistorySays (last : World) : Type 0 where
   pub relay_price : IsItsPrice lists pricing (after lists journal) 1 (price_message 1 1 0)
   pub device_price : IsItsPrice lists pricing (after lists journal) 2 (price_message 2 1 1)
   pub right : IsRight lists pricing (after lists journal) 2 settled_setpoint
+  pub counts : numbers_counted lists small_places last.seen 2 ≡ (last.seen.agents 2).number
+  pub newest : HoldsNewestBid pricing last.seen (numbers_counted lists small_places last.seen) 2
   pub settles : pricing.local (numbers_counted lists small_places last.seen) 2 ≡ 1
   pub told : WasTold pricing last.seen (numbers_counted lists small_places last.seen) 2
   pub flows : (power : ℕ → ℤ) → TakeWhatWasTold lists pricing (numbers_counted lists small_places last.seen) last.seen 1 power →
-      IsWithinLimits narrow_limits (sum_on lists 1 power)
+      (sum_on lists 1 power ≡ negsuc 1) × IsWithinLimits narrow_limits (sum_on lists 1 power)
+  pub balances : (power : ℕ → ℤ) → TakeWhatWasTold lists pricing (numbers_counted lists small_places last.seen) last.seen 0 power →
+      (sum_on lists 0 power ≡ negsuc 1) × (sum_on lists 0 power ≤ℤ pos 0)
 
 pub record LimitsHistoryKeepsTheLaw (first : Scene) : Type 0 where
   pub holds : HistoryHoldsLimits first
