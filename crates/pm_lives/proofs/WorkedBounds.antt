@@ -5,10 +5,12 @@ use Rattle.pm_base.specs.Limits.{demand_limit}
 use Rattle.pm_bid.specs.Limited.{NeverBind}
 use Rattle.pm_services.specs.Bounds.{widest}
 
-abbrev Fits : ℤ → Type 0
+-- what the field of a power has
+abbrev pub Fits : ℤ → Type 0
 Fits z = (neg_ℤ (pos demand_limit) ≤ℤ z) × (z ≤ℤ pos demand_limit)
 
-three_keep : (a b c : ℤ) → Fits a → Fits b → Fits c → NeverBind widest (a ∷ b ∷ c ∷ [])
+-- three powers that a bid may have
+pub three_keep : (a b c : ℤ) → Fits a → Fits b → Fits c → NeverBind widest (a ∷ b ∷ c ∷ [])
 three_keep a b c x y z zero inside = x
 three_keep a b c x y z (suc zero) inside = y
 three_keep a b c x y z (suc (suc zero)) inside = z

@@ -8,6 +8,7 @@ use Rattle.std.specs.Int.{w32}
 use Rattle.std.specs.List.{AllByRecursion}
 use Rattle.pm_base.specs.Limits.{most_nodes}
 use Rattle.pm_bid.specs.Clearing.{clearing_step}
+use Rattle.pm_bid.specs.Limited.{NeverBind}
 use Rattle.pm_cache.specs.Cache.{aggregate_of}
 use Rattle.pm_net.specs.Agents.{DeviceAgent}
 use Rattle.pm_control.specs.Control.{agent_stored}
@@ -17,13 +18,14 @@ use Rattle.pm_frames.specs.declared.parent.ParentFrame.TheVariants.{Price}
 use Rattle.pm_frames.specs.declared.root.RootFrame.TheVariants as root_frame
 use Rattle.pm_frames.specs.declared.device.DeviceFrame.TheVariants as device_frame
 use Rattle.pm_frames.specs.declared.form.OfferForm.TheVariants.{Array}
-use Rattle.pm_services.specs.RootAnswers.{stored_root}
+use Rattle.pm_services.specs.Bounds.{widest, no_bounds}
 use Rattle.pm_system.specs.Given.{IsDemand}
 use Rattle.pm_system.proofs.Worked.{reaches, reached, noted, new_root, cleared_root}
 use Rattle.pm_services.specs.Outputs.{Keeps}
-use Rattle.pm_services.specs.RootWrites.{clearing_outs}
+use Rattle.pm_services.specs.RootWrites.{stored_root, clearing_outs}
 use Rattle.pm_services.specs.DeviceWrites.{device_outs, agent_after}
 use Rattle.pm_lives.specs.WorkedLives.{small_basis}
+use Rattle.pm_lives.proofs.WorkedBounds.{three_keep}
 use Rattle.pm_processes.specs.RootProcess.{RootProcess, RootExchange}
 use Rattle.pm_processes.specs.DeviceProcess.{DeviceProcess, DeviceExchange}
 use Rattle.pm_processes.specs.WorkedLimits.{limits_pricing, asked_demand}
@@ -51,14 +53,14 @@ abbrev pub offers : DeviceExchange
 offers = record {
   frame = device_frame.Offer Array asked_demand;
   after = agent_offered;
-  outs = device_outs limits_pricing small_basis agent_new (device_frame.Offer Array asked_demand);
+  outs = device_outs limits_pricing.steps small_basis agent_new (device_frame.Offer Array asked_demand);
 }
 
 abbrev pub settles : DeviceExchange
 settles = record {
   frame = device_frame.Parent (Price 1 2 1 1 small_basis);
   after = agent_after agent_offered (device_frame.Parent (Price 1 2 1 1 small_basis));
-  outs = device_outs limits_pricing small_basis agent_offered (device_frame.Parent (Price 1 2 1 1 small_basis));
+  outs = device_outs limits_pricing.steps small_basis agent_offered (device_frame.Parent (Price 1 2 1 1 small_basis));
 }
 
 unfoldable pub device_process : DeviceProcess limits_pricing 1 device_took device_wrote
@@ -100,7 +102,7 @@ abbrev pub leaves : DeviceExchange
 leaves = record {
   frame = device_frame.Leave;
   after = agent_after agent_new device_frame.Leave;
-  outs = device_outs limits_pricing small_basis agent_new device_frame.Leave;
+  outs = device_outs limits_pricing.steps small_basis agent_new device_frame.Leave;
 }
 
 unfoldable pub giver_process : DeviceProcess limits_pricing 2 giver_took giver_wrote
@@ -132,6 +134,12 @@ giver_process = record {
 abbrev pub announced_demand : List ℤ
 announced_demand = negsuc 1 ∷ negsuc 1 ∷ negsuc 2 ∷ []
 
+-- they are within the bounds of any bid
+announced_keeps : NeverBind widest announced_demand
+announced_keeps =
+    three_keep (negsuc 1) (negsuc 1) (negsuc 2) (omega (arith, ints), omega (arith, ints)) (omega (arith, ints), omega (arith, ints))
+    (omega (arith, ints), omega (arith, ints))
+
 abbrev root_heard : RootValue
 root_heard = with_root_bid new_root 0 1 (Some announced_demand)
 
@@ -139,11 +147,12 @@ abbrev root_cleared : RootValue
 root_cleared = cleared_root root_heard
 
 abbrev pub root_hears : RootExchange
-root_hears = record { frame = root_frame.Market (Bid 1 1 announced_demand); after = root_heard; outs = [] }
+root_hears = record { frame = root_frame.Market (Bid 1 1 announced_demand); bounds = no_bounds; after = root_heard; outs = [] }
 
 abbrev pub root_clears : RootExchange
 root_clears = record {
   frame = root_frame.Market Clear;
+  bounds = no_bounds;
   after = root_cleared;
   outs = Keeps (stored_root small_basis root_cleared) ∷ clearing_outs root_cleared;
 }
@@ -182,9 +191,10 @@ root_process = record {
   root = new_root;
   back = record { auction = refl; base = refl; recorded = refl };
   answers = (
-    inl (record { looks = inr ((λ h. omega (arith, h.came_back)), refl); replied = refl }),
+    inl (announced_keeps, record { looks = inr ((λ h. omega (arith, h.came_back)), refl); replied = refl }),
     (inl (1, clearing_step (aggregate_of root_heard.auction.cache), is_cleared, refl), tt),
   );
+  bounded = (refl, (refl, tt));
   written = record {
     many = 1062;
     cut = record { n = 2; rest = []; held = refl; part = inl refl };

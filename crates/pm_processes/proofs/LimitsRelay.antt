@@ -19,14 +19,15 @@ use Rattle.pm_wire.specs.declared.frame.Frame.TheVariants.{Bid}
 use Rattle.pm_frames.specs.Stored.{StoredRelay}
 use Rattle.pm_frames.specs.declared.parent.ParentFrame.TheVariants.{Price}
 use Rattle.pm_frames.specs.declared.relay.RelayFrame.TheVariants as relay_frame
-use Rattle.pm_services.specs.RelayAnswers.{WaitingRelay, stored_relay}
+use Rattle.pm_services.specs.Bounds.{no_bounds}
 use Rattle.pm_services.specs.RelaySetups.{RelaySetup}
 use Rattle.pm_system.specs.Worked.{small_limits}
 use Rattle.pm_system.proofs.Worked.{reaches, reached, suffices, enough, noted, one_kept, relay_back, sent_relay, rebuilt_relay}
 use Rattle.pm_system.proofs.Worked.{passed_relay}
 use Rattle.pm_services.specs.Outputs.{Keeps}
-use Rattle.pm_services.specs.RelayWrites.{WritesRelay, WritesKept, bid_outs, price_outs}
+use Rattle.pm_services.specs.RelayWrites.{WaitingRelay, WritesRelay, WritesKept, stored_relay, bid_outs, price_outs}
 use Rattle.pm_lives.specs.WorkedLives.{small_basis}
+use Rattle.pm_lives.proofs.WorkedBounds.{then_keeps}
 use Rattle.pm_processes.specs.RelayProcess.{RelayProcess, RelayExchange}
 use Rattle.pm_processes.specs.WorkedLimits.{narrow_limits, giver_terms, asked_demand, relay_bid_begun, relay_bid_rest}
 use Rattle.pm_processes.specs.WorkedLimits.{relay_took, relay_wrote, next_took, next_wrote}
@@ -72,21 +73,21 @@ abbrev sent : RelayValue
 sent = record (sent_relay given) { made_under = small_limits ∷ narrow_limits ∷ [] }
 
 abbrev pub hears : RelayExchange
-hears = record { frame = relay_frame.Child (Bid 1 2 asked_demand); after = alone heard; outs = [] }
+hears = record { frame = relay_frame.Child (Bid 1 2 asked_demand); bounds = no_bounds; after = alone heard; outs = [] }
 
 abbrev pub is_given : RelayExchange
-is_given = record { frame = relay_frame.Limits 2 narrow_limits; after = alone given; outs = [] }
+is_given = record { frame = relay_frame.Limits 2 narrow_limits; bounds = no_bounds; after = alone given; outs = [] }
 
 abbrev pub sends : RelayExchange
-sends = record { frame = relay_frame.Send; after = alone sent; outs = Keeps (stored_relay setup sent) ∷ bid_outs sent }
+sends = record { frame = relay_frame.Send; bounds = no_bounds; after = alone sent; outs = Keeps (stored_relay setup sent) ∷ bid_outs sent }
 
 -- the relay learns the bid
-pub does_hear : WritesRelay setup (alone relay_new) hears.frame hears.after hears.outs
+pub does_hear : WritesRelay setup no_bounds (alone relay_new) hears.frame hears.after hears.outs
 does_hear =
-    inl (record { learnt = heard; looks = inr ((λ h. omega (arith, h.came_back)), refl); waiting_reply = []; tries = (refl, refl); replied = refl })
+    inl (then_keeps, record { learnt = heard; looks = inr ((λ h. omega (arith, h.came_back)), refl); waiting_reply = []; tries = (refl, refl); replied = refl })
 
 -- it learns the limits
-pub does_take_limits : WritesRelay setup hears.after is_given.frame is_given.after is_given.outs
+pub does_take_limits : WritesRelay setup no_bounds hears.after is_given.frame is_given.after is_given.outs
 does_take_limits =
     record { learnt = given; looks = inr ((λ h. omega (arith, h.came_back)), refl); waiting_reply = []; tries = (refl, refl); replied = refl }
 
@@ -128,7 +129,7 @@ is_sent = record {
 }
 
 -- it sends its bid
-pub does_send : WritesRelay setup is_given.after sends.frame sends.after sends.outs
+pub does_send : WritesRelay setup no_bounds is_given.after sends.frame sends.after sends.outs
 does_send = record { asked = sent; first = sends.outs; answers = inl (1, is_sent, refl); waiting_reply = []; tries = (refl, refl); replied = refl }
 
 -- no child that bids is the giver
@@ -182,6 +183,7 @@ relay_process = record {
   outs = [];
   learns = inl (refl, (refl, refl));
   answers = (does_hear, (does_take_limits, (does_send, tt)));
+  bounded = (refl, (refl, (refl, tt)));
   written = record {
     many = 1070;
     cut = record { n = 1; rest = relay_bid_begun; held = refl; part = inr (omega arith, (relay_bid_rest, refl)) };
@@ -228,11 +230,12 @@ abbrev price : PriceUpdate
 price = record { step = 0; number = 1; index = 1 }
 
 abbrev pub sends_again : RelayExchange
-sends_again = record { frame = relay_frame.Child (Bid 1 2 asked_demand); after = alone rebuilt; outs = bid_outs rebuilt }
+sends_again = record { frame = relay_frame.Child (Bid 1 2 asked_demand); bounds = no_bounds; after = alone rebuilt; outs = bid_outs rebuilt }
 
 abbrev pub passes_down : RelayExchange
 passes_down = record {
   frame = relay_frame.Parent (Price 1 1 1 0 small_basis);
+  bounds = no_bounds;
   after = alone passed;
   outs = price_outs setup None passed price PassedOn;
 }
@@ -251,9 +254,9 @@ does_learn = inr (
 )
 
 -- it hears the bid again, and sends its own
-pub does_send_again : WritesRelay setup (alone given_again) sends_again.frame sends_again.after sends_again.outs
+pub does_send_again : WritesRelay setup no_bounds (alone given_again) sends_again.frame sends_again.after sends_again.outs
 unfolding said_between reaches suffices
-does_send_again = inl (record {
+does_send_again = inl (then_keeps, record {
   learnt = rebuilt;
   looks = inl (
     record {
@@ -284,7 +287,7 @@ does_send_again = inl (record {
 })
 
 -- it settles for step 1, and passes that down
-pub does_pass_down : WritesRelay setup sends_again.after passes_down.frame passes_down.after passes_down.outs
+pub does_pass_down : WritesRelay setup no_bounds sends_again.after passes_down.frame passes_down.after passes_down.outs
 unfolding said_between
 does_pass_down = inl (
   refl,
@@ -374,6 +377,7 @@ next_process = record {
   outs = [];
   learns = does_learn;
   answers = (does_send_again, (does_pass_down, tt));
+  bounded = (refl, (refl, tt));
   written = record {
     many = 1107;
     cut = record { n = 3; rest = []; held = refl; part = inl refl };
