@@ -89,6 +89,7 @@ OTHER_MEANINGS = [
     ("pm_frames/proofs/offer/read_point_list/Invariants.antt", "the bytes of points"),
     ("pm_frames/proofs/OneDeviceFrame.antt", "the bytes of frames"),
     ("pm_services/src/waiting_relay.rt", "the bytes of frames"),
+    ("pm_services/proofs/Learning.antt", "the bytes of frames"),
     ("pm_wire/specs/Kinds.antt", "the first bytes of frames and answers"),
     ("pm_wire/src/kinds.rt", "the first bytes of frames and answers"),
     ("pm_net/specs/SmallDevices.antt", "runs written out"),

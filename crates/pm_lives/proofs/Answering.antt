@@ -1,5 +1,6 @@
 -- The bytes of a device's answer, frame by frame: they are those of the answer in any market, however many steps it has.
-use Rattle.std.proofs.Common.{◌≡◌, ◌∙◌, ap, ℕ, ◌+◌, ◌^◌, Bool, true, false, cond, eqb, ltb, ℤ, List, [], ◌∷◌, Option, Some, None, refl, append-nil}
+use Rattle.std.proofs.Common.{◌≡◌, ◌∙◌, ap, ℕ, ◌+◌, ◌^◌, Bool, true, false, cond, eqb, ltb, ℤ, List, [], ◌∷◌}
+use Rattle.std.proofs.Common.{Option, Some, None, refl, append-nil}
 use Rattle.std.proofs.lemmas.Bool.{cond-true, cond-false}
 use Rattle.pm_basis.specs.Prices.{BasisValue}
 use Rattle.pm_net.specs.Messages.{price_message}
@@ -26,14 +27,17 @@ module _ (child' : ℕ) (own : BasisValue) where
   made_same a b number after None = refl
   made_same a b number after (Some demand) = refl
 
-  then_same : (test : Bool) (x y other : List (Output StoredAgent)) → bytes_of x ≡ bytes_of y → bytes_of (cond test x other) ≡ bytes_of (cond test y other)
+  then_same : (test : Bool) (x y other : List (Output StoredAgent)) → bytes_of x ≡ bytes_of y → bytes_of (cond test x other)
+      ≡ bytes_of (cond test y other)
   then_same true x y other same = same
   then_same false x y other same = refl
 
-  else_same : (test : Bool) (x y other : List (Output StoredAgent)) → bytes_of x ≡ bytes_of y → bytes_of (cond test other x) ≡ bytes_of (cond test other y)
+  else_same : (test : Bool) (x y other : List (Output StoredAgent)) → bytes_of x ≡ bytes_of y → bytes_of (cond test other x)
+      ≡ bytes_of (cond test other y)
   else_same true x y other same = refl
   else_same false x y other same = same
 
+  -- what is sent again has the same bytes, however many steps a market has
   pub again_same : (a b number : ℕ) (newest : Option (List ℤ)) → bytes_of (again_outs a number newest) ≡ bytes_of (again_outs b number newest)
   again_same a b number (Some demand) = refl
   again_same a b number None = else_same (eqb number 0) (Up (numbered_bid a number None) ∷ []) (Up (numbered_bid b number None) ∷ []) [] refl
@@ -84,7 +88,7 @@ device_says_other child node (Parent (Price sender number index step basis)) oth
       ap (λ (l : List (Output StoredAgent)). device_bytes child node.basis l)
           (cond-false (same_basis basis node.basis) (told_outs node.basis (after_price node.agent price) price (setpoints_for node.agent price))
           (Says (other_basis_bytes number index) ∷ []) other)
-      ∙ append-nil (other_basis_bytes number index),
+          ∙ append-nil (other_basis_bytes number index),
     )
 device_says_other child node (Parent (Old sender kept)) other = absurd other
 device_says_other child node (Resume stored) other = absurd other

@@ -1,9 +1,8 @@
 -- Frames that come from node to node, and the start of a life.
 use Rattle.std.proofs.Common.{◌≡◌, ◌⊎◌, ◌∙◌, sym, ap, subst, ℕ, ◌+◌, ◌<◌, Bool, true, false, cond, eqb, List, []}
 use Rattle.std.proofs.Common.{◌∷◌, ◌++◌, Option, Some, None, refl, inl, inr, arith, subst₂, get_or, replicate}
-use Rattle.std.proofs.lemmas.Bool.{cond-true, cond-false, ne_eqb, eq-eqb, and_from}
+use Rattle.std.proofs.lemmas.Bool.{cond-true, cond-false, ne_eqb}
 use Rattle.std.proofs.lemmas.List.{get_or-replicate, get_or_past, length-replicate}
-use Rattle.std.proofs.lemmas.Cmp.{int_eq_equiv}
 use Rattle.pm_base.specs.declared.limits.Limits.{Limits}
 use Rattle.pm_market.specs.Lists.{Lists, parent, IsNode}
 use Rattle.pm_net.specs.Pricing.{Pricing}
@@ -33,6 +32,7 @@ use Rattle.pm_base.specs.Limits.{most_nodes}
 use Rattle.pm_session.specs.declared.price.PriceUpdate.{PriceUpdate}
 use Rattle.pm_relay.specs.Numbers.{child_number}
 use Rattle.pm_frames.specs.declared.place.RelayPlace.{RelayPlace}
+use Rattle.pm_services.proofs.DeviceReplies.{itself}
 use Rattle.pm_services.specs.Bounds.{no_bounds}
 use Rattle.pm_services.specs.Receipts.{sender_place}
 use Rattle.pm_services.specs.RelaySetups.{RelaySetup}
@@ -55,15 +55,11 @@ use Rattle.pm_frames.specs.Stored.{StoredRoot, relay_resume_bytes, agent_resume_
 use Rattle.pm_frames.specs.declared.stored.StoredAgent.{StoredAgent}
 use Rattle.pm_services.specs.RootAnswers.{OpenRoot, AnswersRoot, WritesRootNow}
 use Rattle.pm_services.specs.DeviceAnswers.{DeviceServiceValue, OpenDevice, AnswersDevice, device_after, reply_to}
-use Rattle.pm_services.specs.DeviceWrites.{same_basis, device_bytes, numbered_bid, again_outs}
+use Rattle.pm_services.specs.DeviceWrites.{device_bytes, numbered_bid, again_outs}
 use Rattle.pm_system.specs.Calls.{bid_kept}
 use Rattle.pm_lives.specs.Lives.{no_root_stored}
 use Rattle.pm_lives.specs.Carrying.{RootIsGiven, RootIsBack, DeviceIsBack, root_hello, root_resumed, bid_frame, limits_frame, price_frame}
 use Rattle.pm_lives.specs.Carrying.{RelayIsGiven, RelayIsBack, hello, resumed}
-
--- a basis is the same as itself
-itself : (b : BasisValue) → same_basis b b ≡ true
-itself b = and_from _ _ (and_from _ _ (int_eq_equiv.refl b.min) (int_eq_equiv.refl b.max)) (eq-eqb b.steps b.steps refl)
 
 -- a bid has the bytes of its frame
 bytes_by : (g : Bool) (child number : ℕ) (demand : List Rattle.std.proofs.Common.ℤ) →
@@ -255,7 +251,8 @@ root_is_back basis after _ (root_resumed mid reply more stored first then) =
     }
 
 gone_if : (p : Pricing) (basis : BasisValue) (child steps number : ℕ) (test : Bool) →
-    device_bytes child basis (cond test [] (Up (numbered_bid steps number None) ∷ [])) ≡ device_bytes child basis (cond test [] (Up (bid_kept p number None) ∷ []))
+    device_bytes child basis (cond test [] (Up (numbered_bid steps number None) ∷ []))
+    ≡ device_bytes child basis (cond test [] (Up (bid_kept p number None) ∷ []))
 gone_if p basis child steps number true = refl
 gone_if p basis child steps number false = refl
 

@@ -81,7 +81,8 @@ module _ (p : Pricing) (own : BasisValue) where
       (λ e. said_keeps (Rattle.pm_frames.specs.Answers.dropped_bytes price.number price.index) (after_price agent price).number k n
       (is ∙ sym (price_number agent price)))
 
-  offer_keeps : (may room : Bool) (agent after : DeviceAgent) (bid : BidMessage) (k : StoredAgent) (n : ℕ) (full out : List ℕ) → k.number ≡ agent.number →
+  offer_keeps : (may room : Bool) (agent after : DeviceAgent) (bid : BidMessage) (k : StoredAgent) (n : ℕ) (full out : List ℕ) → k.number
+      ≡ agent.number →
       HandledSome n (cond may (cond room (made_outs own after bid) (Says out ∷ [])) (Says full ∷ [])) →
       (stored_last k (take n (cond may (cond room (made_outs own after bid) (Says out ∷ [])) (Says full ∷ [])))).number ≡
       (cond may (cond room after agent) agent).number

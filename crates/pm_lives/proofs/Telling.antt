@@ -96,7 +96,8 @@ module _ (p : Pricing) (own : BasisValue) where
   answer_told agent (Kind named) n handled = none_silent n
   answer_told agent (Offer form demand) n handled =
       either (λ (l : List (Output StoredAgent)). told_by (take n l) ≡ []) (may_offer agent)
-      (cond (ltb (agent.number + 5) (2 ^ 32)) (made_outs own (after_offer agent demand) (numbered_bid p.steps (agent.number + 2) (Some demand))) (Says out_of_numbers_bytes ∷ [])) (Says window_full_bytes ∷ [])
+      (cond (ltb (agent.number + 5) (2 ^ 32)) (made_outs own (after_offer agent demand) (numbered_bid p.steps (agent.number + 2) (Some demand)))
+      (Says out_of_numbers_bytes ∷ [])) (Says window_full_bytes ∷ [])
       (λ e. either (λ (l : List (Output StoredAgent)). told_by (take n l) ≡ []) (ltb (agent.number + 5) (2 ^ 32))
       (made_outs own (after_offer agent demand) (numbered_bid p.steps (agent.number + 2) (Some demand))) (Says out_of_numbers_bytes ∷ [])
       (λ e. made_silent (after_offer agent demand) (numbered_bid p.steps (agent.number + 2) (Some demand)) n) (λ e. said_silent out_of_numbers_bytes n))
@@ -109,7 +110,8 @@ module _ (p : Pricing) (own : BasisValue) where
   answer_told agent (Parent (Old child kept)) n handled =
       either (λ (l : List (Output StoredAgent)). told_by (take n l) ≡ []) (ltb agent.number (after_old agent kept).number)
       (made_outs own (after_old agent kept) (numbered_bid p.steps (after_old agent kept).number (newest_demand (after_old agent kept)))) []
-      (λ e. made_silent (after_old agent kept) (numbered_bid p.steps (after_old agent kept).number (newest_demand (after_old agent kept))) n) (λ e. none_silent n)
+      (λ e. made_silent (after_old agent kept) (numbered_bid p.steps (after_old agent kept).number (newest_demand (after_old agent kept))) n)
+      (λ e. none_silent n)
   answer_told agent (Resume stored) n handled = again_silent stored.number stored.newest n
 
 -- ---- who was let go

@@ -52,8 +52,16 @@ does_13 = record {
   after = record { relay = heard w12 0 4 2; waiting = None };
   outs = [];
   bounds = [];
-  writes = inl
-      (then_keeps, record { learnt = heard w12 0 4 2; looks = inr ((λ h. omega (arith, h.came_back)), refl); waiting_reply = []; tries = (refl, refl); replied = refl });
+  writes = inl (
+    then_keeps,
+    record {
+      learnt = heard w12 0 4 2;
+      looks = inr ((λ h. omega (arith, h.came_back)), refl);
+      waiting_reply = [];
+      tries = (refl, refl);
+      replied = refl;
+    },
+  );
   passes = λ giver is same. absurd cc;
   handled = inr refl;
   new_is = refl;
@@ -163,15 +171,17 @@ does_16 = record {
   after = record { relay = heard w15 1 2 3; waiting = None };
   outs = [];
   bounds = [];
-  writes = inl
-      (other_keeps, record {
-        learnt = heard w15 1 2 3;
-        looks = inr ((λ h. omega (arith, h.caught_up 0 (omega arith))), refl);
-        waiting_reply = [];
-        tries =
-            (refl, refl);
-        replied = refl;
-      });
+  writes = inl (
+    other_keeps,
+    record {
+      learnt = heard w15 1 2 3;
+      looks = inr ((λ h. omega (arith, h.caught_up 0 (omega arith))), refl);
+      waiting_reply = [];
+      tries =
+          (refl, refl);
+      replied = refl;
+    },
+  );
   passes = λ giver is same. absurd cc;
   handled = inr refl;
   new_is = refl;
@@ -197,35 +207,38 @@ does_17 = record {
   after = record { relay = rebuilt_relay (heard w16 0 4 2); waiting = None };
   outs = bid_outs (rebuilt_relay (heard w16 0 4 2));
   bounds = [];
-  writes = inl (then_keeps, record {
-    learnt = rebuilt_relay (heard w16 0 4 2);
-    looks = inl (
-      record {
-        came_back = omega arith;
-        lost = refl;
-        caught_up = reached (heard w16 0 4 2).recorded (heard w16 0 4 2).gathered.cache.heads refl;
-        nothing_newer = enough (heard w16 0 4 2).recorded (heard w16 0 4 2).gathered.cache.heads refl;
-        changed = λ e. absurd (omega (arith, ap (λ (l : List BidHead). head_number l 0) e));
-      },
-      record {
-        base = refl;
-        last = refl;
-        window = refl;
-        heads = refl;
-        sum = refl;
-        announced = refl;
-        cache = refl;
-        limits = refl;
-        answered = refl;
-        index = refl;
-        recorded = refl;
-        made_under = refl;
-      },
-    );
-    waiting_reply = [];
-    tries = (refl, refl);
-    replied = refl;
-  });
+  writes = inl (
+    then_keeps,
+    record {
+      learnt = rebuilt_relay (heard w16 0 4 2);
+      looks = inl (
+        record {
+          came_back = omega arith;
+          lost = refl;
+          caught_up = reached (heard w16 0 4 2).recorded (heard w16 0 4 2).gathered.cache.heads refl;
+          nothing_newer = enough (heard w16 0 4 2).recorded (heard w16 0 4 2).gathered.cache.heads refl;
+          changed = λ e. absurd (omega (arith, ap (λ (l : List BidHead). head_number l 0) e));
+        },
+        record {
+          base = refl;
+          last = refl;
+          window = refl;
+          heads = refl;
+          sum = refl;
+          announced = refl;
+          cache = refl;
+          limits = refl;
+          answered = refl;
+          index = refl;
+          recorded = refl;
+          made_under = refl;
+        },
+      );
+      waiting_reply = [];
+      tries = (refl, refl);
+      replied = refl;
+    },
+  );
   passes = λ giver is same. absurd cc;
   handled = inl (omega arith);
   new_is = refl;
@@ -253,7 +266,7 @@ does_18 =
       after = heard_root w17 2 (negsuc 0 ∷ negsuc 0 ∷ negsuc 0 ∷ []);
       outs = [];
       bounds = [];
-  writes = inl (again_keeps, record { looks = inr ((λ h. omega (arith, h.came_back)), refl); replied = refl });
+      writes = inl (again_keeps, record { looks = inr ((λ h. omega (arith, h.came_back)), refl); replied = refl });
       handled = inr refl;
       new_is = refl;
     }

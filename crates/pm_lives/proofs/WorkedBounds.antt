@@ -22,6 +22,7 @@ first_keeps =
     three_keep (pos 6) (pos 4) (negsuc 1) (omega (arith, ints), omega (arith, ints)) (omega (arith, ints), omega (arith, ints))
     (omega (arith, ints), omega (arith, ints))
 
+-- and its next one
 pub then_keeps : NeverBind widest (pos 6 ∷ negsuc 1 ∷ negsuc 2 ∷ [])
 then_keeps =
     three_keep (pos 6) (negsuc 1) (negsuc 2) (omega (arith, ints), omega (arith, ints)) (omega (arith, ints), omega (arith, ints))
@@ -39,6 +40,7 @@ relay_keeps =
     three_keep (pos 5) (pos 5) (negsuc 2) (omega (arith, ints), omega (arith, ints)) (omega (arith, ints), omega (arith, ints))
     (omega (arith, ints), omega (arith, ints))
 
+-- and its next one
 pub again_keeps : NeverBind widest (negsuc 0 ∷ negsuc 0 ∷ negsuc 0 ∷ [])
 again_keeps =
     three_keep (negsuc 0) (negsuc 0) (negsuc 0) (omega (arith, ints), omega (arith, ints)) (omega (arith, ints), omega (arith, ints))

@@ -107,8 +107,16 @@ does_7 = record {
   after = record { relay = heard w6 0 2 2; waiting = None };
   outs = [];
   bounds = [];
-  writes = inl
-      (first_keeps, record { learnt = heard w6 0 2 2; looks = inr ((λ h. omega (arith, h.came_back)), refl); waiting_reply = []; tries = (refl, refl); replied = refl });
+  writes = inl (
+    first_keeps,
+    record {
+      learnt = heard w6 0 2 2;
+      looks = inr ((λ h. omega (arith, h.came_back)), refl);
+      waiting_reply = [];
+      tries = (refl, refl);
+      replied = refl;
+    },
+  );
   passes = λ giver is same. absurd cc;
   handled = inr refl;
   new_is = refl;
@@ -134,8 +142,16 @@ does_8 = record {
   after = record { relay = heard w7 1 2 3; waiting = None };
   outs = [];
   bounds = [];
-  writes = inl
-      (other_keeps, record { learnt = heard w7 1 2 3; looks = inr ((λ h. omega (arith, h.came_back)), refl); waiting_reply = []; tries = (refl, refl); replied = refl });
+  writes = inl (
+    other_keeps,
+    record {
+      learnt = heard w7 1 2 3;
+      looks = inr ((λ h. omega (arith, h.came_back)), refl);
+      waiting_reply = [];
+      tries = (refl, refl);
+      replied = refl;
+    },
+  );
   passes = λ giver is same. absurd cc;
   handled = inr refl;
   new_is = refl;
@@ -218,7 +234,7 @@ does_10 =
       after = heard_root w9 1 (pos 5 ∷ pos 5 ∷ negsuc 2 ∷ []);
       outs = [];
       bounds = [];
-  writes =
+      writes =
           inl (relay_keeps, record { looks = inr ((λ h. omega (arith, h.came_back)), refl); replied = refl });
       handled = inr refl;
       new_is = refl;

@@ -84,7 +84,16 @@ sends = record { frame = relay_frame.Send; bounds = no_bounds; after = alone sen
 -- the relay learns the bid
 pub does_hear : WritesRelay setup no_bounds (alone relay_new) hears.frame hears.after hears.outs
 does_hear =
-    inl (then_keeps, record { learnt = heard; looks = inr ((λ h. omega (arith, h.came_back)), refl); waiting_reply = []; tries = (refl, refl); replied = refl })
+    inl (
+      then_keeps,
+      record {
+        learnt = heard;
+        looks = inr ((λ h. omega (arith, h.came_back)), refl);
+        waiting_reply = [];
+        tries = (refl, refl);
+        replied = refl;
+      },
+    )
 
 -- it learns the limits
 pub does_take_limits : WritesRelay setup no_bounds hears.after is_given.frame is_given.after is_given.outs
@@ -256,35 +265,38 @@ does_learn = inr (
 -- it hears the bid again, and sends its own
 pub does_send_again : WritesRelay setup no_bounds (alone given_again) sends_again.frame sends_again.after sends_again.outs
 unfolding said_between reaches suffices
-does_send_again = inl (then_keeps, record {
-  learnt = rebuilt;
-  looks = inl (
-    record {
-      came_back = omega arith;
-      lost = refl;
-      caught_up = reached heard_again.recorded heard_again.gathered.cache.heads refl;
-      nothing_newer = enough heard_again.recorded heard_again.gathered.cache.heads refl;
-      changed = λ e. absurd (omega (arith, ap (λ (l : List BidHead). head_number l 0) e));
-    },
-    record {
-      base = refl;
-      last = refl;
-      window = refl;
-      heads = refl;
-      sum = refl;
-      announced = refl;
-      cache = refl;
-      limits = refl;
-      answered = refl;
-      index = refl;
-      recorded = refl;
-      made_under = refl;
-    },
-  );
-  waiting_reply = [];
-  tries = (refl, refl);
-  replied = refl;
-})
+does_send_again = inl (
+  then_keeps,
+  record {
+    learnt = rebuilt;
+    looks = inl (
+      record {
+        came_back = omega arith;
+        lost = refl;
+        caught_up = reached heard_again.recorded heard_again.gathered.cache.heads refl;
+        nothing_newer = enough heard_again.recorded heard_again.gathered.cache.heads refl;
+        changed = λ e. absurd (omega (arith, ap (λ (l : List BidHead). head_number l 0) e));
+      },
+      record {
+        base = refl;
+        last = refl;
+        window = refl;
+        heads = refl;
+        sum = refl;
+        announced = refl;
+        cache = refl;
+        limits = refl;
+        answered = refl;
+        index = refl;
+        recorded = refl;
+        made_under = refl;
+      },
+    );
+    waiting_reply = [];
+    tries = (refl, refl);
+    replied = refl;
+  },
+)
 
 -- it settles for step 1, and passes that down
 pub does_pass_down : WritesRelay setup no_bounds sends_again.after passes_down.frame passes_down.after passes_down.outs

@@ -102,7 +102,13 @@ module _ (own : RelaySetup) where
       ((frame : RelayFrame) (more : List RelayFrame) → frames ≡ frame ∷ more → IsNoRelayResume frame) →
       (service after : RelayServiceValue) (old : OpenRelay) → service.relay ≡ Some old → old.setup ≡ own → (reply : List ℕ) →
       Runs AnswersRelay service frames after reply → Answered old.held old.bounds frames reply
-  answered_first [] stand other service after old is setup reply runs = record { exchanges = []; frames_are = refl; answers = tt; bounded = tt; written = runs.1 }
+  answered_first [] stand other service after old is setup reply runs = record {
+    exchanges = [];
+    frames_are = refl;
+    answers = tt;
+    bounded = tt;
+    written = runs.1;
+  }
   answered_first (frame ∷ frames) stand other service after old is setup reply runs =
       let no_resume = other frame frames refl in
       let later = first_running own.child own.terms own.basis frame stand.0.formed no_resume in

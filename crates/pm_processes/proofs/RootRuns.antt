@@ -69,7 +69,8 @@ module _ (basis : BasisValue) where
       }
 
   answered : (frames : List RootFrame) → AllStand root_framing (Running basis) frames → (service after : Option OpenRoot) (old : OpenRoot) →
-      service ≡ Some old → old.basis ≡ basis → (reply : List ℕ) → Runs AnswersRoot service frames after reply → Answered old.root old.bounds frames reply
+      service ≡ Some old → old.basis ≡ basis → (reply : List ℕ) → Runs AnswersRoot service frames after reply →
+      Answered old.root old.bounds frames reply
   answered [] stand service after old is own reply runs = record { exchanges = []; frames_are = refl; answers = tt; bounded = tt; written = runs.1 }
   answered (frame ∷ frames) stand service after old is own reply runs =
       let later = later_running basis frame stand.0.formed in

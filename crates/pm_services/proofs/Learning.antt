@@ -1,6 +1,7 @@
 -- What a relay answers once it learnt something: its receipt, its newest bid if it has the record of that again, and what is due for the
 -- price that waits.
-use Rattle.std.proofs.Common.{◌≡◌, ◌∙◌, sym, ap, subst, ℕ, ◌+◌, ◌≤◌, Bool, true, false, not, ◌&&◌, cond, eqb, ltb, List, [], ◌∷◌, ◌++◌}
+use Rattle.std.proofs.Common.{◌≡◌, ◌∙◌, sym, ap, subst, ℕ, ◌+◌, ◌≤◌, Bool, true, false, not, ◌&&◌, cond, eqb}
+use Rattle.std.proofs.Common.{ltb, List, [], ◌∷◌, ◌++◌}
 use Rattle.std.proofs.Common.{length, Option, Some, None, inl, inr, arith, refl, length-append, append-nil}
 use Rattle.std.proofs.lemmas.Bool.{true≢false}
 use Rattle.pm_session.specs.declared.price.PriceUpdate.{PriceUpdate}
@@ -31,13 +32,16 @@ again_of false false lost outs e = absurd (true≢false (sym e))
 module _ (own : RelaySetup) (old : WaitingRelay) (learnt : RelayValue) (new : WaitingRelay) where
   -- the frames behind the receipt
   pub record WritesLearnt (receipt outs : Outs) : Type 0 where
+    -- what is answered to the price that waited
     pub waiting_reply : Outs
     pub tries : WritesWaiting own old.waiting learnt new waiting_reply
+    -- the bid again, and then that, behind the receipt
     pub replied : outs ≡ receipt ++ (bid_again_outs old.relay learnt ++ waiting_reply)
 
   -- they are appended, one after the other; `had` says whether the relay had its record before
   pub learnt_answered : (had : Bool) (waiting : Option PriceUpdate) (receipt : Outs) (out mid again longer : List ℕ) →
-      had ≡ not (eqb old.relay.gathered.window.last 0) → waiting ≡ old.waiting → mid ≡ out ++ relay_bytes own receipt → length mid ≤ length out + 7 →
+      had ≡ not (eqb old.relay.gathered.window.last 0) → waiting ≡ old.waiting → mid ≡ out ++ relay_bytes own receipt →
+      length mid ≤ length out + 7 →
       again ≡ mid ++ relay_bytes own (cond had [] (kept_bid_outs learnt)) → length again ≤ length mid + own_bid_limit →
       Appended (relay_bytes own) (WritesWaiting own waiting learnt new) price_reply_limit again longer →
       Appended (relay_bytes own) (WritesLearnt receipt) relay_reply_limit out longer
@@ -73,6 +77,7 @@ few_of_two : (test : Bool) (x y : List ℕ) (most : ℕ) → length x ≤ most �
 few_of_two true x y most few other = few
 few_of_two false x y most few other = other
 
+-- at most one Dropped is answered, of nine bytes
 pub dropped_few : (waiting : Option PriceUpdate) (price : PriceUpdate) → length (dropped_with waiting price) ≤ 9
 dropped_few None price = omega arith
 dropped_few (Some first) price =
@@ -100,6 +105,7 @@ kept_behind own stored first out mid longer before kept =
 -- ---- a relay that is asked for its bid
 
 module _ (own : RelaySetup) (old new : RelayValue) (out longer : List ℕ) where
+  -- what is appended says that the relay sent its bid
   pub sent_answered : (number : ℕ) → BidSent old new number → longer ≡ out ++ relay_bytes own (Keeps (stored_relay own new) ∷ bid_outs new) →
       length longer ≤ length out + (relay_resume_size + own_bid_limit) →
       Appended (relay_bytes own) (WritesAsked own old new) (relay_resume_size + own_bid_limit) out longer
@@ -111,7 +117,8 @@ module _ (own : RelaySetup) (old new : RelayValue) (out longer : List ℕ) where
   }
 
   -- or that it sends none, and why
-  pub not_sent_answered : (fault : SendFault) → NotSent old fault → new ≡ old → longer ≡ out ++ not_sent_reply fault → length (not_sent_reply fault) ≤ 1 →
+  pub not_sent_answered : (fault : SendFault) → NotSent old fault → new ≡ old → longer ≡ out ++ not_sent_reply fault →
+      length (not_sent_reply fault) ≤ 1 →
       Appended (relay_bytes own) (WritesAsked own old new) (relay_resume_size + own_bid_limit) out longer
   not_sent_answered fault why stays written few =
       says relay_resume_bytes own.basis own.child (WritesAsked own old new) (relay_resume_size + own_bid_limit) out longer (not_sent_reply fault) written

@@ -62,7 +62,8 @@ abbrev pub KeepsSteps : WaitingRelay → WaitingRelay → Type 0
 KeepsSteps old new = new.relay.gathered.cache.steps ≡ old.relay.gathered.cache.steps
 
 -- a child's Bid or Gone
-pub bid_keeps : (own : RelaySetup) (old : WaitingRelay) (sender number : ℕ) (demand : Option (List ℤ)) (new : WaitingRelay) (outs : List (Output StoredRelay)) →
+pub bid_keeps : (own : RelaySetup) (old : WaitingRelay) (sender number : ℕ) (demand : Option (List ℤ)) (new : WaitingRelay)
+    (outs : List (Output StoredRelay)) →
     WritesBid own old sender number demand new outs → KeepsSteps old new
 bid_keeps own old sender number demand new outs answers =
     tries_steps own old.waiting answers.learnt new answers.waiting_reply answers.tries ∙ bid_steps old.relay answers.learnt _ number demand answers.looks

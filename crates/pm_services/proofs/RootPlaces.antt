@@ -70,7 +70,8 @@ known_after_frames : (frames : List RootFrame) (stage : Stage) (old new : Option
     AllStand root_framing stage frames → Runs AnswersRoot old frames new reply → bid_place (place_behind root_framing stage frames) ≡ steps_known new
 known_after_frames [] stage old new reply same all runs = same ∙ ap steps_known (sym runs.0)
 known_after_frames (frame ∷ frames) stage old new reply same all runs =
-    known_after_frames frames (root_stage_after stage frame) runs.0 new runs.2 (known_after stage old runs.0 frame runs.3.outs same all.0 runs.3.writes) all.1 runs.4
+    known_after_frames frames (root_stage_after stage frame) runs.0 new runs.2 (known_after stage old runs.0 frame runs.3.outs same all.0 runs.3.writes)
+    all.1 runs.4
 
 -- a frame that may be taken stands where what is known leaves the stream
 pub known_stands : (root : Option OpenRoot) (frame : RootFrame) → CanTake root_framing IsRootStart AnswersRoot root frame →

@@ -60,6 +60,7 @@ module _ {K : Type 0} (kept : K → List ℕ) (basis : BasisValue) (child : ℕ)
   pub said_alone : (bytes : List ℕ) → bytes ≡ bytes_of (Says bytes ∷ [])
   said_alone bytes = sym (append-nil bytes)
 
+  -- such a frame alone is appended
   pub says : (Writes : List (Output K) → Type 0) (most : ℕ) (out longer said : List ℕ) → longer ≡ out ++ said → length said ≤ most →
       Writes (Says said ∷ []) → Appended bytes_of Writes most out longer
   says Writes most out longer said written few is = record {

@@ -1,5 +1,6 @@
 -- What a relay makes of a frame after Hello, and the frames with which it answers.
-use Rattle.std.specs.Prelude.{◌≡◌, ◌⊎◌, ℕ, ◌<◌, ◌≤◌, ◌==◌, ◌&&◌, ◌||◌, not, Bool, true, false, nat_lt, if◌then◌else◌, ℤ, int_le}
+use Rattle.std.specs.Prelude.{◌≡◌, ◌⊎◌, ℕ, ◌<◌, ◌≤◌, ◌==◌, ◌&&◌, ◌||◌, not, Bool, true, false, nat_lt}
+use Rattle.std.specs.Prelude.{if◌then◌else◌, ℤ, int_le}
 use Rattle.std.specs.Prelude.{List, [], ◌∷◌, ◌++◌, length, unwrap_or, Option, Some, None}
 use Rattle.pm_base.specs.Limits.{most_nodes}
 use Rattle.pm_base.specs.declared.limits.Limits.{Limits}
@@ -194,7 +195,8 @@ abbrev pub SaysAlone : WaitingRelay → WaitingRelay → List ℕ → List (Outp
 SaysAlone old new said outs = (new ≡ old) × (outs ≡ Says said ∷ [])
 
 -- a child's Bid counts if it keeps the child's bound
-abbrev pub WritesBounded : RelaySetup → List Limits → WaitingRelay → (sender number : ℕ) → List ℤ → WaitingRelay → List (Output StoredRelay) → Type 0
+abbrev pub WritesBounded : RelaySetup → List Limits → WaitingRelay → (sender number : ℕ) → List ℤ → WaitingRelay →
+    List (Output StoredRelay) → Type 0
 WritesBounded own bounds old sender number demand new outs =
     (KeepsBound bounds sender demand × WritesBid own old sender number (Some demand) new outs)
     ⊎ ((¬ KeepsBound bounds sender demand) × SaysAlone old new (too_much_bytes sender number) outs)

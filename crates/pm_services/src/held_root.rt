@@ -114,8 +114,9 @@ impl HeldRoot {
         requires first { 1 ≤ sender }
         requires last { sender ≤ most_nodes }
         requires room { vec_len out.old + prices_limit ≤ vec_capacity out.old }
-        ensures answered { Appended (root_bytes basis.now) (WritesRootExpire self.old sender self.new)
-            prices_limit out.old.items out.new.items }
+        ensures answered { Appended (root_bytes basis.now)
+            (WritesRootExpire self.old sender self.new) prices_limit out.old.items
+            out.new.items }
     {
         let had_prices = self.root.prices().is_some();
         self.expire(sender);

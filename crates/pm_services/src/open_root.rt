@@ -156,8 +156,9 @@ impl OpenRoot {
         out: &mut Vec<u8>,
     ) -> Result<(), AllocError>
         requires children { length stored.now.numbers ≡ most_nodes }
-        ensures answered { OnOk result (Appended (root_bytes self.old.basis) (WritesOpenRoot self.old
-            (RootFrame.Resume stored.now) self.new) root_reply_limit out.old.items out.new.items) }
+        ensures answered { OnOk result (Appended (root_bytes self.old.basis)
+            (WritesOpenRoot self.old (RootFrame.Resume stored.now) self.new) root_reply_limit
+            out.old.items out.new.items) }
         ensures unchanged { OnErr result (self.new ≡ self.old) }
         ensures nothing_appended { out.new.items ≡ out.old.items }
     {

@@ -142,8 +142,9 @@ impl WaitingRelay {
         requires last { sender ≤ most_nodes }
         requires limits { AreRelayLimits limits }
         requires room { vec_len out.old + relay_reply_limit ≤ vec_capacity out.old }
-        ensures answered { Appended (relay_bytes own.now) (WritesLimits own.now self.old sender number
-            limits self.new) relay_reply_limit out.old.items out.new.items }
+        ensures answered { Appended (relay_bytes own.now)
+            (WritesLimits own.now self.old sender number limits self.new) relay_reply_limit
+            out.old.items out.new.items }
     {
         let had_record = self.relay.resend().is_some();
         self.learn_limits(sender, number, limits, out);
@@ -277,8 +278,9 @@ impl WaitingRelay {
     pub(crate) fn take_price(&mut self, own: &RelaySetup, price: PriceUpdate, out: &mut Vec<u8>)
         requires step { price.step < self.old.relay.gathered.cache.steps }
         requires room { vec_len out.old + price_reply_limit ≤ vec_capacity out.old }
-        ensures answered { Appended (relay_bytes own.now) (WritesPrice own.now self.old price self.new)
-            price_reply_limit out.old.items out.new.items }
+        ensures answered { Appended (relay_bytes own.now)
+            (WritesPrice own.now self.old price self.new) price_reply_limit out.old.items
+            out.new.items }
     {
         match self.relay.take_price(price) {
             PriceOutcome::PassedOn => {

@@ -7,7 +7,8 @@ use Rattle.pm_services.proofs.open_device.OpenDevice.leave.Goals as goal
 
 pub returns-clause-answered : goal.returns-clause-answered
 returns-clause-answered c =
-    subst (λ (d : OpenDevice). c.write_gone.new.out.items ≡ c.args.out.now.items ++ device_bytes c.args.child d.basis (leave_outs d.basis.steps d.basis d.agent))
+    subst (λ (d : OpenDevice). c.write_gone.new.out.items ≡ c.args.out.now.items
+    ++ device_bytes c.args.child d.basis (leave_outs d.basis.steps d.basis d.agent))
     c.self.view_is
     (left_written c.args.child c.self.inside.basis c.self.inside.basis.steps c.self.inside.agent c.leave.new.self c.in-Some.number c.args.out.now.items
     c.write_resume.new.out.items c.write_gone.new.out.items c.in-Some.ensures.answer.0 c.in-Some.ensures.answer.1 c.in-Some.ensures.left

@@ -15,7 +15,8 @@ returns c =
     record {
       answered =
           subst (λ (it : OpenRelay). Appended (relay_bytes it.setup)
-          (WritesOpenRelay it (Child (Gone c.args.sender c.args.number)) (record { setup = c.self.inside.setup; bounds = c.self.inside.bounds; held = c.take_bid.new.self }))
+          (WritesOpenRelay it (Child (Gone c.args.sender c.args.number))
+          (record { setup = c.self.inside.setup; bounds = c.self.inside.bounds; held = c.take_bid.new.self }))
           relay_reply_limit c.args.out.now.items c.take_bid.new.out.items) c.self.view_is
           (opened old (Child (Gone c.args.sender c.args.number)) c.take_bid.new.self _ _ refl c.take_bid.ensures.answered);
     }

@@ -15,7 +15,8 @@ returns c =
     record {
       answered =
           subst (λ (it : OpenRoot). Appended (root_bytes it.basis)
-          (WritesOpenRoot it (Market (Gone c.args.sender c.args.number)) (record { basis = c.self.inside.basis; bounds = c.self.inside.bounds; root = c.take_bid.new.self }))
+          (WritesOpenRoot it (Market (Gone c.args.sender c.args.number))
+          (record { basis = c.self.inside.basis; bounds = c.self.inside.bounds; root = c.take_bid.new.self }))
           root_reply_limit c.args.out.now.items c.take_bid.new.out.items) c.self.view_is
           (opened old (Market (Gone c.args.sender c.args.number)) c.take_bid.new.self (7 + prices_limit) _ _ (omega arith) refl c.take_bid.ensures.answered);
     }

@@ -26,21 +26,25 @@ returns-clause-answered c =
       | in-Err-NotCaughtUp w ↦
           subst (λ (v : Vec ℕ Global). Appended (relay_bytes own) (WritesAsked own old new) (relay_resume_size + own_bid_limit) out v.items) (sym w.out-is)
           (not_sent_answered own old new out w.write_not_caught_up.new.out.items NotCaughtUp
-          (subst (λ (fault : SendFault). NotSent old fault) w.in-Err-NotCaughtUp.field-0-is w.in-Err-NotCaughtUp.ensures.refused) w.in-Err-NotCaughtUp.ensures.unchanged
+          (subst (λ (fault : SendFault). NotSent old fault) w.in-Err-NotCaughtUp.field-0-is w.in-Err-NotCaughtUp.ensures.refused)
+          w.in-Err-NotCaughtUp.ensures.unchanged
           w.write_not_caught_up.ensures.written (omega arith))
       | in-Err-NotChanged w ↦
           subst (λ (v : Vec ℕ Global). Appended (relay_bytes own) (WritesAsked own old new) (relay_resume_size + own_bid_limit) out v.items) (sym w.out-is)
           (not_sent_answered own old new out w.write_reply.new.out.items NotChanged
-          (subst (λ (fault : SendFault). NotSent old fault) w.in-Err-NotChanged.field-0-is w.in-Err-NotChanged.ensures.refused) w.in-Err-NotChanged.ensures.unchanged
+          (subst (λ (fault : SendFault). NotSent old fault) w.in-Err-NotChanged.field-0-is w.in-Err-NotChanged.ensures.refused)
+          w.in-Err-NotChanged.ensures.unchanged
           w.write_reply.ensures.written (omega arith))
       | in-Err-WindowFull w ↦
           subst (λ (v : Vec ℕ Global). Appended (relay_bytes own) (WritesAsked own old new) (relay_resume_size + own_bid_limit) out v.items) (sym w.out-is)
           (not_sent_answered own old new out w.write_window_full.new.out.items WindowFull
-          (subst (λ (fault : SendFault). NotSent old fault) w.in-Err-WindowFull.field-0-is w.in-Err-WindowFull.ensures.refused) w.in-Err-WindowFull.ensures.unchanged
+          (subst (λ (fault : SendFault). NotSent old fault) w.in-Err-WindowFull.field-0-is w.in-Err-WindowFull.ensures.refused)
+          w.in-Err-WindowFull.ensures.unchanged
           w.write_window_full.ensures.written (omega arith))
       | in-Err-OutOfNumbers w ↦
           subst (λ (v : Vec ℕ Global). Appended (relay_bytes own) (WritesAsked own old new) (relay_resume_size + own_bid_limit) out v.items) (sym w.out-is)
           (not_sent_answered own old new out w.write_out_of_numbers.new.out.items OutOfNumbers
-          (subst (λ (fault : SendFault). NotSent old fault) w.in-Err-OutOfNumbers.field-0-is w.in-Err-OutOfNumbers.ensures.refused) w.in-Err-OutOfNumbers.ensures.unchanged
+          (subst (λ (fault : SendFault). NotSent old fault) w.in-Err-OutOfNumbers.field-0-is w.in-Err-OutOfNumbers.ensures.refused)
+          w.in-Err-OutOfNumbers.ensures.unchanged
           w.write_out_of_numbers.ensures.written (omega arith))
     ])

@@ -26,7 +26,8 @@ returns c =
     let receipt = receipt_outs {K = StoredRelay} kept c.args.sender c.args.number in
     record {
       answered =
-          mapped (relay_bytes own) (WritesLearnt own old learnt new receipt) (WritesBid own old c.args.sender c.args.number (option_copied c.args.demand) new) relay_reply_limit relay_reply_limit out longer (omega arith)
+          mapped (relay_bytes own) (WritesLearnt own old learnt new receipt)
+          (WritesBid own old c.args.sender c.args.number (option_copied c.args.demand) new) relay_reply_limit relay_reply_limit out longer (omega arith)
           (λ outs writes. record {
             learnt = learnt;
             looks = c.learn.ensures.learnt;
@@ -36,5 +37,6 @@ returns c =
           })
           (learnt_answered own old learnt new had c.learn.new.self.waiting receipt out _ _ longer is_had c.learn.ensures.waits
           (c.learn.ensures.written ∙ ap (λ (l : List ℕ). out ++ l)
-          (receipt_written relay_resume_bytes own.basis own.child kept c.args.sender c.args.number)) (omega (arith, c.learn.ensures.few)) c.send_again.ensures.written (omega (arith, c.send_again.ensures.few)) c.try_waiting.ensures.answered);
+          (receipt_written relay_resume_bytes own.basis own.child kept c.args.sender c.args.number)) (omega (arith, c.learn.ensures.few))
+          c.send_again.ensures.written (omega (arith, c.send_again.ensures.few)) c.try_waiting.ensures.answered);
     }

@@ -19,7 +19,8 @@ returns c =
     let is_had : had ≡ not (old.relay.gathered.window.last == 0) = grind (arith, c.resend.ensures, c.is_some-had_record.ensures) in
     record {
       answered =
-          mapped (relay_bytes own) (WritesLearnt own old learnt new []) (WritesExpire own old c.args.sender new) relay_reply_limit relay_reply_limit out longer (omega arith)
+          mapped (relay_bytes own) (WritesLearnt own old learnt new []) (WritesExpire own old c.args.sender new)
+          relay_reply_limit relay_reply_limit out longer (omega arith)
           (λ outs writes. record {
             learnt = learnt;
             looks = c.expire.ensures.learnt;

@@ -25,7 +25,8 @@ returns c =
     let receipt = receipt_outs {K = StoredRelay} kept c.args.sender c.args.number in
     record {
       answered =
-          mapped (relay_bytes own) (WritesLearnt own old learnt new receipt) (WritesLimits own old c.args.sender c.args.number c.args.limits new) relay_reply_limit relay_reply_limit out longer (omega arith)
+          mapped (relay_bytes own) (WritesLearnt own old learnt new receipt) (WritesLimits own old c.args.sender c.args.number c.args.limits new)
+          relay_reply_limit relay_reply_limit out longer (omega arith)
           (λ outs writes. record {
             learnt = learnt;
             looks = c.learn_limits.ensures.learnt;
@@ -35,5 +36,6 @@ returns c =
           })
           (learnt_answered own old learnt new had c.learn_limits.new.self.waiting receipt out _ _ longer is_had c.learn_limits.ensures.waits
           (c.learn_limits.ensures.written ∙ ap (λ (l : List ℕ). out ++ l)
-          (receipt_written relay_resume_bytes own.basis own.child kept c.args.sender c.args.number)) (omega (arith, c.learn_limits.ensures.few)) c.send_again.ensures.written (omega (arith, c.send_again.ensures.few)) c.try_waiting.ensures.answered);
+          (receipt_written relay_resume_bytes own.basis own.child kept c.args.sender c.args.number)) (omega (arith, c.learn_limits.ensures.few))
+          c.send_again.ensures.written (omega (arith, c.send_again.ensures.few)) c.try_waiting.ensures.answered);
     }

@@ -19,7 +19,8 @@ returns-in-PassedOn c =
     let out : List ℕ = c.args.out.now.items in
     record {
       answered =
-          subst (λ (it : WaitingRelay). Appended (relay_bytes own) (WritesPrice own it c.args.price new) price_reply_limit out c.write_resume.new.out.items) c.self.view_is
+          subst (λ (it : WaitingRelay). Appended (relay_bytes own) (WritesPrice own it c.args.price new)
+          price_reply_limit out c.write_resume.new.out.items) c.self.view_is
           (priced own old c.args.price new PassedOn out c.write_resume.new.out.items c.in-PassedOn.ensures.taken refl
           (kept_behind own (stored_relay own new.relay) (down_outs new.relay c.args.price) out _ _ c.write_down.ensures.written
           c.write_resume.ensures.written)
@@ -34,7 +35,8 @@ returns-in-Alone c =
     let out : List ℕ = c.args.out.now.items in
     record {
       answered =
-          subst (λ (it : WaitingRelay). Appended (relay_bytes own) (WritesPrice own it c.args.price new) price_reply_limit out c.write_resume-in-Alone.new.out.items) c.self.view_is
+          subst (λ (it : WaitingRelay). Appended (relay_bytes own) (WritesPrice own it c.args.price new)
+          price_reply_limit out c.write_resume-in-Alone.new.out.items) c.self.view_is
           (priced own old c.args.price new Alone out c.write_resume-in-Alone.new.out.items c.in-Alone.ensures.taken refl
           (kept_behind own (stored_relay own new.relay) [] out out _ (sym (append-nil out)) c.write_resume-in-Alone.ensures.written)
           (omega (arith, c.write_resume-in-Alone.ensures.size)));
@@ -48,7 +50,8 @@ returns-in-Waits c =
     let out : List ℕ = c.args.out.now.items in
     record {
       answered =
-          subst (λ (it : WaitingRelay). Appended (relay_bytes own) (WritesPrice own it c.args.price new) price_reply_limit out c.wait_with.new.out.items) c.self.view_is
+          subst (λ (it : WaitingRelay). Appended (relay_bytes own) (WritesPrice own it c.args.price new) price_reply_limit out c.wait_with.new.out.items)
+          c.self.view_is
           (priced own old c.args.price new Waits out c.wait_with.new.out.items
           (subst (λ (r : RelayValue). TakesPrice old.relay r c.args.price Waits) (sym c.wait_with.ensures.relay) c.in-Waits.ensures.taken)
           c.wait_with.ensures.waits
@@ -69,7 +72,8 @@ returns-in-Dropped c =
     let out : List ℕ = c.args.out.now.items in
     record {
       answered =
-          subst (λ (it : WaitingRelay). Appended (relay_bytes own) (WritesPrice own it c.args.price new) price_reply_limit out c.write_dropped.new.out.items) c.self.view_is
+          subst (λ (it : WaitingRelay). Appended (relay_bytes own) (WritesPrice own it c.args.price new)
+          price_reply_limit out c.write_dropped.new.out.items) c.self.view_is
           (priced own old c.args.price new Dropped out c.write_dropped.new.out.items c.in-Dropped.ensures.taken refl
           (c.write_dropped.ensures.written
           ∙ ap (λ (l : List ℕ). out ++ l)
