@@ -4,7 +4,7 @@ use Rattle.std.proofs.Common.{Option, Some, None, refl, append-nil}
 use Rattle.std.proofs.lemmas.Bool.{cond-true, cond-false}
 use Rattle.pm_basis.specs.Prices.{BasisValue}
 use Rattle.pm_net.specs.Messages.{price_message}
-use Rattle.pm_net.specs.Agents.{DeviceAgent, may_offer, setpoints_for, after_leaving, after_price}
+use Rattle.pm_net.specs.Agents.{DeviceAgent, setpoints_for, after_leaving, after_price}
 use Rattle.pm_control.specs.Control.{newest_demand, after_old}
 use Rattle.pm_frames.specs.Answers.{out_of_numbers_bytes, other_basis_bytes}
 use Rattle.pm_frames.specs.declared.stored.StoredAgent.{StoredAgent}
@@ -13,7 +13,6 @@ use Rattle.pm_frames.specs.declared.device.DeviceFrame.{DeviceFrame}
 use Rattle.pm_frames.specs.declared.device.DeviceFrame.TheVariants.{Hello, Offer, Kind, Leave, Parent, Resume}
 use Rattle.pm_services.specs.Outputs.{Output, Up, Says}
 use Rattle.pm_services.specs.DeviceWrites.{device_bytes, numbered_bid, made_outs, told_outs, again_outs, device_outs, agent_after, same_basis}
-use Rattle.pm_services.specs.DeviceWrites.{price_outs_of, after_price_of}
 use Rattle.pm_services.specs.DeviceAnswers as device
 use Rattle.pm_lives.specs.Answering.{IsOfBasis, IsOfOtherBasis, SaysOtherBasis}
 

@@ -41,17 +41,16 @@ use Rattle.pm_services.specs.RelayWrites.{WaitingRelay, WritesKept}
 use Rattle.pm_wire.specs.Answers.{answer_bytes}
 use Rattle.pm_wire.specs.declared.answer.Reply as Reply
 use Rattle.pm_frames.specs.declared.parent.ParentFrame.TheVariants.{Old}
-use Rattle.pm_services.specs.Outputs.{Output}
 use Rattle.pm_lives.specs.Carrying.{setup_for}
 use Rattle.pm_system.specs.System.{System}
 use Rattle.pm_lives.specs.Outputs.{PriceWasSent, BidWasSent}
-use Rattle.pm_services.specs.Outputs.{Up, outputs_bytes, up_bytes, down_frame_bytes}
+use Rattle.pm_services.specs.Outputs.{Up, up_bytes, down_frame_bytes}
 use Rattle.pm_lives.specs.RelayLife.{CarriesBid, CarriesLimits, RelayMayRead, no_relay_stored}
 use Rattle.pm_lives.specs.RootLife.{RootMayRead}
 use Rattle.pm_lives.specs.DeviceLife.{DeviceMayRead}
 use Rattle.pm_net.specs.Agents.{new_agent}
-use Rattle.pm_relay.specs.Roots.{RootValue, RootComesBack}
-use Rattle.pm_frames.specs.Stored.{StoredRoot, relay_resume_bytes, agent_resume_bytes, IsNewestAccepted}
+use Rattle.pm_relay.specs.Roots.{RootComesBack}
+use Rattle.pm_frames.specs.Stored.{StoredRoot, IsNewestAccepted}
 use Rattle.pm_frames.specs.declared.stored.StoredAgent.{StoredAgent}
 use Rattle.pm_services.specs.RootAnswers.{OpenRoot, AnswersRoot, WritesRootNow}
 use Rattle.pm_services.specs.DeviceAnswers.{DeviceServiceValue, OpenDevice, AnswersDevice, device_after, reply_to}

@@ -24,7 +24,7 @@ use Rattle.pm_system.specs.System.{System, price_in_channel, with_agent, with_bi
 use Rattle.pm_system.specs.Calls as call
 use Rattle.pm_system.specs.Calls.{NodeCall, SystemRuns, DeviceChanges, bid_kept}
 use Rattle.pm_system.proofs.Moving.{new_in}
-use Rattle.pm_lives.specs.Outputs.{BidWasSent, WereSent, EachKept}
+use Rattle.pm_lives.specs.Outputs.{WereSent, EachKept}
 use Rattle.pm_services.specs.Outputs.{Output, Up, Says}
 use Rattle.pm_services.specs.DeviceWrites.{stored_agent, made_outs, told_outs, device_outs}
 use Rattle.pm_lives.specs.Moves.{OnlyMoves, AreCalm, lets_none}

@@ -1,8 +1,7 @@
 -- The prices that a node writes for its children were sent, each to its child.
-use Rattle.std.proofs.Common.{◌≡◌, ◌∙◌, sym, ap, ℕ, suc, ◌+◌, ◌<◌, List, [], ◌∷◌, ◌++◌, length, get_or, Some, None}
-use Rattle.std.proofs.Common.{refl, arith, append-nil}
-use Rattle.std.proofs.lemmas.Bool.{cond-true, cond-false}
-use Rattle.std.proofs.lemmas.Grind.{flat_map-append}
+use Rattle.std.proofs.Common.{◌≡◌, ◌∙◌, ap, ℕ, suc, ◌+◌, ◌<◌, List, [], ◌∷◌, length, get_or, Some, None}
+use Rattle.std.proofs.Common.{arith}
+use Rattle.std.proofs.lemmas.Bool.{cond-false}
 use Rattle.pm_bid.specs.Heads.{nothing_sent}
 use Rattle.pm_bid.specs.declared.head.BidHead.{BidHead}
 use Rattle.pm_market.specs.Lists.{Lists, parent, IsNode}
@@ -11,12 +10,10 @@ use Rattle.pm_net.specs.Pricing.{Pricing}
 use Rattle.pm_net.specs.Messages.{PriceMessage, price_message}
 use Rattle.pm_net.proofs.Messages.{either}
 use Rattle.pm_net_plan.specs.Places.{Numbering}
-use Rattle.pm_basis.specs.Prices.{BasisValue}
-use Rattle.pm_frames.specs.ParentFrames.{price_bytes, price_bytes_for, prices_bytes}
 use Rattle.pm_relay_net.specs.RelayIs.{messages_of}
 use Rattle.pm_system.specs.System.{System}
 use Rattle.pm_lives.specs.Outputs.{PriceWasSent, WereSent, EachKept}
-use Rattle.pm_services.specs.Outputs.{Output, Down, output_bytes, outputs_bytes}
+use Rattle.pm_services.specs.Outputs.{Output, Down}
 use Rattle.pm_services.specs.Receipts.{down_of, downs}
 use Rattle.pm_lives.proofs.Staying.{both_sent, both_kept}
 

@@ -1,26 +1,23 @@
 -- That answers and frames do not depend on members and numbers of the lists, but on their tree.
-use Rattle.std.proofs.Common.{◌≡◌, ap, ℕ, ℤ, ◌+◌, ◌^◌}
-use Rattle.std.proofs.Common.{Bool, true, cond, ltb, eqb, List, [], ◌∷◌, Option, Some, None, refl}
+use Rattle.std.proofs.Common.{◌≡◌, ap, ℕ, ℤ}
+use Rattle.std.proofs.Common.{Bool, true, cond, eqb, List, [], ◌∷◌, Option, Some, None, refl}
 use Rattle.pm_bid.specs.Bids.{zeros}
 use Rattle.pm_market.specs.Lists.{Lists, parent}
 use Rattle.pm_net.specs.Pricing.{Pricing}
 use Rattle.pm_net.specs.Messages.{PriceMessage, price_message}
-use Rattle.pm_net.specs.Agents.{DeviceAgent, may_offer, after_offer, after_leaving}
+use Rattle.pm_net.specs.Agents.{DeviceAgent}
 use Rattle.pm_net_plan.specs.Places.{Numbering}
-use Rattle.pm_control.specs.Control.{newest_demand, agent_stored}
 use Rattle.pm_frames.specs.declared.stored.StoredAgent.{StoredAgent}
-use Rattle.pm_frames.specs.declared.parent.ParentFrame.TheVariants.{Price, Old}
 use Rattle.pm_frames.specs.declared.relay.RelayFrame.{RelayFrame}
 use Rattle.pm_frames.specs.declared.relay.RelayFrame.TheVariants as relay_frame
 use Rattle.pm_frames.specs.declared.root.RootFrame.{RootFrame}
 use Rattle.pm_frames.specs.declared.root.RootFrame.TheVariants as root_frame
 use Rattle.pm_frames.specs.declared.device.DeviceFrame.{DeviceFrame}
-use Rattle.pm_frames.specs.declared.device.DeviceFrame.TheVariants.{Hello, Offer, Kind, Leave, Parent, Resume}
 use Rattle.pm_basis.specs.Prices.{BasisValue}
 use Rattle.pm_system.specs.System.{System, with_bid_sent, with_prices_sent, with_setpoints}
 use Rattle.pm_system.specs.Calls.{bid_kept}
 use Rattle.pm_services.specs.Outputs.{Output, Up, Down, Keeps, Tells, Says}
-use Rattle.pm_services.specs.DeviceWrites.{made_outs, stored_agent, device_outs}
+use Rattle.pm_services.specs.DeviceWrites.{device_outs}
 use Rattle.pm_lives.specs.Lives.{handed_out, restart_outs}
 use Rattle.pm_lives.specs.Lives.{let_go_at_relay, let_go_at_root}
 use Rattle.pm_lives.proofs.Building.{lists_of}

@@ -1,5 +1,5 @@
 -- The bids of the worked lives are within the bounds of any bid.
-use Rattle.std.proofs.Common.{ℕ, zero, suc, ℤ, pos, negsuc, neg_ℤ, ◌≤ℤ◌, List, [], ◌∷◌, arith}
+use Rattle.std.proofs.Common.{zero, suc, ℤ, pos, negsuc, neg_ℤ, ◌≤ℤ◌, [], ◌∷◌, arith}
 use Rattle.std.proofs.lemmas.Int.{ints}
 use Rattle.pm_base.specs.Limits.{demand_limit}
 use Rattle.pm_bid.specs.Limited.{NeverBind}

@@ -1,6 +1,5 @@
 -- Frames that no process reads behind its start, and prices by their basis.
 use Rattle.std.specs.Prelude.{◌≡◌, ℕ, List, ⊤, true, false}
-use Rattle.pm_frames.specs.Stored.{StoredRelay, StoredRoot, relay_resume_bytes, root_resume_bytes}
 use Rattle.pm_frames.specs.declared.relay.RelayFrame.{RelayFrame}
 use Rattle.pm_frames.specs.declared.relay.RelayFrame.TheVariants as relay_frame
 use Rattle.pm_frames.specs.declared.root.RootFrame.{RootFrame}
@@ -11,11 +10,6 @@ use Rattle.pm_basis.specs.Prices.{BasisValue}
 use Rattle.pm_frames.specs.Answers.{other_basis_bytes}
 use Rattle.pm_frames.specs.declared.parent.ParentFrame.TheVariants.{Price}
 use Rattle.pm_services.specs.DeviceWrites.{same_basis}
-use Rattle.pm_services.specs.RelayAnswers.{OpenRelay}
-use Rattle.pm_services.specs.RootAnswers.{OpenRoot}
-use Rattle.pm_services.specs.Outputs.{Output, outputs_bytes}
-use Rattle.pm_services.specs.RelayWrites.{WritesRelay}
-use Rattle.pm_services.specs.RootWrites.{WritesRoot}
 
 -- a Resume is read at the start of a life alone
 abbrev pub IsNoRelayResume : RelayFrame → Type 0

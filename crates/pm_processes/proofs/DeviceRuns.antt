@@ -1,15 +1,13 @@
 -- A process of a device's agent, frame by frame.
-use Rattle.std.proofs.Common.{◌≡◌, ◌⊎◌, ◌∙◌, sym, ap, subst, ℕ, ℤ, ◌+◌}
-use Rattle.std.proofs.Common.{◌^◌, cond, ltb, List, [], ◌∷◌, ◌++◌, Option, Some, None}
-use Rattle.std.proofs.Common.{length, IfSome, refl, inl, inr, arith, append-nil}
+use Rattle.std.proofs.Common.{◌≡◌, ◌⊎◌, ◌∙◌, sym, ap, subst, ℕ, ℤ}
+use Rattle.std.proofs.Common.{List, [], ◌∷◌, ◌++◌, Option, Some, None}
+use Rattle.std.proofs.Common.{length, IfSome, refl, inl, inr, append-nil}
 use Rattle.std.proofs.lemmas.Bool.{cases_Bool}
 use Rattle.std.proofs.lemmas.List.Elements.{All-from_recursion}
 use Rattle.pm_basis.specs.Prices.{BasisValue}
 use Rattle.pm_net.specs.Pricing.{Pricing}
-use Rattle.pm_net.specs.Messages.{price_message}
-use Rattle.pm_net.specs.Agents.{DeviceAgent, new_agent, may_offer, after_offer, after_leaving}
-use Rattle.pm_net.proofs.Messages.{either}
-use Rattle.pm_control.specs.Control.{newest_demand, agent_stored, offered_anew}
+use Rattle.pm_net.specs.Agents.{DeviceAgent, new_agent}
+use Rattle.pm_control.specs.Control.{agent_stored}
 use Rattle.pm_wire.specs.Framing.{MayStand, AllStand, Stops, BeginsWith, place_behind}
 use Rattle.pm_wire.specs.Taking.{Runs}
 use Rattle.pm_frames.specs.Stored.{agent_resume_bytes, IsNewestFormed, IsNewestAccepted}
