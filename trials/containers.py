@@ -71,7 +71,7 @@ class Containers:
 
     def run(self, command, check=True):
         """Runs a command line in the folder of the market."""
-        command = command.replace("docker compose", "podman-compose")
+        command = command.replace("docker compose run", "podman-compose run --no-deps").replace("docker compose", "podman-compose")
         words = ["bash", "-e", "-c", command]
         done = subprocess.run(
             words, cwd=self.folder, env=self._environment, capture_output=True, text=True, check=False, stdin=subprocess.DEVNULL
