@@ -3,8 +3,8 @@
 
     live_devices.py SETTINGS
 
-SETTINGS is JSON: the broker's `host` and `port`, the market's `prefix` and `steps`, the `relays` that the devices are below, how
-many `children` each has, from which number `first` on (1 by default), and a `seed`. Lines at standard input say what to do:
+SETTINGS is JSON: the broker's `host` and `port`, the market's `prefix` and `steps`, a `seed`, and the `relays` that the devices are
+below, each with the numbers of its first and its last child here. Lines at standard input say what to do:
 
     first RATE    each device bids once, so many bids a second
     rate RATE     one device after the other bids anew, by chance, so many a second; 0 ends that, and -1 is as fast as it goes
@@ -35,17 +35,18 @@ TABLE, TABLE_FORMAT = 31, struct.Struct(">BIHiiH")
 VERSION = "3"
 # The most messages that the broker has not confirmed, and the greatest power of a device in watts.
 UNCONFIRMED, MOST = 1_000, 5_000
-# The seconds between looks at standard input.
-LOOK = 0.05
+# The seconds between looks at standard input, and those between looks at the keepalive of all connections.
+LOOK, KEPT = 0.05, 1.0
 
 
 class Device:
     """A device: its newest bid, those before it that may still be answered, and its setpoint."""
 
-    __slots__ = ("answered", "bids", "index", "number", "power", "step", "topic")
+    __slots__ = ("answered", "bids", "child", "index", "link", "number", "power", "relay", "step", "topic")
 
-    def __init__(self, topic):
-        self.topic = topic
+    def __init__(self, prefix, relay, child):
+        self.relay, self.child, self.topic = relay, child, text(f"{prefix}/{relay}/bid/{child}")
+        self.link = None
         self.number = self.index = self.step = self.answered = 0
         self.power = None
         # By number: the step at which the demand falls, before and behind it, and when the bid was made.
@@ -69,34 +70,42 @@ class Devices:
 
     def __init__(self, told):
         self._steps, self._chance = told["steps"], random.Random(told["seed"])
-        self._link = Connection(told["host"], told["port"], f"devices.{told['seed']}")
-        prefix = told["prefix"]
-        first = told.get("first", 1)
-        below = range(first, first + told["children"])
-        places = [(relay, child) for relay in told["relays"] for child in below]
-        self._devices = [Device(text(f"{prefix}/{relay}/bid/{child}")) for relay, child in places]
-        self._children = [child for _, child in places]
-        topics = [f"{prefix}/{relay}/price/{child}".encode() for relay, child in places]
-        self._by_topic = dict(zip(topics, self._devices, strict=True))
-        self._basis = f"{prefix}/basis".encode()
-        self._session = ""
-        self._link.subscribe([self._basis.decode()])
-        self._link.subscribe([f"{prefix}/{relay}/price/+" for relay in told["relays"]])
-        self._link.subscribe([f"{prefix}/{relay}/prices" for relay in told["relays"]])
-        # Where the numbers of these children begin in a table.
-        self._before = first - 1
-        self._of_table = {
-            f"{prefix}/{relay}/prices".encode(): [self._by_topic[f"{prefix}/{relay}/price/{child}".encode()] for child in below]
-            for relay in told["relays"]
+        self._prefix = told["prefix"]
+        self._below = {
+            relay: [Device(self._prefix, relay, child) for child in range(first, last + 1)]
+            for relay, (first, last) in told["relays"].items()
         }
+        self._devices = [device for below in self._below.values() for device in below]
+        self._by_topic = {self._topic(device.relay, f"price/{device.child}").encode(): device for device in self._devices}
+        self._basis = f"{self._prefix}/basis".encode()
+        self._session = ""
+        # The connections, each with the devices that read a table there. Of them: those that may have something to write, those
+        # whose socket did not take all, and those that have heard the basis.
+        self._tables = self._connected(told)
+        self._touched, self._full, self._begun = set(self._tables), set(), set()
+        self._kept_at = time.monotonic()
         self._rate, self._due, self._waiting = 0.0, 0.0, []
         self._behind = self._foreign = 0
+        self._published = self._confirmed = self._confirmed_before = 0
         self._format = struct.Struct(f">BHI{self._steps}i")
         self._begin()
 
+    def _topic(self, relay, word):
+        return f"{self._prefix}/{relay}/{word}"
+
+    def _connected(self, told):
+        """The connections of the devices: one for all, with the devices by the topic of their table."""
+        link = Connection(told["host"], told["port"], f"devices.{told['seed']}")
+        link.subscribe([self._basis.decode()])
+        link.subscribe([self._topic(relay, "price/+") for relay in self._below])
+        link.subscribe([self._topic(relay, "prices") for relay in self._below])
+        for device in self._devices:
+            device.link = link
+        return {link: {self._topic(relay, "prices").encode(): below for relay, below in self._below.items()}}
+
     def _begin(self):
         self._began, self._made, self._prices, self._seconds = time.monotonic(), 0, 0, []
-        self._confirmed = self._link.confirmed
+        self._confirmed_before = self._confirmed
 
     # Bids.
 
@@ -110,8 +119,13 @@ class Devices:
         falls, before, behind = self._drawn()
         device.bids[device.number] = falls, before, behind, now
         demands = [before] * falls + [behind] * (self._steps - falls)
-        self._link.publish(device.topic, self._format.pack(BID, self._children[at], device.number, *demands), properties)
+        self._publish(device, self._format.pack(BID, device.child, device.number, *demands), properties)
         self._made += 1
+
+    def _publish(self, device, payload, properties):
+        device.link.publish(device.topic, payload, properties)
+        self._touched.add(device.link)
+        self._published += 1
 
     def _properties(self):
         """The properties of bids that are made now."""
@@ -120,10 +134,10 @@ class Devices:
 
     def _bid_all_due(self):
         """Makes the bids that are due now, as far as the broker confirms them."""
-        if not self._rate or not self._session:
+        if not self._rate or len(self._begun) < len(self._tables):
             return
         now = time.monotonic()
-        room = UNCONFIRMED - self._link.unconfirmed
+        room = UNCONFIRMED - (self._published - self._confirmed)
         due = room if self._rate < 0 else min(room, int((now - self._due) * self._rate))
         if due <= 0:
             return
@@ -140,22 +154,29 @@ class Devices:
 
     # Prices.
 
-    def _take_all(self):
-        now = time.monotonic()
-        for topic, payload in self._link.messages():
+    def _take_all(self, link):
+        now, confirmed, tables = time.monotonic(), link.confirmed, self._tables[link]
+        for topic, payload in link.messages():
             device = self._by_topic.get(topic)
             if device is not None and len(payload) == PRICE_FORMAT.size and payload[0] == PRICE:
                 _, _, number, index, step, *_ = PRICE_FORMAT.unpack(payload)
                 self._take(device, number, index, step, now)
-            elif topic in self._of_table and payload and payload[0] == TABLE:
-                _, index, step, *_ = TABLE_FORMAT.unpack_from(payload)
-                numbers = struct.unpack_from(f">{(len(payload) - TABLE_FORMAT.size) // 4}I", payload, TABLE_FORMAT.size)
-                for device, number in zip(self._of_table[topic], numbers[self._before :], strict=False):
-                    # As a carrier does, a device leaves out what gives the same power as before.
-                    if number and not (device.index and (number, step) == (device.answered, device.step)):
-                        self._take(device, number, index, step, now)
+            elif topic in tables and payload and payload[0] == TABLE:
+                self._take_table(tables[topic], payload, now)
             elif topic == self._basis and payload:
                 self._session = json.loads(payload)["session"]
+                self._begun.add(link)
+        self._confirmed += link.confirmed - confirmed
+
+    def _take_table(self, devices, payload, now):
+        """Hands a table of prices to devices whose numbers follow each other. It ends with the last child that has a price."""
+        _, index, step, *_ = TABLE_FORMAT.unpack_from(payload)
+        begin = TABLE_FORMAT.size + 4 * (devices[0].child - 1)
+        count = min(len(devices), max(0, len(payload) - begin) // 4)
+        for device, number in zip(devices, struct.unpack_from(f">{count}I", payload, begin) if count else (), strict=False):
+            # As a carrier does, a device leaves out what gives the same power as before.
+            if number and not (device.index and (number, step) == (device.answered, device.step)):
+                self._take(device, number, index, step, now)
 
     def _take(self, device, number, index, step, now):
         """Hands a price to a device."""
@@ -179,7 +200,7 @@ class Devices:
             return None
         if word == "clear":
             for device in self._devices:
-                self._link.publish(device.topic, b"", user_properties())
+                self._publish(device, b"", user_properties())
             return None
         return self._figures() if word == "figures" else self._state()
 
@@ -187,7 +208,7 @@ class Devices:
         told = {
             "seconds": time.monotonic() - self._began,
             "bids": self._made,
-            "confirmed": self._link.confirmed - self._confirmed,
+            "confirmed": self._confirmed - self._confirmed_before,
             "prices": self._prices,
             "waited": [round(seconds, 4) for seconds in self._seconds],
         }
@@ -207,7 +228,7 @@ class Devices:
         return {
             "devices": len(self._devices),
             "bids": sum(1 for device in self._devices if device.number),
-            "unconfirmed": self._link.unconfirmed,
+            "unconfirmed": self._published - self._confirmed,
             "sums": sums,
             "held": held,
             "old": [device.topic[2:].decode() for device in self._devices if device.answered != device.number],
@@ -218,22 +239,34 @@ class Devices:
 
     # The work.
 
+    def _write_all(self, selector):
+        """Writes what waits, at all connections from time to time: then each keeps itself alive."""
+        now, touched = time.monotonic(), self._touched
+        if now > self._kept_at + KEPT:
+            self._kept_at, touched = now, self._tables
+        self._touched = set()
+        for link in touched:
+            link.write()
+            if link.waits_to_write != (link in self._full):
+                self._full ^= {link}
+                selector.modify(link, selectors.EVENT_READ | (selectors.EVENT_WRITE if link.waits_to_write else 0))
+
     def work(self):
         """Works until standard input ends."""
         selector = selectors.DefaultSelector()
         selector.register(0, selectors.EVENT_READ)
-        selector.register(self._link, selectors.EVENT_READ)
+        for link in self._tables:
+            selector.register(link, selectors.EVENT_READ)
         kept = b""
         while True:
             self._bid_all_due()
-            self._link.write()
-            events = selectors.EVENT_READ | (selectors.EVENT_WRITE if self._link.waits_to_write else 0)
-            selector.modify(self._link, events)
+            self._write_all(selector)
             wait = LOOK if self._rate <= 0 else min(LOOK, max(0.001, 1 / self._rate))
             for key, found in selector.select(wait):
-                if key.fileobj is self._link:
+                if key.fileobj != 0:
                     if found & selectors.EVENT_READ:
-                        self._take_all()
+                        self._take_all(key.fileobj)
+                    self._touched.add(key.fileobj)
                     continue
                 piece = os.read(0, 4_096)
                 if not piece:

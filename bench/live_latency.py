@@ -20,7 +20,7 @@ import tempfile
 import time
 from pathlib import Path
 
-from live_parts import load, times_text
+from live_parts import load, store_ms, times_text
 
 HERE = Path(__file__).resolve().parent
 STEPS, PORT, PATIENCE = 20, 18_874, 60
@@ -87,17 +87,6 @@ class Control:
             node, told, moment = self.told.get(timeout=max(0.01, end - time.monotonic()))
             if (node, told.get("reference")) == (device, reference):
                 return moment
-
-
-def store_ms(folder, count=50):
-    """The milliseconds that a store of a Resume takes there, as the mean of some, without what --sync-ms adds."""
-    sys.path.insert(0, str(HERE.parent / "python"))
-    from cogmaula.live.safely import replace_safely
-
-    began = time.monotonic()
-    for _ in range(count):
-        replace_safely(folder / "probe", bytes(1_500))
-    return (time.monotonic() - began) / count * 1_000
 
 
 def main():

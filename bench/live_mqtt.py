@@ -1,18 +1,22 @@
-"""A connection of MQTT 5 for thousands of devices at once, over one socket: QoS 1 alone, and no connection after the first.
+"""A connection of MQTT 5 for one simulated device, or for thousands at once: QoS 1 alone, and no connection after the first.
 
 A simulation has to be small beside what it measures. paho takes longer for a message than a node needs to count a bid, so
 the little that a device says and hears is written and read here.
 """
 
 import socket
+import ssl
 import struct
 import time
 
-CONNECT, CONNACK, PUBLISH, PUBACK, SUBSCRIBE, SUBACK, PING = 0x10, 0x20, 0x30, 0x40, 0x82, 0x90, 0xC0
+CONNECT, CONNACK, PUBLISH, PUBACK, SUBSCRIBE, SUBACK, PING, PONG = 0x10, 0x20, 0x30, 0x40, 0x82, 0x90, 0xC0, 0xD0
 QOS, RETAINED = 0x02, 0x01
 USER_PROPERTY = b"\x26"
+# More than a record of TLS, so one read leaves nothing behind that a selector does not see.
 PIECE = 262_144
 KEEPALIVE = 60
+# What a socket says that does not wait.
+NOT_NOW = (BlockingIOError, ssl.SSLWantReadError, ssl.SSLWantWriteError)
 
 
 def text(data):
@@ -37,14 +41,16 @@ def user_properties(**members):
 
 
 class Connection:
-    """A connection that never waits, except for its begin and its subscriptions."""
+    """A connection that never waits, except for its begin. With a context of TLS it is over TLS."""
 
-    def __init__(self, host, port, client_id):
+    def __init__(self, host, port, client_id, context=None):
         self._socket = socket.create_connection((host, port))
         self._socket.setsockopt(socket.IPPROTO_TCP, socket.TCP_NODELAY, 1)
+        if context is not None:
+            self._socket = context.wrap_socket(self._socket, server_hostname=host)
         self._in, self._out = b"", bytearray()
         self._last = 0
-        self._pinged = time.monotonic()
+        self._pinged, self._waits_for_pong = time.monotonic(), False
         self.published = self.confirmed = self.suback = 0
         told = text("MQTT") + b"\x05\x02" + struct.pack(">H", KEEPALIVE) + b"\x00" + text(client_id)
         self._socket.sendall(bytes([CONNECT]) + counted(told))
@@ -90,13 +96,18 @@ class Connection:
     def write(self):
         """Writes what the socket takes."""
         if time.monotonic() > self._pinged + KEEPALIVE / 3:
-            self._pinged = time.monotonic()
-            self._out += bytes([PING, 0])
+            self._ping()
         if self._out:
             try:
                 del self._out[: self._socket.send(self._out)]
-            except BlockingIOError:
+            except NOT_NOW:
                 pass
+
+    def _ping(self):
+        if self._waits_for_pong:
+            raise OSError(f"the broker has not answered a ping for {KEEPALIVE / 3:.0f} s")
+        self._pinged, self._waits_for_pong = time.monotonic(), True
+        self._out += bytes([PING, 0])
 
     def _read(self, most=PIECE):
         piece = self._socket.recv(most)
@@ -108,7 +119,7 @@ class Connection:
         """Reads what has come, and gives the topic and the payload of each message. Each is confirmed."""
         try:
             self._in += self._read()
-        except BlockingIOError:
+        except NOT_NOW:
             return
         data, at, size = self._in, 0, len(self._in)
         while at + 2 <= size:
@@ -130,6 +141,8 @@ class Connection:
                 yield self._message(kind, data, begin, end)
             elif kind == PUBACK:
                 self.confirmed += 1
+            elif kind == PONG:
+                self._waits_for_pong = False
             elif kind == SUBACK:
                 self.suback += 1
         self._in = data[at:]

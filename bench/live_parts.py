@@ -2,6 +2,9 @@
 
 import os
 import statistics
+import subprocess
+import sys
+import time
 from pathlib import Path
 
 TICKS = os.sysconf("SC_CLK_TCK")
@@ -77,3 +80,20 @@ class Spent:
 def load():
     """The load of the last minute, in words."""
     return f"load {os.getloadavg()[0]:.1f}"
+
+
+def store_ms(folder, count=50):
+    """The milliseconds that a store of a Resume takes there, as the mean of some."""
+    sys.path.insert(0, str(Path(__file__).resolve().parent.parent / "python"))
+    from cogmaula.live.safely import replace_safely
+
+    began = time.monotonic()
+    for _ in range(count):
+        replace_safely(folder / "probe", bytes(1_500))
+    return (time.monotonic() - began) / count * 1_000
+
+
+def file_system(folder):
+    """The kind of the file system of a folder."""
+    words = ["findmnt", "--noheadings", "--output", "FSTYPE", "--target", str(folder)]
+    return subprocess.run(words, capture_output=True, text=True, check=True).stdout.strip()

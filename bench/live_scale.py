@@ -4,19 +4,21 @@
     live_scale.py [--relays 1 4 16] [--low 5] [--high 500] [--seconds 30] ..
     live_scale.py --relays 64 --below 16 --brokers 4 ..
     live_scale.py --moving ..
+    live_scale.py --connections 4000 --tls 1000 --folder /var/tmp ..
 
 Broker, nodes and devices are in network namespaces of this machine, joined by a bridge. Nodes are those of `cogmaula site`, many in a
-process of Python and over one connection, each with a process of `live` of its own. Devices are simulated, thousands in a process.
-With --below so many relays are below each of the R. With --brokers the relays and their devices are divided among brokers, which bridges join
-with the first: it has the auctioneer. With --moving one device more is below the auctioneer, whose bids move the price at each clearing: so
-each clearing has a new price for each device.
+process of Python and over one connection, each with a process of `live` of its own. Devices are simulated, thousands in a process and
+over its one connection. With --connections so many of them, some below each lowest relay, have a connection of their own each, and with --tls
+so many of these over TLS. With --below so many relays are below each of the R. With --brokers the relays and their devices are divided among
+brokers, which bridges join with the first: it has the auctioneer. With --moving one device more is below the auctioneer, whose bids move the
+price at each clearing: so each clearing has a new price for each device.
 
 It prints, at a low and at a high rate of bids: bids, clearings and prices a second, the time from a device's bid to its
 setpoint, messages at the broker, and the processors that each part took. Then it prints the memory of each part.
 
 In the end all is quiet, and each device has to have a price for its newest bid, at the step that adding up all bids gives. No price may ever go back. The status is 1 if one does, or if a part ends too early.
 
-It needs root, iproute2, mosquitto, mosquitto-clients and python3-paho-mqtt.
+It needs root, iproute2, mosquitto, mosquitto-clients and python3-paho-mqtt, and openssl for TLS.
 """
 
 import argparse
@@ -24,20 +26,23 @@ import json
 import os
 import queue
 import re
+import resource
 import shutil
 import signal
 import sys
 import tempfile
 import threading
 import time
+from functools import partial
 from pathlib import Path
 
-from live_parts import Spent, children_of, load, memory_line, times_text
+from live_parts import Spent, children_of, file_system, load, memory_line, store_ms, times_text
 
 HERE = Path(__file__).resolve().parent
-sys.path.insert(0, str(HERE.parent))
+sys.path[:0] = [str(HERE.parent), str(HERE.parent / "python")]
 
-from trials.network import PORT, Mosquitto, Network  # noqa: E402
+from cogmaula.deploy.keys import make_authority, make_certificate  # noqa: E402
+from trials.network import PORT, TLS_PORT, Mosquitto, Network  # noqa: E402
 
 PREFIX, CHILDREN = "market", 256
 # The seconds after which a part that does not answer has failed, and those within which a market has to come to rest.
@@ -45,6 +50,11 @@ PATIENCE, REST = 300, 300
 # A broker whose limits are not those of one device: the connection of the simulation has thousands.
 LINES = ("sys_interval 1", "max_inflight_messages 20000", "max_queued_messages 0", "set_tcp_nodelay true")
 COUNTS = "$SYS/broker/messages/"
+# How devices are connected, and the script that simulates them: many over one connection, or each over its own.
+SHARED, OWN, SECURED = "devices", "connections", "tls"
+SCRIPTS = {SHARED: "live_devices.py", OWN: "live_connections.py", SECURED: "live_connections.py"}
+# The files that a process has open, except for the connections of devices.
+FILES = 4_096
 
 
 class Failed(Exception):
@@ -52,10 +62,10 @@ class Failed(Exception):
 
 
 class Part:
-    """A process in a namespace, told by lines and answering by lines."""
+    """A process in a namespace, told by lines and answering by lines. If it simulates devices it has their count, and how they are connected."""
 
-    def __init__(self, network, name, command, log):
-        self.name = name
+    def __init__(self, network, name, command, log, kind="", devices=0):
+        self.name, self.kind, self.devices = name, kind, devices
         environment = {**os.environ, "PYTHONPATH": str(HERE.parent / "python"), "PYTHONDONTWRITEBYTECODE": "1"}
         self.process = network.start(
             name, command, stdin=-1, stdout=-1, stderr=log, text=True, bufsize=1, env=environment
@@ -111,12 +121,13 @@ class Looker:
         return int.from_bytes(self.newest.get(f"{PREFIX}/auctioneer/resume", bytes(5))[1:5], "big")
 
 
-def tables_of(arguments, state, address, sort, name, parent=None, child=None):
+def tables_of(arguments, folder, address, sort, name, parent=None, child=None):
     """The settings of a node, as the tables of a file."""
     place = {} if parent is None else {"parent": parent, "child": child}
-    node = {"name": name, "state": str(state / name), "live": arguments.live, "pause": arguments.pause, **place}
+    node = {"name": name, "state": str(folder / "state" / name), "live": arguments.live, "pause": arguments.pause, **place}
     basis = {"min": 0, "max": arguments.steps - 1, "steps": arguments.steps}
-    broker = {"host": address, "port": PORT, "prefix": PREFIX}
+    way = {"port": TLS_PORT, "ca": str(folder / "authority" / "ca.crt")} if arguments.nodes_tls else {"port": PORT}
+    broker = {"host": address, "prefix": PREFIX, **way}
     return {"sort": sort, "node": node, "basis": basis, "broker": broker, "prices": {"together": not arguments.single}}
 
 
@@ -134,6 +145,24 @@ def pieces(items, size):
     return [items[at : at + size] for at in range(0, len(items), size)]
 
 
+def shares(count, parts):
+    """A count in so many parts, which differ by one at most."""
+    return [count * (part + 1) // parts - count * part // parts for part in range(parts)]
+
+
+def children_by_kind(arguments, relays):
+    """By how devices are connected, and by relay: the numbers of its first and its last child that is connected so."""
+    found = {kind: {} for kind in SCRIPTS}
+    own, secured = shares(arguments.connections - arguments.tls, len(relays)), shares(arguments.tls, len(relays))
+    for relay, *counts in zip(relays, own, secured, strict=True):
+        last = 0
+        for kind, count in zip(SCRIPTS, [CHILDREN - sum(counts), *counts], strict=True):
+            if count:
+                found[kind][relay] = last + 1, last + count
+            last += count
+    return found
+
+
 class Market:
     """All parts of a market with R relays below the auctioneer."""
 
@@ -141,14 +170,19 @@ class Market:
         self.arguments, self._network, self._log = arguments, network, log
         numbers = range(1, relays + 1)
         below = arguments.below or relays
-        first = Mosquitto(network, folder / "broker", *LINES).start()
+        self._folder = folder
+        certify = partial(make_certificate, folder / "authority") if arguments.tls or arguments.nodes_tls else None
+        if certify:
+            make_authority(folder / "authority")
+        first = Mosquitto(network, folder / "broker", *LINES, certify=certify).start()
         self.brokers = [first]
         for place in range(1, arguments.brokers):
             bridge = bridge_lines(first.address, numbers[place :: arguments.brokers])
-            self.brokers.append(Mosquitto(network, folder / f"broker{place}", *LINES, *bridge, name=f"broker{place}").start())
+            name = f"broker{place}"
+            self.brokers.append(Mosquitto(network, folder / name, *LINES, *bridge, name=name, certify=certify).start())
         self.looker = Looker(network, first.address)
         told, self._at = [], []
-        make = lambda broker, *words: tables_of(arguments, folder / "state", broker.address, *words)  # noqa: E731
+        make = lambda broker, *words: tables_of(arguments, folder, broker.address, *words)  # noqa: E731
         for place, broker in enumerate(self.brokers):
             above = {f"relay{number}": number for number in numbers[place :: arguments.brokers]}
             lowest = [(f"{name}-{number}", name, number) for name in above for number in range(1, below + 1)]
@@ -163,19 +197,31 @@ class Market:
             part.tell(json.dumps({"name": f"site{number}", "nodes": tables}))
         for node in self.nodes:
             node.answer()
-        size = max(1, arguments.devices // CHILDREN)
-        batches = [(broker, them) for broker, names in zip(self.brokers, self._at, strict=True) for them in pieces(names, size)]
-        market = {"port": PORT, "prefix": PREFIX, "steps": arguments.steps, "children": CHILDREN}
-        self.devices = [
-            self._started(f"devices{number}", ["live_devices.py", json.dumps({**market, "host": broker.address, "relays": them, "seed": number})])
-            for number, (broker, them) in enumerate(batches)
-        ]
-        moving = {**market, "host": first.address, "relays": ["auctioneer"], "first": relays + 1, "children": 1, "seed": len(batches)}
-        self.movers = [self._started("mover", ["live_mover.py", json.dumps(moving)])] if arguments.moving else []
+        self.devices = []
+        for kind, below in children_by_kind(arguments, self.lowest).items():
+            for broker, names in zip(self.brokers, self._at, strict=True):
+                # All connections of a broker are in one process.
+                size = max(1, arguments.devices // CHILDREN) if kind == SHARED else len(names)
+                for them in pieces([name for name in names if name in below], size):
+                    self.devices.append(self._simulated(kind, broker, {name: below[name] for name in them}, SCRIPTS[kind]))
+        place = {"auctioneer": (relays + 1, relays + 1)}
+        self.movers = [self._simulated("mover", first, place, "live_mover.py")] if arguments.moving else []
 
-    def _started(self, name, words):
+    def _simulated(self, kind, broker, below, script):
+        """A process of devices of these places, each with a relay, the first and the last."""
+        seed = len(self.devices)
+        way = {"port": TLS_PORT, "ca": str(self._folder / "authority" / "ca.crt")} if kind == SECURED else {"port": PORT}
+        told = {"host": broker.address, **way, "prefix": PREFIX, "steps": self.arguments.steps, "relays": below, "seed": seed}
+        count = sum(last - first + 1 for first, last in below.values())
+        return self._started(f"{kind}{seed}", [script, json.dumps(told)], kind, count)
+
+    def _started(self, name, words, *more):
         self._network.add(name)
-        return Part(self._network, name, [sys.executable, "-B", str(HERE / words[0]), *words[1:]], self._log)
+        return Part(self._network, name, [sys.executable, "-B", str(HERE / words[0]), *words[1:]], self._log, *more)
+
+    def of_kind(self, kind):
+        """The processes of the devices that are connected so."""
+        return [part for part in self.devices if part.kind == kind]
 
     def parts(self):
         """The numbers of the processes by part."""
@@ -184,7 +230,8 @@ class Market:
             "broker": [broker.process.pid for broker in self.brokers],
             "nodes": nodes,
             "live": [child for number in nodes for child in children_of(number)],
-            "simulation": [device.process.pid for device in [*self.devices, *self.movers]],
+            "simulation": [device.process.pid for device in [*self.of_kind(SHARED), *self.movers]],
+            **{kind: [part.process.pid for part in self.of_kind(kind)] for kind in (OWN, SECURED) if self.of_kind(kind)},
         }
 
     def asked(self, parts, line):
@@ -206,8 +253,9 @@ class Market:
 
     def rate(self, word, rate):
         """Lets the devices bid, so many bids a second in all."""
-        for device in self.devices:
-            device.tell(f"{word} {rate if rate <= 0 else rate / len(self.devices)}")
+        count = sum(part.devices for part in self.devices)
+        for part in self.devices:
+            part.tell(f"{word} {rate if rate <= 0 else rate * part.devices / count}")
 
     def phase(self, name, rate, seconds):
         """Lets bids flow for so many seconds, and prints what came."""
@@ -231,6 +279,10 @@ class Market:
         print(f"    clearings {clearings}; a second: prices to devices {prices / took:.1f}, "
               f"packets to the broker {came / took:.0f}, from it {gone / took:.0f}")
         print(f"    from a bid to its setpoint, {len(waited):,} bids: {times_text(waited)}")
+        for part, figures in zip(self.devices, told, strict=True):
+            if part.kind != SHARED:
+                waited = figures["waited"]
+                print(f"      of {part.name}, {figures['prices']} prices, {len(waited):,} bids: {times_text(waited)}")
         print(f"    processors: {processors}", flush=True)
 
     def require_nodes(self):
@@ -279,7 +331,11 @@ class Market:
             print(memory_line("live relay", services))
             print(memory_line("Python of the auctioneer's node", parts["nodes"][:1]))
             print(memory_line(f"Python of at most {self.arguments.nodes} relays", parts["nodes"][1:]))
-        print(memory_line(f"simulation of at most {self.arguments.devices} devices", parts["simulation"]), flush=True)
+        print(memory_line(f"simulation of at most {self.arguments.devices} devices", parts["simulation"]))
+        for kind in (OWN, SECURED):
+            if kind in parts:
+                count = sum(part.devices for part in self.of_kind(kind))
+                print(memory_line(f"holder of {count:,} connections{' over TLS' if kind == SECURED else ''}", parts[kind]), flush=True)
 
 
 def measured(arguments, relays, folder, log):
@@ -352,11 +408,20 @@ def words():
     parser.add_argument("--profile", help="the first part of the names of files with the profile of each process of nodes, which is slow then")
     parser.add_argument("--devices", type=int, default=8_192, help="the most devices in a process")
     parser.add_argument("--folder", default="/dev/shm", help="where the nodes keep their Resumes; /dev/shm is memory")
+    parser.add_argument("--connections", type=int, default=0, help="how many devices have a connection of their own each")
+    parser.add_argument("--tls", type=int, default=0, help="how many of these connections are over TLS")
+    parser.add_argument("--nodes-tls", action="store_true", help="let the connections of the nodes be over TLS too")
     parser.add_argument("--live", default=os.environ.get("COGMAULA_LIVE", "live"), help="the program live")
     parser.add_argument("--moving", action="store_true", help="move the price at each clearing, by a device more below the auctioneer")
     parser.add_argument("--single", action="store_true", help="tell each price in a topic of its own, and not all together")
     parser.add_argument("--broker-alone", action="store_true", help="leave the nodes out, and measure devices and broker")
     return parser.parse_args()
+
+
+def raise_open_files(count):
+    """Lets this process and those that it starts have so many files open."""
+    soft, hard = resource.getrlimit(resource.RLIMIT_NOFILE)
+    resource.setrlimit(resource.RLIMIT_NOFILE, (max(soft, count), max(hard, count)))
 
 
 def main():
@@ -365,7 +430,13 @@ def main():
     statuses = []
     if arguments.moving and max(arguments.relays) == CHILDREN:
         sys.exit(f"the auctioneer has at most {CHILDREN} children: with --moving give it {CHILDREN - 1} relays or fewer")
-    print(f"{os.cpu_count()} processors, {load()}, Resumes in {arguments.folder}", flush=True)
+    lowest = min(relays * (arguments.below or relays) for relays in arguments.relays)
+    if not 0 <= arguments.tls <= arguments.connections <= (CHILDREN - 1) * lowest:
+        sys.exit("a relay has one device at least without a connection of its own, and --tls are of those of --connections")
+    raise_open_files(arguments.connections + FILES)
+    with tempfile.TemporaryDirectory(prefix="live_scale.", dir=arguments.folder) as probe:
+        print(f"{os.cpu_count()} processors, {load()}, Resumes in {arguments.folder} ({file_system(probe)}), "
+              f"where a safe store takes {store_ms(Path(probe)):.2f} ms", flush=True)
     for relays in arguments.relays:
         folder = Path(tempfile.mkdtemp(prefix="live_scale.", dir=arguments.folder))
         try:

@@ -14,7 +14,7 @@ from pathlib import Path
 SPACES = Path("/run/netns")
 NAME = re.compile(r"cogmaula-([0-9]+)-.*")
 LAST_SECONDS = 10
-PORT = 1883
+PORT, TLS_PORT = 1883, 8883
 
 
 def ip(*words):
@@ -109,14 +109,21 @@ class Network:
 
 
 class Mosquitto:
-    """A mosquitto in a namespace of its own, which may be killed and started again."""
+    """A mosquitto in a namespace of its own, which may be killed and started again.
 
-    def __init__(self, network, folder, *lines, name="broker"):
+    With `certify`, which puts broker.crt and broker.key for an address into a folder, it also listens with TLS.
+    """
+
+    def __init__(self, network, folder, *lines, name="broker", certify=None):
         self._network, self._folder, self._name = network, Path(folder), name
         self._folder.mkdir(parents=True)
         network.add(name)
         self.address = network.addresses[name]
         first = [f"listener {PORT} 0.0.0.0", "allow_anonymous true", "user root", "log_dest file " + str(self._log)]
+        if certify is not None:
+            certify(self._folder, self.address)
+            files = [f"{word}file {self._folder}/broker.{ending}" for word, ending in (("cert", "crt"), ("key", "key"))]
+            first = [f"listener {TLS_PORT} 0.0.0.0", *files, *first]
         (self._folder / "mosquitto.conf").write_text("\n".join([*first, *lines]) + "\n")
         self.process = None
 
