@@ -200,8 +200,8 @@ class Market:
         self.devices = []
         for kind, below in children_by_kind(arguments, self.lowest).items():
             for broker, names in zip(self.brokers, self._at, strict=True):
-                # All connections of a broker are in one process.
-                size = max(1, arguments.devices // CHILDREN) if kind == SHARED else len(names)
+                # All connections of a kind at a broker are in one process.
+                size = max(1, arguments.devices // CHILDREN if kind == SHARED else len(names))
                 for them in pieces([name for name in names if name in below], size):
                     self.devices.append(self._simulated(kind, broker, {name: below[name] for name in them}, SCRIPTS[kind]))
         place = {"auctioneer": (relays + 1, relays + 1)}
