@@ -1,139 +1,216 @@
-//! Tests of device agents: which setpoints are told, and what is left after a restart. The numbers are worked out by hand.
+//! Tests of device agents: scripts of which setpoints are told, and of what is left after a restart. The numbers are worked out
+//! by hand.
 
-ghost use Rattle.std.specs.Prelude.{◌≡◌, length, IfOk};
-
+use crate::bids::bid_of;
 use crate::same::same;
 use crate::shared::may_be_shared;
-use pm_bid::{ArrayBid, uncounted};
 use pm_control::{ControlAgent, OfferFault, Setpoint};
 use pm_session::PriceUpdate;
 use std::alloc::Global;
-use std::process::Abort;
 use std::test::Fail;
 
-/// The offer of these demands at two steps.
-fn offer_of(alloc: Global, demands: [i64; 2]) -> Result<ArrayBid, Fail>
-    ensures { IfOk result (λ bid. length bid ≡ 2) }
-{
-    let demands = demands.to_vec(alloc)?;
-    Ok(ArrayBid::new(demands, 2, &mut uncounted())?)
+/// A row of a script: a call of an agent, and what it answers.
+#[derive(Clone, Copy)]
+enum Row {
+    /// An offer of these demands at both steps, with this answer.
+    Offers([i64; 2], Result<u32, OfferFault>),
+    /// A price of this step, number and index tells to take this power, or nothing.
+    Tells(u32, u32, u32, Option<i64>),
+    /// The agent leaves under this number.
+    Leaves(Option<u32>),
+    /// Its parent keeps this number, and it offers anew under the other one.
+    TakesOld(u32, Option<u32>),
+    /// What it would come back with: its newest number, whether that has an offer, and the index.
+    Stores(u32, bool, u32),
 }
 
-/// Makes an offer of these demands, with this answer.
+/// The agent with which a script begins.
+#[derive(Clone, Copy)]
+enum Start {
+    New,
+    /// It comes back under this number, with an offer of these demands.
+    Back(u32, Option<[i64; 2]>),
+}
+
+fn start_of(alloc: Global, start: Start) -> Result<ControlAgent, Fail> {
+    Ok(match start {
+        Start::New => ControlAgent::new(alloc)?,
+        Start::Back(number, None) => ControlAgent::resumed(alloc, number, None, 0)?,
+        Start::Back(number, Some(demands)) => {
+            ControlAgent::resumed(alloc, number, Some(bid_of(alloc, demands)?), 0)?
+        }
+    })
+}
+
+/// Whether an offer has this answer.
 fn offers(
-    rt: &impl Abort,
     alloc: Global,
     agent: &mut ControlAgent,
     demands: [i64; 2],
-    answer: Result<u32, OfferFault>,
-) -> Result<(), Fail> {
-    let offer = offer_of(alloc, demands)?;
-    same(rt, demands, agent.offer(offer), answer);
-    Ok(())
+    due: Result<u32, OfferFault>,
+) -> Result<bool, Fail> {
+    Ok(agent.offer(bid_of(alloc, demands)?) == due)
 }
 
-/// The setpoint for a price of this step, for an offer's number, of this index.
-fn told(agent: &mut ControlAgent, step: u32, number: u32, index: u32) -> Option<Setpoint> {
-    agent.take_price(PriceUpdate {
+/// Whether a price tells to take this power.
+fn tells(agent: &mut ControlAgent, price: PriceUpdate, due: Option<i64>) -> bool {
+    let PriceUpdate {
         step,
         number,
         index,
-    })
-}
-
-/// To take this power.
-fn to(number: u32, index: u32, step: u32, power: i64) -> Option<Setpoint> {
-    Some(Setpoint {
-        number,
-        index,
-        step,
-        power,
-    })
-}
-
-#[test]
-fn a_price_tells_the_power_of_the_offer_it_names(rt: HostRuntime) -> Result<(), Fail> {
-    let alloc = rt.alloc();
-    let mut agent = ControlAgent::new(alloc)?;
-    offers(&rt, alloc, &mut agent, [5, -3], Ok(2))?;
-    offers(&rt, alloc, &mut agent, [4, -2], Ok(4))?;
-    same(&rt, "first", told(&mut agent, 1, 2, 1), to(2, 1, 1, -3));
-    same(&rt, "again", told(&mut agent, 1, 2, 1), None);
-    same(&rt, "second", told(&mut agent, 0, 4, 2), to(4, 2, 0, 4));
-    same(&rt, "let go", told(&mut agent, 0, 2, 3), None);
-    same(&rt, "kept", told(&mut agent, 1, 4, 4), to(4, 4, 1, -2));
-    same(&rt, "left", agent.leave(), Some(6));
-    same(&rt, "gone", told(&mut agent, 0, 4, 5), None);
-    Ok(())
-}
-
-#[test]
-fn eight_offers_are_unanswered_at_most(rt: HostRuntime) -> Result<(), Fail> {
-    let alloc = rt.alloc();
-    let mut agent = ControlAgent::new(alloc)?;
-    for number in [2, 4, 6, 8, 10, 12, 14, 16] {
-        offers(&rt, alloc, &mut agent, [10, 0], Ok(number))?;
+    } = price;
+    match (agent.take_price(price), due) {
+        (Some(have), Some(power)) => {
+            have == Setpoint {
+                number,
+                index,
+                step,
+                power,
+            }
+        }
+        (None, None) => true,
+        _ => false,
     }
-    offers(&rt, alloc, &mut agent, [20, 0], Err(OfferFault::WindowFull))?;
-    same(&rt, "third", told(&mut agent, 0, 6, 1), to(6, 1, 0, 10));
-    offers(&rt, alloc, &mut agent, [20, 0], Ok(18))?;
-    same(&rt, "ninth", told(&mut agent, 0, 18, 2), to(18, 2, 0, 20));
-    Ok(())
 }
 
-#[test]
-fn an_agent_comes_back_with_its_newest_offer(rt: HostRuntime) -> Result<(), Fail> {
-    let alloc = rt.alloc();
-    let mut agent = ControlAgent::new(alloc)?;
-    offers(&rt, alloc, &mut agent, [5, -3], Ok(2))?;
-    offers(&rt, alloc, &mut agent, [4, -2], Ok(4))?;
-    same(&rt, "first", told(&mut agent, 1, 2, 1), to(2, 1, 1, -3));
+/// What an agent would come back with: its newest number, whether that has an offer, and the index.
+fn stored(agent: &ControlAgent) -> (u32, bool, u32) {
     let resume = agent.resume();
-    let stored = (resume.number, resume.newest.is_some(), resume.index);
-    same(&rt, "stored", stored, (4, true, 1));
-    let newest = offer_of(alloc, [4, -2])?;
-    let mut back = ControlAgent::resumed(alloc, 4, Some(newest), 0)?;
-    same(&rt, "older", told(&mut back, 1, 2, 1), None);
-    same(&rt, "newest", told(&mut back, 1, 4, 2), to(4, 2, 1, -2));
-    Ok(())
+    (resume.number, resume.newest.is_some(), resume.index)
+}
+
+fn is_right(alloc: Global, agent: &mut ControlAgent, row: Row) -> Result<bool, Fail> {
+    match row {
+        Row::Offers(demands, due) => offers(alloc, agent, demands, due),
+        Row::Tells(step, number, index, power) => {
+            let price = PriceUpdate {
+                step,
+                number,
+                index,
+            };
+            Ok(tells(agent, price, power))
+        }
+        Row::Leaves(number) => Ok(agent.leave() == number),
+        Row::TakesOld(kept, number) => Ok(agent.take_old(kept) == number),
+        Row::Stores(number, newest, index) => Ok(stored(agent) == (number, newest, index)),
+    }
+}
+
+/// The place of the first row that is wrong.
+fn first_wrong(
+    alloc: Global,
+    agent: &mut ControlAgent,
+    rows: &[Row],
+) -> Result<Option<usize>, Fail> {
+    for (place, row) in rows.iter().enumerate() {
+        if !is_right(alloc, agent, *row)? {
+            return Ok(Some(place));
+        }
+    }
+    Ok(None)
+}
+
+const TELLS_THE_POWER: &[Row] = &[
+    Row::Offers([5, -3], Ok(2)),
+    Row::Offers([4, -2], Ok(4)),
+    Row::Tells(1, 2, 1, Some(-3)),
+    Row::Tells(1, 2, 1, None),
+    Row::Tells(0, 4, 2, Some(4)),
+    Row::Tells(0, 2, 3, None),
+    Row::Tells(1, 4, 4, Some(-2)),
+    Row::Leaves(Some(6)),
+    Row::Tells(0, 4, 5, None),
+];
+
+const FILLS_THE_WINDOW: &[Row] = &[
+    Row::Offers([10, 0], Ok(2)),
+    Row::Offers([10, 0], Ok(4)),
+    Row::Offers([10, 0], Ok(6)),
+    Row::Offers([10, 0], Ok(8)),
+    Row::Offers([10, 0], Ok(10)),
+    Row::Offers([10, 0], Ok(12)),
+    Row::Offers([10, 0], Ok(14)),
+    Row::Offers([10, 0], Ok(16)),
+    Row::Offers([20, 0], Err(OfferFault::WindowFull)),
+    Row::Tells(0, 6, 1, Some(10)),
+    Row::Offers([20, 0], Ok(18)),
+    Row::Tells(0, 18, 2, Some(20)),
+];
+
+const STORES_ITS_NEWEST: &[Row] = &[
+    Row::Offers([5, -3], Ok(2)),
+    Row::Offers([4, -2], Ok(4)),
+    Row::Tells(1, 2, 1, Some(-3)),
+    Row::Stores(4, true, 1),
+];
+
+const HAS_ITS_NEWEST: &[Row] = &[Row::Tells(1, 2, 1, None), Row::Tells(1, 4, 2, Some(-2))];
+
+const OFFERS_ANEW: &[Row] = &[
+    Row::Offers([5, -3], Ok(2)),
+    Row::Offers([4, -2], Ok(4)),
+    Row::TakesOld(4, None),
+    Row::TakesOld(5, Some(8)),
+    Row::Tells(1, 4, 1, None),
+    Row::Tells(1, 8, 2, Some(-2)),
+    Row::Leaves(Some(10)),
+    Row::TakesOld(11, None),
+];
+
+const RUNS_OUT: &[Row] = &[
+    Row::Offers([1, 0], Ok(4_294_967_292)),
+    Row::Offers([2, 0], Err(OfferFault::OutOfNumbers)),
+    Row::Leaves(Some(4_294_967_294)),
+    Row::Leaves(None),
+    Row::Offers([3, 0], Err(OfferFault::OutOfNumbers)),
+];
+
+/// What each script shows, how it begins, and its rows.
+const SCRIPTS: &[(&str, Start, &[Row])] = &[
+    (
+        "a price tells the power of the offer that it names",
+        Start::New,
+        TELLS_THE_POWER,
+    ),
+    (
+        "eight offers are unanswered at most",
+        Start::New,
+        FILLS_THE_WINDOW,
+    ),
+    (
+        "an agent stores its newest offer",
+        Start::New,
+        STORES_ITS_NEWEST,
+    ),
+    (
+        "an agent comes back with its newest offer",
+        Start::Back(4, Some([4, -2])),
+        HAS_ITS_NEWEST,
+    ),
+    (
+        "an agent that was let go offers anew",
+        Start::New,
+        OFFERS_ANEW,
+    ),
+    (
+        "the last number is left for leaving",
+        Start::Back(4_294_967_290, None),
+        RUNS_OUT,
+    ),
+];
+
+fn first_wrong_from(alloc: Global, start: Start, rows: &[Row]) -> Result<Option<usize>, Fail> {
+    let mut agent = start_of(alloc, start)?;
+    first_wrong(alloc, &mut agent, rows)
 }
 
 #[test]
-fn an_agent_that_was_let_go_offers_anew(rt: HostRuntime) -> Result<(), Fail> {
-    let alloc = rt.alloc();
-    let mut agent = ControlAgent::new(alloc)?;
-    offers(&rt, alloc, &mut agent, [5, -3], Ok(2))?;
-    offers(&rt, alloc, &mut agent, [4, -2], Ok(4))?;
-    same(&rt, "its own", agent.take_old(4), None);
-    same(&rt, "anew", agent.take_old(5), Some(8));
-    same(&rt, "before", told(&mut agent, 1, 4, 1), None);
-    same(&rt, "newest", told(&mut agent, 1, 8, 2), to(8, 2, 1, -2));
-    same(&rt, "left", agent.leave(), Some(10));
-    same(&rt, "offers nothing", agent.take_old(11), None);
+fn agents_answer_their_scripts(rt: HostRuntime) -> Result<(), Fail> {
+    for (name, start, rows) in SCRIPTS {
+        let wrong = first_wrong_from(rt.alloc(), *start, *rows)?;
+        same(&rt, *name, wrong, None);
+    }
     Ok(())
-}
-
-#[test]
-fn the_last_number_is_left_for_leaving(rt: HostRuntime) -> Result<(), Fail> {
-    let alloc = rt.alloc();
-    let mut agent = ControlAgent::resumed(alloc, 4_294_967_290, None, 0)?;
-    offers(&rt, alloc, &mut agent, [1, 0], Ok(4_294_967_292))?;
-    offers(
-        &rt,
-        alloc,
-        &mut agent,
-        [2, 0],
-        Err(OfferFault::OutOfNumbers),
-    )?;
-    same(&rt, "left", agent.leave(), Some(4_294_967_294));
-    same(&rt, "left twice", agent.leave(), None);
-    offers(
-        &rt,
-        alloc,
-        &mut agent,
-        [3, 0],
-        Err(OfferFault::OutOfNumbers),
-    )
 }
 
 #[test]

@@ -7,6 +7,8 @@
 #[cfg(test)]
 mod auctioneer;
 #[cfg(test)]
+mod bids;
+#[cfg(test)]
 mod cache;
 #[cfg(test)]
 mod cells;

@@ -1,50 +1,141 @@
-//! Tests of relays: what goes up and down, and what is left after a restart. The numbers are worked out by hand.
+//! Tests of relays: scripts of what goes up and down, and of what is left after a restart. The numbers are worked out by hand.
 
-ghost use Rattle.std.specs.Prelude.{◌≡◌, ◌<◌, ◌≤◌, length, IfOk};
-ghost use Rattle.pm_base.specs.Limits.{demand_limit, most_nodes};
-ghost use Rattle.pm_bid.specs.Bids.{AllWithinLimit};
+ghost use Rattle.std.specs.Prelude.{◌≡◌, IfOk};
+ghost use Rattle.pm_relay.specs.Relays.{AreRelayLimits};
 
+use crate::bids::bid_of;
 use crate::same::same;
 use crate::shared::may_be_shared;
 use pm_base::{Limits, MOST_NODES};
-use pm_bid::{ArrayBid, uncounted};
+use pm_bid::uncounted;
 use pm_cache::CacheFault;
 use pm_relay::{PriceOutcome, Relay, Resume, SendFault};
 use pm_session::PriceUpdate;
 use std::alloc::Global;
-use std::process::Abort;
 use std::test::Fail;
 
-/// The bid of these demands at two steps.
-fn bid_of(alloc: Global, demands: [i64; 2]) -> Result<ArrayBid, Fail>
-    ensures steps { IfOk result (λ bid. length bid ≡ 2) }
-    ensures small { IfOk result (λ bid. AllWithinLimit demand_limit bid) }
-{
-    let demands = demands.to_vec(alloc)?;
-    Ok(ArrayBid::new(demands, 2, &mut uncounted())?)
+/// A row of a script: a call of a relay, and what it answers.
+#[derive(Clone, Copy)]
+enum Row {
+    /// A child's bid under this number, of these demands at both steps, is learnt.
+    Learns(usize, u32, [i64; 2]),
+    /// It is old: a bid of the number behind it is kept.
+    IsOld(usize, u32, [i64; 2], u32),
+    /// A child says under this number that it is gone.
+    Leaves(usize, u32),
+    /// A child is let go, under this number.
+    LetsGo(usize, u32),
+    /// The bid of this number and these demands is sent.
+    Sends(u32, [i64; 2]),
+    /// No bid is sent, for this reason.
+    Refuses(SendFault),
+    /// The number of the bid that can be sent again.
+    SendsAgain(Option<u32>),
+    /// The demands of the newest bid.
+    Demands([i64; 2]),
+    /// A price of step 0, by its number and index, goes on: the step and the number for each of the first two children.
+    Passes(u32, u32, Option<(u32, u32)>, Option<(u32, u32)>),
+    /// A price of step 0, by its number and index, does not go on: this comes of it.
+    Takes(u32, u32, PriceOutcome),
+    /// The wide limits come under number 2 in place 2, with this answer.
+    Widens(Result<(), CacheFault>),
+    /// What it would come back with: the last number, the first two children's numbers, the number answered and the index.
+    Stores(u32, [u32; 2], u32, u32),
+    /// It would come back with the wide limits.
+    StoresWide,
 }
 
-/// Learns a child's bid of these demands.
+/// The relay with which a script begins.
+#[derive(Clone, Copy)]
+enum Start {
+    New,
+    /// It comes back: the last number, the first three children's numbers, the number answered and the index.
+    Back(u32, [u32; 3], u32, u32),
+    /// It comes back with its bid 2, which was made under the wide limits, given under number 2 in place 2.
+    BackWide,
+}
+
+/// The limits of the first start, in watts.
+const NARROW: Limits = Limits {
+    floor: -100,
+    ceiling: 150,
+};
+
+/// Wider limits.
+const WIDE: Limits = Limits {
+    floor: -200,
+    ceiling: 200,
+};
+
+/// The relay that comes back with this, and with the narrow limits for what it sends next.
+fn back(
+    alloc: Global,
+    last: u32,
+    numbers: [u32; 3],
+    answered: u32,
+    index: u32,
+    limits: Limits,
+) -> Result<Relay, Fail>
+    requires { AreRelayLimits limits }
+    ensures { IfOk result (λ relay. relay.gathered.cache.steps ≡ 2) }
+{
+    if answered > last {
+        return Err(Fail::from("no such answer"));
+    }
+    let mut all = [0; MOST_NODES];
+    all[0] = numbers[0];
+    all[1] = numbers[1];
+    all[2] = numbers[2];
+    let resume = Resume {
+        last,
+        numbers: &all,
+        limits,
+        answered,
+        index,
+    };
+    Ok(Relay::resumed(alloc, 2, NARROW, &resume)?)
+}
+
+fn start_of(alloc: Global, start: Start) -> Result<Relay, Fail>
+    ensures { IfOk result (λ relay. relay.gathered.cache.steps ≡ 2) }
+{
+    match start {
+        Start::New => Ok(Relay::new(alloc, 2, NARROW)?),
+        Start::Back(last, numbers, answered, index) => {
+            back(alloc, last, numbers, answered, index, NARROW)
+        }
+        Start::BackWide => back(alloc, 2, [2, 2, 2], 0, 0, WIDE),
+    }
+}
+
+/// Whether a child's bid has this answer.
 fn learns(
-    rt: &impl Abort,
     alloc: Global,
     relay: &mut Relay,
     child: usize,
     number: u32,
     demands: [i64; 2],
-) -> Result<(), Fail>
-    requires child { child < most_nodes }
+    due: Result<(), CacheFault>,
+) -> Result<bool, Fail>
     requires steps { relay.old.gathered.cache.steps ≡ 2 }
     ensures steps { relay.new.gathered.cache.steps ≡ 2 }
 {
     let bid = bid_of(alloc, demands)?;
-    same(
-        rt,
-        (child, number),
-        relay.learn(child, number, Some(&bid)),
-        Ok(()),
-    );
-    Ok(())
+    Ok(child < MOST_NODES && relay.learn(child, number, Some(&bid)) == due)
+}
+
+/// Whether a child can leave under this number.
+fn leaves(relay: &mut Relay, child: usize, number: u32) -> bool
+    ensures { relay.new.gathered.cache.steps ≡ relay.old.gathered.cache.steps }
+{
+    child < MOST_NODES && relay.learn(child, number, None).is_ok()
+}
+
+/// Whether a child is let go under this number.
+fn lets_go(relay: &mut Relay, child: usize, number: u32) -> bool
+    ensures { relay.new.gathered.cache.steps ≡ relay.old.gathered.cache.steps }
+{
+    child < MOST_NODES && relay.expire(child) == number
 }
 
 /// The demand of the newest bid, at both steps.
@@ -56,47 +147,27 @@ fn demands_of(relay: &Relay) -> [i64; 2]
     [demand.at(0, &mut counter), demand.at(1, &mut counter)]
 }
 
-/// Sends the bid of this number and these demands.
-fn sends(rt: &impl Abort, relay: &mut Relay, number: u32, demands: [i64; 2])
-    requires steps { relay.old.gathered.cache.steps ≡ 2 }
-    ensures steps { relay.new.gathered.cache.steps ≡ 2 }
-{
-    same(rt, "sent", relay.send(), Ok(number));
-    same(rt, number, demands_of(relay), demands);
-}
-
-/// Sends nothing, for this reason.
-fn refuses(rt: &impl Abort, relay: &mut Relay, fault: SendFault)
+/// Whether sending has this answer.
+fn sends(relay: &mut Relay, due: Result<u32, SendFault>) -> bool
     ensures { relay.new.gathered.cache.steps ≡ relay.old.gathered.cache.steps }
 {
-    match relay.send() {
-        Ok(number) => panic!(rt; "sent {number}, and not {fault}"),
-        Err(have) => same(rt, "refused", have, fault),
-    }
+    relay.send() == due
 }
 
-/// What goes to the first two children for a price of step 0 that goes on, and that no other child has one.
-fn passes(rt: &impl Abort, relay: &mut Relay, number: u32, index: u32) -> [Option<PriceUpdate>; 2]
-    requires steps { relay.old.gathered.cache.steps ≡ 2 }
-    ensures steps { relay.new.gathered.cache.steps ≡ 2 }
-{
-    let price = price_of(number, index);
-    match relay.take_price(price) {
-        PriceOutcome::PassedOn => {
-            let prices = relay.prices(price);
-            same(rt, "children", prices.children(), MOST_NODES);
-            same(rt, "no child", prices.for_child(2), None);
-            [prices.for_child(0), prices.for_child(1)]
+/// Whether a child is told this step and number under the index.
+fn is_told(have: Option<PriceUpdate>, due: Option<(u32, u32)>, index: u32) -> bool {
+    match (have, due) {
+        (Some(have), Some((step, number))) => {
+            (have.step, have.number, have.index) == (step, number, index)
         }
-        other => panic!(rt; "price {index} for {number}: {other:?}"),
+        (None, None) => true,
+        _ => false,
     }
 }
 
 /// A price of step 0.
 fn price_of(number: u32, index: u32) -> PriceUpdate
-    ensures number { result.number ≡ number }
-    ensures index { result.index ≡ index }
-    ensures step { result.step ≡ 0 }
+    ensures { result.step ≡ 0 }
 {
     PriceUpdate {
         step: 0,
@@ -105,67 +176,44 @@ fn price_of(number: u32, index: u32) -> PriceUpdate
     }
 }
 
-/// The price of step 1 for a child's number.
-fn moved(number: u32, index: u32) -> Option<PriceUpdate> {
-    Some(PriceUpdate {
-        step: 1,
-        number,
-        index,
-    })
+/// Whether a price goes on, to the first two children alone, who are told this.
+fn passes(
+    relay: &mut Relay,
+    price: PriceUpdate,
+    first: Option<(u32, u32)>,
+    second: Option<(u32, u32)>,
+) -> bool
+    requires steps { relay.old.gathered.cache.steps ≡ 2 }
+    requires step { price.step ≡ 0 }
+    ensures steps { relay.new.gathered.cache.steps ≡ 2 }
+{
+    match relay.take_price(price) {
+        PriceOutcome::PassedOn => {
+            let prices = relay.prices(price);
+            prices.children() == MOST_NODES
+                && is_told(prices.for_child(0), first, price.index)
+                && is_told(prices.for_child(1), second, price.index)
+                && prices.for_child(2).is_none()
+        }
+        _ => false,
+    }
 }
 
-/// Takes nothing on for a price, with this outcome.
-fn leaves(rt: &impl Abort, relay: &mut Relay, number: u32, index: u32, outcome: PriceOutcome)
+/// Whether this comes of a price that does not go on.
+fn takes(relay: &mut Relay, price: PriceUpdate, due: PriceOutcome) -> bool
     ensures { relay.new.gathered.cache ≡ relay.old.gathered.cache }
 {
-    same(
-        rt,
-        index,
-        relay.take_price(price_of(number, index)),
-        outcome,
-    );
+    relay.take_price(price) == due
 }
 
-/// A relay of two steps between -100 and 150 watts.
-fn new_relay(alloc: Global) -> Result<Relay, Fail>
-    ensures { IfOk result (λ relay. relay.gathered.cache.steps ≡ 2) }
+/// Whether the wide limits have this answer.
+fn widens(relay: &mut Relay, due: Result<(), CacheFault>) -> bool
+    ensures { relay.new.gathered.cache.steps ≡ relay.old.gathered.cache.steps }
 {
-    let limits = Limits {
-        floor: -100,
-        ceiling: 150,
-    };
-    Ok(Relay::new(alloc, 2, limits)?)
+    relay.set_limits(2, 2, WIDE) == due
 }
 
-/// The relay that comes back with this, of which the first two children's numbers are told.
-fn back(
-    alloc: Global,
-    last: u32,
-    numbers: [u32; 2],
-    answered: u32,
-    index: u32,
-) -> Result<Relay, Fail>
-    requires { answered ≤ last }
-    ensures { IfOk result (λ relay. relay.gathered.cache.steps ≡ 2) }
-{
-    let mut all = [0; MOST_NODES];
-    all[0] = numbers[0];
-    all[1] = numbers[1];
-    let limits = Limits {
-        floor: -100,
-        ceiling: 150,
-    };
-    let resume = Resume {
-        last,
-        numbers: &all,
-        limits,
-        answered,
-        index,
-    };
-    Ok(Relay::resumed(alloc, 2, limits, &resume)?)
-}
-
-/// What a relay gives to come back with: the last number, the first two children's numbers, the number answered, the index.
+/// What a relay would come back with: the last number, the first two children's numbers, the number answered and the index.
 fn stored(relay: &Relay) -> (u32, [u32; 2], u32, u32) {
     let resume = relay.resume();
     (
@@ -176,299 +224,244 @@ fn stored(relay: &Relay) -> (u32, [u32; 2], u32, u32) {
     )
 }
 
+fn is_right(alloc: Global, relay: &mut Relay, row: Row) -> Result<bool, Fail>
+    requires { relay.old.gathered.cache.steps ≡ 2 }
+    ensures { relay.new.gathered.cache.steps ≡ 2 }
+{
+    match row {
+        Row::Learns(child, number, demands) => learns(alloc, relay, child, number, demands, Ok(())),
+        Row::IsOld(child, number, demands, kept) => {
+            let old = Err(CacheFault::Old { kept });
+            learns(alloc, relay, child, number, demands, old)
+        }
+        Row::Leaves(child, number) => Ok(leaves(relay, child, number)),
+        Row::LetsGo(child, number) => Ok(lets_go(relay, child, number)),
+        Row::Sends(number, demands) => Ok(sends(relay, Ok(number)) && demands_of(relay) == demands),
+        Row::Refuses(fault) => Ok(sends(relay, Err(fault))),
+        Row::SendsAgain(number) => Ok(relay.resend() == number),
+        Row::Demands(demands) => Ok(demands_of(relay) == demands),
+        Row::Passes(number, index, first, second) => {
+            Ok(passes(relay, price_of(number, index), first, second))
+        }
+        Row::Takes(number, index, due) => Ok(takes(relay, price_of(number, index), due)),
+        Row::Widens(due) => Ok(widens(relay, due)),
+        Row::Stores(last, numbers, answered, index) => {
+            Ok(stored(relay) == (last, numbers, answered, index))
+        }
+        Row::StoresWide => Ok(relay.resume().limits == WIDE),
+    }
+}
+
+/// The place of the first row that is wrong.
+fn first_wrong(alloc: Global, relay: &mut Relay, rows: &[Row]) -> Result<Option<usize>, Fail>
+    requires { relay.old.gathered.cache.steps ≡ 2 }
+{
+    for (place, row) in rows.iter().enumerate() {
+        if !is_right(alloc, relay, *row)? {
+            return Ok(Some(place));
+        }
+    }
+    Ok(None)
+}
+
 /// Two children's bids go up as one, and a price comes down by what was sent. A sum that jumps over the limits is announced as it
 /// is below them, and one that falls below them as it is at the last step within.
-fn gathers(rt: &impl Abort, alloc: Global, relay: &mut Relay) -> Result<(), Fail>
-    requires { relay.old.gathered.cache.steps ≡ 2 }
-{
-    refuses(rt, relay, SendFault::NotChanged);
-    learns(rt, alloc, relay, 0, 1, [100, 40])?;
-    learns(rt, alloc, relay, 1, 1, [80, -200])?;
-    sends(rt, relay, 1, [-160, -160]);
-    refuses(rt, relay, SendFault::NotChanged);
-    same(rt, "again", relay.resend(), Some(1));
-    learns(rt, alloc, relay, 0, 2, [50, 0])?;
-    leaves(rt, relay, 2, 1, PriceOutcome::Dropped);
-    same(
-        rt,
-        "passed",
-        passes(rt, relay, 1, 1),
-        [moved(1, 1), moved(1, 1)],
-    );
-    leaves(rt, relay, 1, 1, PriceOutcome::Dropped);
-    sends(rt, relay, 2, [130, 130]);
-    same(rt, "stored", stored(relay), (2, [2, 1], 1, 1));
-    Ok(())
-}
+const GATHERS: &[Row] = &[
+    Row::Refuses(SendFault::NotChanged),
+    Row::Learns(0, 1, [100, 40]),
+    Row::Learns(1, 1, [80, -200]),
+    Row::Sends(1, [-160, -160]),
+    Row::Refuses(SendFault::NotChanged),
+    Row::SendsAgain(Some(1)),
+    Row::Learns(0, 2, [50, 0]),
+    Row::Takes(2, 1, PriceOutcome::Dropped),
+    Row::Passes(1, 1, Some((1, 1)), Some((1, 1))),
+    Row::Takes(1, 1, PriceOutcome::Dropped),
+    Row::Sends(2, [130, 130]),
+    Row::Stores(2, [2, 1], 1, 1),
+];
 
-#[test]
-fn a_relay_gathers_bids_and_passes_prices(rt: HostRuntime) -> Result<(), Fail> {
-    let alloc = rt.alloc();
-    let mut relay = new_relay(alloc)?;
-    gathers(&rt, alloc, &mut relay)
-}
-
-/// A child's bid that is not newer is told with the number that is kept.
-fn tells_old(rt: &impl Abort, alloc: Global, relay: &mut Relay) -> Result<(), Fail>
-    requires { relay.old.gathered.cache.steps ≡ 2 }
-{
-    learns(rt, alloc, relay, 255, 7, [1, 0])?;
-    let bid = bid_of(alloc, [2, 0])?;
-    let old = Err(CacheFault::Old { kept: 7 });
-    same(rt, "old", relay.learn(255, 7, Some(&bid)), old);
-    same(rt, "gone", relay.learn(255, 8, None), Ok(()));
-    sends(rt, relay, 1, [0, 0]);
-    Ok(())
-}
-
-#[test]
-fn an_old_bid_is_told(rt: HostRuntime) -> Result<(), Fail> {
-    let alloc = rt.alloc();
-    let mut relay = new_relay(alloc)?;
-    tells_old(&rt, alloc, &mut relay)
-}
+const TELLS_OLD: &[Row] = &[
+    Row::Learns(255, 7, [1, 0]),
+    Row::IsOld(255, 7, [2, 0], 7),
+    Row::Leaves(255, 8),
+    Row::Sends(1, [0, 0]),
+];
 
 /// Nine bids: the ninth waits for a price.
-fn fills_the_window(rt: &impl Abort, alloc: Global, relay: &mut Relay) -> Result<(), Fail>
-    requires { relay.old.gathered.cache.steps ≡ 2 }
-{
-    for number in 1..9 {
-        learns(rt, alloc, relay, 0, number, [10, 0])?;
-        sends(rt, relay, number, [10, 0]);
-    }
-    learns(rt, alloc, relay, 0, 9, [20, 0])?;
-    refuses(rt, relay, SendFault::WindowFull);
-    let price = Some(price_of(3, 5));
-    same(rt, "passed", passes(rt, relay, 3, 5), [price, None]);
-    sends(rt, relay, 9, [20, 0]);
-    Ok(())
-}
-
-#[test]
-fn a_full_window_sends_after_a_price(rt: HostRuntime) -> Result<(), Fail> {
-    let alloc = rt.alloc();
-    let mut relay = new_relay(alloc)?;
-    fills_the_window(&rt, alloc, &mut relay)
-}
+const FILLS_THE_WINDOW: &[Row] = &[
+    Row::Learns(0, 1, [10, 0]),
+    Row::Sends(1, [10, 0]),
+    Row::Learns(0, 2, [10, 0]),
+    Row::Sends(2, [10, 0]),
+    Row::Learns(0, 3, [10, 0]),
+    Row::Sends(3, [10, 0]),
+    Row::Learns(0, 4, [10, 0]),
+    Row::Sends(4, [10, 0]),
+    Row::Learns(0, 5, [10, 0]),
+    Row::Sends(5, [10, 0]),
+    Row::Learns(0, 6, [10, 0]),
+    Row::Sends(6, [10, 0]),
+    Row::Learns(0, 7, [10, 0]),
+    Row::Sends(7, [10, 0]),
+    Row::Learns(0, 8, [10, 0]),
+    Row::Sends(8, [10, 0]),
+    Row::Learns(0, 9, [20, 0]),
+    Row::Refuses(SendFault::WindowFull),
+    Row::Passes(3, 5, Some((0, 3)), None),
+    Row::Sends(9, [20, 0]),
+];
 
 /// A child is let go under its parent's number, and comes back by a newer bid of its own.
-fn lets_go(rt: &impl Abort, alloc: Global, relay: &mut Relay) -> Result<(), Fail>
-    requires { relay.old.gathered.cache.steps ≡ 2 }
-{
-    learns(rt, alloc, relay, 0, 2, [100, 40])?;
-    learns(rt, alloc, relay, 1, 2, [80, -200])?;
-    sends(rt, relay, 1, [-160, -160]);
-    same(rt, "let go", relay.expire(1), 3);
-    sends(rt, relay, 2, [100, 40]);
-    let bid = bid_of(alloc, [80, -200])?;
-    let old = Err(CacheFault::Old { kept: 3 });
-    same(rt, "old", relay.learn(1, 2, Some(&bid)), old);
-    same(rt, "twice", relay.expire(1), 3);
-    refuses(rt, relay, SendFault::NotChanged);
-    let price = Some(price_of(2, 1));
-    same(rt, "passed", passes(rt, relay, 2, 1), [price, None]);
-    learns(rt, alloc, relay, 1, 6, [80, -200])?;
-    sends(rt, relay, 3, [-160, -160]);
-    same(rt, "stored", stored(relay), (3, [2, 6], 2, 1));
-    Ok(())
-}
+const LETS_GO: &[Row] = &[
+    Row::Learns(0, 2, [100, 40]),
+    Row::Learns(1, 2, [80, -200]),
+    Row::Sends(1, [-160, -160]),
+    Row::LetsGo(1, 3),
+    Row::Sends(2, [100, 40]),
+    Row::IsOld(1, 2, [80, -200], 3),
+    Row::LetsGo(1, 3),
+    Row::Refuses(SendFault::NotChanged),
+    Row::Passes(2, 1, Some((0, 2)), None),
+    Row::Learns(1, 6, [80, -200]),
+    Row::Sends(3, [-160, -160]),
+    Row::Stores(3, [2, 6], 2, 1),
+];
 
-#[test]
-fn a_child_is_let_go_and_comes_back(rt: HostRuntime) -> Result<(), Fail> {
-    let alloc = rt.alloc();
-    let mut relay = new_relay(alloc)?;
-    lets_go(&rt, alloc, &mut relay)
-}
-
-/// A relay that comes back is caught up by letting go again the child that was gone in its record.
-fn lets_go_again(rt: &impl Abort, alloc: Global, relay: &mut Relay) -> Result<(), Fail>
-    requires { relay.old.gathered.cache.steps ≡ 2 }
-{
-    learns(rt, alloc, relay, 0, 2, [100, 40])?;
-    refuses(rt, relay, SendFault::NotCaughtUp);
-    same(rt, "let go", relay.expire(1), 3);
-    same(rt, "again", relay.resend(), Some(4));
-    same(rt, "demands", demands_of(relay), [100, 40]);
-    Ok(())
-}
-
-#[test]
-fn a_relay_that_comes_back_lets_go_again(rt: HostRuntime) -> Result<(), Fail> {
-    let alloc = rt.alloc();
-    let mut relay = back(alloc, 4, [2, 3], 2, 7)?;
-    lets_go_again(&rt, alloc, &mut relay)
-}
+/// It is caught up by letting go again the child that was gone in its record.
+const LETS_GO_AGAIN: &[Row] = &[
+    Row::Learns(0, 2, [100, 40]),
+    Row::Refuses(SendFault::NotCaughtUp),
+    Row::LetsGo(1, 3),
+    Row::SendsAgain(Some(4)),
+    Row::Demands([100, 40]),
+];
 
 /// It hears the record of its bid 4 again: it can send that bid again, and pass the price that waited.
-fn hears_its_record(rt: &impl Abort, alloc: Global, relay: &mut Relay) -> Result<(), Fail>
-    requires { relay.old.gathered.cache.steps ≡ 2 }
-{
-    refuses(rt, relay, SendFault::NotCaughtUp);
-    leaves(rt, relay, 4, 7, PriceOutcome::Dropped);
-    leaves(rt, relay, 4, 8, PriceOutcome::Waits);
-    learns(rt, alloc, relay, 0, 6, [100, 40])?;
-    same(rt, "not yet", relay.resend(), None);
-    learns(rt, alloc, relay, 1, 3, [80, -200])?;
-    same(rt, "again", relay.resend(), Some(4));
-    same(rt, "demands", demands_of(relay), [-160, -160]);
-    refuses(rt, relay, SendFault::NotChanged);
-    same(
-        rt,
-        "passed",
-        passes(rt, relay, 4, 8),
-        [moved(6, 8), moved(3, 8)],
-    );
-    learns(rt, alloc, relay, 0, 7, [50, 0])?;
-    sends(rt, relay, 5, [130, 130]);
-    same(rt, "stored", stored(relay), (5, [7, 3], 4, 8));
-    Ok(())
-}
-
-#[test]
-fn a_relay_that_hears_its_record_has_it_again(rt: HostRuntime) -> Result<(), Fail> {
-    let alloc = rt.alloc();
-    let mut relay = back(alloc, 4, [6, 3], 2, 7)?;
-    hears_its_record(&rt, alloc, &mut relay)
-}
+const HEARS_ITS_RECORD: &[Row] = &[
+    Row::Refuses(SendFault::NotCaughtUp),
+    Row::Takes(4, 7, PriceOutcome::Dropped),
+    Row::Takes(4, 8, PriceOutcome::Waits),
+    Row::Learns(0, 6, [100, 40]),
+    Row::SendsAgain(None),
+    Row::Learns(1, 3, [80, -200]),
+    Row::SendsAgain(Some(4)),
+    Row::Demands([-160, -160]),
+    Row::Refuses(SendFault::NotChanged),
+    Row::Passes(4, 8, Some((1, 6)), Some((1, 3))),
+    Row::Learns(0, 7, [50, 0]),
+    Row::Sends(5, [130, 130]),
+    Row::Stores(5, [7, 3], 4, 8),
+];
 
 /// A child's newer bid came: the record is lost, its price is taken alone, and the next number follows.
-fn is_overtaken(rt: &impl Abort, alloc: Global, relay: &mut Relay) -> Result<(), Fail>
-    requires { relay.old.gathered.cache.steps ≡ 2 }
-{
-    leaves(rt, relay, 3, 8, PriceOutcome::Alone);
-    learns(rt, alloc, relay, 0, 7, [50, 0])?;
-    refuses(rt, relay, SendFault::NotCaughtUp);
-    leaves(rt, relay, 4, 9, PriceOutcome::Alone);
-    learns(rt, alloc, relay, 1, 3, [80, -200])?;
-    same(rt, "no record", relay.resend(), None);
-    sends(rt, relay, 5, [130, 130]);
-    leaves(rt, relay, 4, 10, PriceOutcome::Alone);
-    leaves(rt, relay, 3, 11, PriceOutcome::Dropped);
-    same(
-        rt,
-        "passed",
-        passes(rt, relay, 5, 11),
-        [Some(price_of(7, 11)), Some(price_of(3, 11))],
-    );
-    Ok(())
-}
-
-#[test]
-fn a_relay_that_is_overtaken_sends_anew(rt: HostRuntime) -> Result<(), Fail> {
-    let alloc = rt.alloc();
-    let mut relay = back(alloc, 4, [6, 3], 2, 7)?;
-    is_overtaken(&rt, alloc, &mut relay)
-}
+const IS_OVERTAKEN: &[Row] = &[
+    Row::Takes(3, 8, PriceOutcome::Alone),
+    Row::Learns(0, 7, [50, 0]),
+    Row::Refuses(SendFault::NotCaughtUp),
+    Row::Takes(4, 9, PriceOutcome::Alone),
+    Row::Learns(1, 3, [80, -200]),
+    Row::SendsAgain(None),
+    Row::Sends(5, [130, 130]),
+    Row::Takes(4, 10, PriceOutcome::Alone),
+    Row::Takes(3, 11, PriceOutcome::Dropped),
+    Row::Passes(5, 11, Some((0, 7)), Some((0, 3))),
+];
 
 /// Behind the greatest number there is none.
-fn runs_out(rt: &impl Abort, alloc: Global, relay: &mut Relay) -> Result<(), Fail>
-    requires { relay.old.gathered.cache.steps ≡ 2 }
-{
-    learns(rt, alloc, relay, 0, 6, [10, 0])?;
-    sends(rt, relay, 4_294_967_295, [10, 0]);
-    learns(rt, alloc, relay, 0, 7, [20, 0])?;
-    refuses(rt, relay, SendFault::OutOfNumbers);
-    Ok(())
+const RUNS_OUT: &[Row] = &[
+    Row::Learns(0, 6, [10, 0]),
+    Row::Sends(4_294_967_295, [10, 0]),
+    Row::Learns(0, 7, [20, 0]),
+    Row::Refuses(SendFault::OutOfNumbers),
+];
+
+/// Limits change: the bid that was sent stays, and its price settles by its own limits; the next bid is by the new ones, and so
+/// is its price.
+const CHANGES_LIMITS: &[Row] = &[
+    Row::Learns(0, 2, [100, 40]),
+    Row::Learns(1, 2, [80, -200]),
+    Row::Sends(1, [-160, -160]),
+    Row::Widens(Ok(())),
+    Row::Demands([-160, -160]),
+    Row::Passes(1, 1, Some((1, 2)), Some((1, 2))),
+    Row::Widens(Err(CacheFault::Old { kept: 2 })),
+    Row::Sends(2, [180, -160]),
+    Row::Refuses(SendFault::NotChanged),
+    Row::Passes(2, 2, Some((0, 2)), Some((0, 2))),
+    Row::StoresWide,
+];
+
+/// It sends nothing until it is told its limits, and then has its record with them.
+const HEARS_ITS_LIMITS: &[Row] = &[
+    Row::Learns(0, 2, [100, 40]),
+    Row::Learns(1, 2, [80, -200]),
+    Row::Refuses(SendFault::NotCaughtUp),
+    Row::Takes(2, 1, PriceOutcome::Waits),
+    Row::StoresWide,
+    Row::Widens(Ok(())),
+    Row::SendsAgain(Some(2)),
+    Row::Demands([180, -160]),
+    Row::Passes(2, 1, Some((0, 2)), Some((0, 2))),
+];
+
+/// What each script shows, how it begins, and its rows.
+const SCRIPTS: &[(&str, Start, &[Row])] = &[
+    ("bids go up and prices down", Start::New, GATHERS),
+    ("an old bid is told", Start::New, TELLS_OLD),
+    (
+        "a full window sends after a price",
+        Start::New,
+        FILLS_THE_WINDOW,
+    ),
+    ("a child is let go and comes back", Start::New, LETS_GO),
+    (
+        "one that comes back lets go again",
+        Start::Back(4, [2, 3, 0], 2, 7),
+        LETS_GO_AGAIN,
+    ),
+    (
+        "one that hears its record has it again",
+        Start::Back(4, [6, 3, 0], 2, 7),
+        HEARS_ITS_RECORD,
+    ),
+    (
+        "one that is overtaken sends anew",
+        Start::Back(4, [6, 3, 0], 2, 7),
+        IS_OVERTAKEN,
+    ),
+    (
+        "numbers end",
+        Start::Back(4_294_967_294, [5, 0, 0], 4_294_967_290, 7),
+        RUNS_OUT,
+    ),
+    (
+        "limits change with the next bid",
+        Start::New,
+        CHANGES_LIMITS,
+    ),
+    (
+        "one that comes back hears its limits",
+        Start::BackWide,
+        HEARS_ITS_LIMITS,
+    ),
+];
+
+fn first_wrong_from(alloc: Global, start: Start, rows: &[Row]) -> Result<Option<usize>, Fail> {
+    let mut relay = start_of(alloc, start)?;
+    first_wrong(alloc, &mut relay, rows)
 }
 
 #[test]
-fn numbers_end(rt: HostRuntime) -> Result<(), Fail> {
-    let alloc = rt.alloc();
-    let mut relay = back(alloc, 4_294_967_294, [5, 0], 4_294_967_290, 7)?;
-    runs_out(&rt, alloc, &mut relay)
+fn relays_answer_their_scripts(rt: HostRuntime) -> Result<(), Fail> {
+    for (name, start, rows) in SCRIPTS {
+        let wrong = first_wrong_from(rt.alloc(), *start, *rows)?;
+        same(&rt, *name, wrong, None);
+    }
+    Ok(())
 }
 
 #[test]
 fn threads_may_share_relays(_rt: HostRuntime) {
     may_be_shared::<Relay>();
-}
-
-/// Wider limits than those of the first start.
-const WIDE: Limits = Limits {
-    floor: -200,
-    ceiling: 200,
-};
-
-/// Limits change: the bid that was sent stays, and its price settles by its own limits; the next bid is by the new ones, and so
-/// is its price.
-fn changes_limits(rt: &impl Abort, alloc: Global, relay: &mut Relay) -> Result<(), Fail>
-    requires { relay.old.gathered.cache.steps ≡ 2 }
-{
-    learns(rt, alloc, relay, 0, 2, [100, 40])?;
-    learns(rt, alloc, relay, 1, 2, [80, -200])?;
-    sends(rt, relay, 1, [-160, -160]);
-    same(rt, "given", relay.set_limits(2, 2, WIDE), Ok(()));
-    same(rt, "stays", demands_of(relay), [-160, -160]);
-    same(
-        rt,
-        "by its limits",
-        passes(rt, relay, 1, 1),
-        [moved(2, 1), moved(2, 1)],
-    );
-    let old = Err(CacheFault::Old { kept: 2 });
-    same(rt, "old", relay.set_limits(2, 2, WIDE), old);
-    sends(rt, relay, 2, [180, -160]);
-    refuses(rt, relay, SendFault::NotChanged);
-    let price = Some(price_of(2, 2));
-    same(
-        rt,
-        "by the new ones",
-        passes(rt, relay, 2, 2),
-        [price, price],
-    );
-    same(rt, "stored", relay.resume().limits, WIDE);
-    Ok(())
-}
-
-#[test]
-fn limits_change_with_the_next_bid(rt: HostRuntime) -> Result<(), Fail> {
-    let alloc = rt.alloc();
-    let mut relay = new_relay(alloc)?;
-    changes_limits(&rt, alloc, &mut relay)
-}
-
-/// The relay that comes back with its bid 2, which was made under wider limits, given under number 2 in place 2.
-fn back_with_limits(alloc: Global) -> Result<Relay, Fail>
-    ensures { IfOk result (λ relay. relay.gathered.cache.steps ≡ 2) }
-{
-    let mut all = [0; MOST_NODES];
-    all[0] = 2;
-    all[1] = 2;
-    all[2] = 2;
-    let limits = Limits {
-        floor: -100,
-        ceiling: 150,
-    };
-    let resume = Resume {
-        last: 2,
-        numbers: &all,
-        limits: WIDE,
-        answered: 0,
-        index: 0,
-    };
-    Ok(Relay::resumed(alloc, 2, limits, &resume)?)
-}
-
-/// It sends nothing until it is told its limits, and then has its record with them.
-fn hears_its_limits(rt: &impl Abort, alloc: Global, relay: &mut Relay) -> Result<(), Fail>
-    requires { relay.old.gathered.cache.steps ≡ 2 }
-{
-    learns(rt, alloc, relay, 0, 2, [100, 40])?;
-    learns(rt, alloc, relay, 1, 2, [80, -200])?;
-    refuses(rt, relay, SendFault::NotCaughtUp);
-    leaves(rt, relay, 2, 1, PriceOutcome::Waits);
-    same(rt, "stored", relay.resume().limits, WIDE);
-    same(rt, "given", relay.set_limits(2, 2, WIDE), Ok(()));
-    same(rt, "again", relay.resend(), Some(2));
-    same(rt, "demands", demands_of(relay), [180, -160]);
-    let price = Some(price_of(2, 1));
-    same(rt, "passed", passes(rt, relay, 2, 1), [price, price]);
-    Ok(())
-}
-
-#[test]
-fn a_relay_that_comes_back_hears_its_limits(rt: HostRuntime) -> Result<(), Fail> {
-    let alloc = rt.alloc();
-    let mut relay = back_with_limits(alloc)?;
-    hears_its_limits(&rt, alloc, &mut relay)
 }

@@ -1,90 +1,34 @@
-//! Tests of an auctioneer that may restart. The numbers are worked out by hand.
+//! Tests of an auctioneer that may restart: scripts of what it learns and clears. The numbers are worked out by hand.
 
-ghost use Rattle.std.specs.Prelude.{◌≡◌, ◌<◌, length, IfOk};
-ghost use Rattle.pm_base.specs.Limits.{demand_limit, most_nodes};
-ghost use Rattle.pm_bid.specs.Bids.{AllWithinLimit};
+ghost use Rattle.std.specs.Prelude.{◌≡◌, IfOk};
 
+use crate::bids::bid_of;
 use crate::same::same;
 use crate::shared::may_be_shared;
 use pm_auctioneer::Cleared;
 use pm_base::MOST_NODES;
-use pm_bid::{ArrayBid, uncounted};
 use pm_relay::{Root, RootFault};
 use pm_session::PriceUpdate;
 use std::alloc::Global;
-use std::process::Abort;
 use std::test::Fail;
 
-/// The bid of these demands at two steps.
-fn bid_of(alloc: Global, demands: [i64; 2]) -> Result<ArrayBid, Fail>
-    ensures steps { IfOk result (λ bid. length bid ≡ 2) }
-    ensures small { IfOk result (λ bid. AllWithinLimit demand_limit bid) }
-{
-    let demands = demands.to_vec(alloc)?;
-    Ok(ArrayBid::new(demands, 2, &mut uncounted())?)
-}
-
-/// Learns a child's bid of these demands.
-fn learns(
-    rt: &impl Abort,
-    alloc: Global,
-    root: &mut Root,
-    child: usize,
-    number: u32,
-    demands: [i64; 2],
-) -> Result<(), Fail>
-    requires child { child < most_nodes }
-    requires steps { root.old.auction.cache.steps ≡ 2 }
-    ensures steps { root.new.auction.cache.steps ≡ 2 }
-{
-    let bid = bid_of(alloc, demands)?;
-    same(
-        rt,
-        (child, number),
-        root.learn(child, number, Some(&bid)),
-        Ok(()),
-    );
-    Ok(())
-}
-
-/// Clears the market under this index at this step, and sends it to the first two children with these numbers.
-fn clears(rt: &impl Abort, root: &mut Root, index: u32, step: u32, numbers: [u32; 2])
-    requires steps { root.old.auction.cache.steps ≡ 2 }
-    ensures steps { root.new.auction.cache.steps ≡ 2 }
-{
-    same(rt, "cleared", root.clear(), Ok(Cleared { index, step }));
-    tells(rt, root, index, step, numbers);
-}
-
-/// The first two children are sent the newest clearing with these numbers, and no other child.
-fn tells(rt: &impl Abort, root: &Root, index: u32, step: u32, numbers: [u32; 2]) {
-    let Some(prices) = root.prices() else {
-        panic!(rt; "no prices of clearing {index}");
-    };
-    same(rt, "children", prices.children(), MOST_NODES);
-    for child in 0..2 {
-        let due = Some(PriceUpdate {
-            step,
-            number: numbers[child],
-            index,
-        });
-        if child < prices.children() {
-            same(rt, child, prices.for_child(child), due);
-        }
-    }
-    if 2 < prices.children() {
-        same(rt, "no child", prices.for_child(2), None);
-    }
-}
-
-/// Does not clear the market, for this reason.
-fn refuses(rt: &impl Abort, root: &mut Root, fault: RootFault)
-    ensures { root.new ≡ root.old }
-{
-    match root.clear() {
-        Ok(cleared) => panic!(rt; "cleared {cleared:?}, and not {fault}"),
-        Err(have) => same(rt, "refused", have, fault),
-    }
+/// A row of a script: a call of a root, and what it answers.
+#[derive(Clone, Copy)]
+enum Row {
+    /// A child's bid under this number, of these demands at both steps, is learnt.
+    Learns(usize, u32, [i64; 2]),
+    /// The market clears under this index at this step, and the first two children alone are sent that with these numbers.
+    Clears(u32, u32, (Option<u32>, Option<u32>)),
+    /// The market does not clear, for this reason.
+    Refuses(RootFault),
+    /// The clearing of this index and step can be sent again, with these numbers.
+    Tells(u32, u32, (Option<u32>, Option<u32>)),
+    /// No clearing can be sent.
+    TellsNothing,
+    /// A child is let go, under this number.
+    LetsGo(usize, u32),
+    /// What it would come back with: the last index, and the first two children's numbers.
+    Stores(u32, [u32; 2]),
 }
 
 /// The root that comes back with this, of which the first two children's numbers are told.
@@ -97,121 +41,192 @@ fn back(alloc: Global, last: u32, numbers: [u32; 2]) -> Result<Root, Fail>
     Ok(Root::resumed(alloc, 2, last, &all)?)
 }
 
-/// Two clearings.
-fn clears_twice(rt: &impl Abort, alloc: Global, root: &mut Root) -> Result<(), Fail>
+/// Whether a child's bid is learnt.
+fn learns(
+    alloc: Global,
+    root: &mut Root,
+    child: usize,
+    number: u32,
+    demands: [i64; 2],
+) -> Result<bool, Fail>
+    requires steps { root.old.auction.cache.steps ≡ 2 }
+    ensures steps { root.new.auction.cache.steps ≡ 2 }
+{
+    let bid = bid_of(alloc, demands)?;
+    Ok(child < MOST_NODES && root.learn(child, number, Some(&bid)).is_ok())
+}
+
+/// Whether clearing has this answer.
+fn clears(root: &mut Root, due: Result<Cleared, RootFault>) -> bool
+    ensures { root.new.auction.cache.steps ≡ root.old.auction.cache.steps }
+{
+    root.clear() == due
+}
+
+/// Whether a child is told this step, number and index.
+fn is_told(have: Option<PriceUpdate>, step: u32, number: Option<u32>, index: u32) -> bool {
+    match (have, number) {
+        (Some(have), Some(number)) => {
+            (have.step, have.number, have.index) == (step, number, index)
+        }
+        (None, None) => true,
+        _ => false,
+    }
+}
+
+/// Whether the first two children alone are sent the newest clearing, with these numbers.
+fn tells(root: &Root, index: u32, step: u32, numbers: (Option<u32>, Option<u32>)) -> bool {
+    let Some(prices) = root.prices() else {
+        return false;
+    };
+    prices.children() == MOST_NODES
+        && is_told(prices.for_child(0), step, numbers.0, index)
+        && is_told(prices.for_child(1), step, numbers.1, index)
+        && prices.for_child(2).is_none()
+}
+
+/// Whether a child is let go under this number.
+fn lets_go(root: &mut Root, child: usize, number: u32) -> bool
+    ensures { root.new.auction.cache.steps ≡ root.old.auction.cache.steps }
+{
+    child < MOST_NODES && root.expire(child) == number
+}
+
+/// What a root would come back with: the last index, and the first two children's numbers.
+fn stored(root: &Root) -> (u32, [u32; 2]) {
+    let numbers = root.numbers();
+    (root.last(), [numbers[0], numbers[1]])
+}
+
+fn is_right(alloc: Global, root: &mut Root, row: Row) -> Result<bool, Fail>
+    requires { root.old.auction.cache.steps ≡ 2 }
+    ensures { root.new.auction.cache.steps ≡ 2 }
+{
+    match row {
+        Row::Learns(child, number, demands) => learns(alloc, root, child, number, demands),
+        Row::Clears(index, step, numbers) => {
+            Ok(clears(root, Ok(Cleared { index, step })) && tells(root, index, step, numbers))
+        }
+        Row::Refuses(fault) => Ok(clears(root, Err(fault))),
+        Row::Tells(index, step, numbers) => Ok(tells(root, index, step, numbers)),
+        Row::TellsNothing => Ok(root.prices().is_none()),
+        Row::LetsGo(child, number) => Ok(lets_go(root, child, number)),
+        Row::Stores(last, numbers) => Ok(stored(root) == (last, numbers)),
+    }
+}
+
+/// The place of the first row that is wrong.
+fn first_wrong(alloc: Global, root: &mut Root, rows: &[Row]) -> Result<Option<usize>, Fail>
     requires { root.old.auction.cache.steps ≡ 2 }
 {
-    refuses(rt, root, RootFault::NotChanged);
-    learns(rt, alloc, root, 0, 1, [100, -50])?;
-    learns(rt, alloc, root, 1, 1, [-30, -30])?;
-    clears(rt, root, 1, 1, [1, 1]);
-    refuses(rt, root, RootFault::NotChanged);
-    tells(rt, root, 1, 1, [1, 1]);
-    learns(rt, alloc, root, 0, 2, [20, -50])?;
-    same(rt, "outdated", root.prices().is_none(), true);
-    clears(rt, root, 2, 0, [2, 1]);
-    same(rt, "stored", root.last(), 2);
-    same(rt, "first", root.numbers()[0], 2);
-    Ok(())
+    for (place, row) in rows.iter().enumerate() {
+        if !is_right(alloc, root, *row)? {
+            return Ok(Some(place));
+        }
+    }
+    Ok(None)
+}
+
+/// Two clearings.
+const CLEARS_TWICE: &[Row] = &[
+    Row::Refuses(RootFault::NotChanged),
+    Row::Learns(0, 1, [100, -50]),
+    Row::Learns(1, 1, [-30, -30]),
+    Row::Clears(1, 1, (Some(1), Some(1))),
+    Row::Refuses(RootFault::NotChanged),
+    Row::Tells(1, 1, (Some(1), Some(1))),
+    Row::Learns(0, 2, [20, -50]),
+    Row::TellsNothing,
+    Row::Clears(2, 0, (Some(2), Some(1))),
+    Row::Stores(2, [2, 1]),
+];
+
+/// A child is let go under its parent's number, and has no price from then on.
+const LETS_GO: &[Row] = &[
+    Row::Learns(0, 2, [20, -50]),
+    Row::Learns(1, 2, [-30, -30]),
+    Row::Clears(1, 0, (Some(2), Some(2))),
+    Row::LetsGo(1, 3),
+    Row::Clears(2, 1, (Some(2), None)),
+    Row::Stores(2, [2, 3]),
+];
+
+/// It hears its clearing 5 again, and tells it again.
+const HEARS_ITS_CLEARING: &[Row] = &[
+    Row::Refuses(RootFault::NotCaughtUp),
+    Row::Learns(0, 6, [100, -50]),
+    Row::TellsNothing,
+    Row::Learns(1, 3, [-30, -30]),
+    Row::Tells(5, 1, (Some(6), Some(3))),
+    Row::Refuses(RootFault::NotChanged),
+    Row::Learns(0, 7, [20, -50]),
+    Row::Clears(6, 0, (Some(7), Some(3))),
+];
+
+/// A child's newer bid came: the next index follows.
+const IS_OVERTAKEN: &[Row] = &[
+    Row::Learns(0, 7, [20, -50]),
+    Row::Refuses(RootFault::NotCaughtUp),
+    Row::Learns(1, 3, [-30, -30]),
+    Row::TellsNothing,
+    Row::Clears(6, 0, (Some(7), Some(3))),
+];
+
+/// Behind the greatest index there is none.
+const RUNS_OUT: &[Row] = &[
+    Row::Learns(0, 7, [20, -50]),
+    Row::Learns(1, 3, [-30, -30]),
+    Row::Refuses(RootFault::OutOfNumbers),
+];
+
+/// What each script shows; the last index and the first two children's numbers with which its root comes back; and its rows.
+const SCRIPTS: &[(&str, u32, [u32; 2], &[Row])] = &[
+    (
+        "a root that hears its clearing tells it again",
+        5,
+        [6, 3],
+        HEARS_ITS_CLEARING,
+    ),
+    (
+        "a root that is overtaken clears anew",
+        5,
+        [6, 3],
+        IS_OVERTAKEN,
+    ),
+    ("indices end", 4_294_967_295, [6, 3], RUNS_OUT),
+];
+
+fn first_wrong_from(
+    alloc: Global,
+    last: u32,
+    numbers: [u32; 2],
+    rows: &[Row],
+) -> Result<Option<usize>, Fail> {
+    let mut root = back(alloc, last, numbers)?;
+    first_wrong(alloc, &mut root, rows)
 }
 
 #[test]
-fn a_root_clears_what_it_learnt(rt: HostRuntime) -> Result<(), Fail> {
-    let alloc = rt.alloc();
-    let mut root = Root::new(alloc, 2)?;
-    clears_twice(&rt, alloc, &mut root)
-}
-
-/// A child is let go under its parent's number, and has no price from then on.
-fn lets_go(rt: &impl Abort, alloc: Global, root: &mut Root) -> Result<(), Fail>
-    requires { root.old.auction.cache.steps ≡ 2 }
-{
-    learns(rt, alloc, root, 0, 2, [20, -50])?;
-    learns(rt, alloc, root, 1, 2, [-30, -30])?;
-    clears(rt, root, 1, 0, [2, 2]);
-    same(rt, "let go", root.expire(1), 3);
-    let cleared = Ok(Cleared { index: 2, step: 1 });
-    same(rt, "cleared", root.clear(), cleared);
-    same(rt, "second", root.numbers()[1], 3);
-    let Some(prices) = root.prices() else {
-        panic!(rt; "no prices");
-    };
-    same(rt, "children", prices.children(), MOST_NODES);
-    if 1 < prices.children() {
-        let due = Some(PriceUpdate {
-            step: 1,
-            number: 2,
-            index: 2,
-        });
-        same(rt, "kept", prices.for_child(0), due);
-        same(rt, "gone", prices.for_child(1), None);
+fn roots_that_come_back_answer_their_scripts(rt: HostRuntime) -> Result<(), Fail> {
+    for (name, last, numbers, rows) in SCRIPTS {
+        let wrong = first_wrong_from(rt.alloc(), *last, *numbers, *rows)?;
+        same(&rt, *name, wrong, None);
     }
     Ok(())
 }
 
-#[test]
-fn a_root_lets_a_child_go(rt: HostRuntime) -> Result<(), Fail> {
-    let alloc = rt.alloc();
+fn first_wrong_of_new(alloc: Global, rows: &[Row]) -> Result<Option<usize>, Fail> {
     let mut root = Root::new(alloc, 2)?;
-    lets_go(&rt, alloc, &mut root)
-}
-
-/// It hears its clearing 5 again, and tells it again.
-fn hears_its_clearing(rt: &impl Abort, alloc: Global, root: &mut Root) -> Result<(), Fail>
-    requires { root.old.auction.cache.steps ≡ 2 }
-{
-    refuses(rt, root, RootFault::NotCaughtUp);
-    learns(rt, alloc, root, 0, 6, [100, -50])?;
-    same(rt, "not yet", root.prices().is_none(), true);
-    learns(rt, alloc, root, 1, 3, [-30, -30])?;
-    tells(rt, root, 5, 1, [6, 3]);
-    refuses(rt, root, RootFault::NotChanged);
-    learns(rt, alloc, root, 0, 7, [20, -50])?;
-    clears(rt, root, 6, 0, [7, 3]);
-    Ok(())
+    first_wrong(alloc, &mut root, rows)
 }
 
 #[test]
-fn a_root_that_hears_its_clearing_tells_it_again(rt: HostRuntime) -> Result<(), Fail> {
-    let alloc = rt.alloc();
-    let mut root = back(alloc, 5, [6, 3])?;
-    hears_its_clearing(&rt, alloc, &mut root)
-}
-
-/// A child's newer bid came: the next index follows.
-fn is_overtaken(rt: &impl Abort, alloc: Global, root: &mut Root) -> Result<(), Fail>
-    requires { root.old.auction.cache.steps ≡ 2 }
-{
-    learns(rt, alloc, root, 0, 7, [20, -50])?;
-    refuses(rt, root, RootFault::NotCaughtUp);
-    learns(rt, alloc, root, 1, 3, [-30, -30])?;
-    same(rt, "no clearing", root.prices().is_none(), true);
-    clears(rt, root, 6, 0, [7, 3]);
+fn new_roots_answer_their_scripts(rt: HostRuntime) -> Result<(), Fail> {
+    let twice = first_wrong_of_new(rt.alloc(), CLEARS_TWICE)?;
+    same(&rt, "a root clears what it learnt", twice, None);
+    let gone = first_wrong_of_new(rt.alloc(), LETS_GO)?;
+    same(&rt, "a root lets a child go", gone, None);
     Ok(())
-}
-
-#[test]
-fn a_root_that_is_overtaken_clears_anew(rt: HostRuntime) -> Result<(), Fail> {
-    let alloc = rt.alloc();
-    let mut root = back(alloc, 5, [6, 3])?;
-    is_overtaken(&rt, alloc, &mut root)
-}
-
-/// Behind the greatest index there is none.
-fn runs_out(rt: &impl Abort, alloc: Global, root: &mut Root) -> Result<(), Fail>
-    requires { root.old.auction.cache.steps ≡ 2 }
-{
-    learns(rt, alloc, root, 0, 7, [20, -50])?;
-    learns(rt, alloc, root, 1, 3, [-30, -30])?;
-    refuses(rt, root, RootFault::OutOfNumbers);
-    Ok(())
-}
-
-#[test]
-fn indices_end(rt: HostRuntime) -> Result<(), Fail> {
-    let alloc = rt.alloc();
-    let mut root = back(alloc, 4_294_967_295, [6, 3])?;
-    runs_out(&rt, alloc, &mut root)
 }
 
 #[test]
