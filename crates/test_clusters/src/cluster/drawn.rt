@@ -73,6 +73,17 @@ fn rests_at(alloc: Global, cluster: &Cluster, due: &PhaseEnd) -> Result<bool, Fa
     Ok(are_alike(&cluster.phase_end(alloc)?, due))
 }
 
+/// Whether a phase settles to this end, and can then be closed.
+fn ends_so(
+    alloc: Global,
+    cluster: &mut Cluster,
+    due: &PhaseEnd,
+    draws: &mut Draws,
+) -> Result<bool, Fail> {
+    settle(cluster, draws)?;
+    Ok(rests_at(alloc, cluster, due)? && make(cluster, Act::Close)?.is_some())
+}
+
 /// How many phases end as they should, up to the first that does not.
 fn count_right(
     alloc: Global,
@@ -91,8 +102,7 @@ fn count_on(
     draws: &mut Draws,
 ) -> Result<usize, Fail> {
     for (place, due) in ends.iter().enumerate() {
-        settle(cluster, draws)?;
-        if !rests_at(alloc, cluster, due)? || make(cluster, Act::Close)?.is_none() {
+        if !ends_so(alloc, cluster, due, draws)? {
             return Ok(place);
         }
     }
@@ -102,9 +112,12 @@ fn count_on(
 /// How many phases of a demo cluster end as those of the plain program, up to the first that does not.
 fn count_alike(alloc: Global, size: u32, number: u32) -> Result<usize, Fail> {
     let plan = make_plan(alloc, size, number)?;
-    let ends = all_ends(alloc, &plan)?;
-    let mut draws = Draws { state: number };
-    count_right(alloc, &plan, &ends, &mut draws)
+    count_drawn(alloc, &plan, number)
+}
+
+fn count_drawn(alloc: Global, plan: &Plan, number: u32) -> Result<usize, Fail> {
+    let ends = all_ends(alloc, plan)?;
+    count_right(alloc, plan, &ends, &mut Draws { state: number })
 }
 
 /// Sizes and numbers of demo clusters, each of which has 21 phases.

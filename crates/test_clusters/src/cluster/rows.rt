@@ -204,10 +204,15 @@ fn apply<'p>(alloc: Global, plan: &'p Plan, acts: &[Act]) -> Result<(Cluster<'p>
     Ok(Cluster::apply(alloc, plan, acts)?)
 }
 
-/// The journal of these acts on a new cluster.
-fn journal_of(alloc: Global, plan: &Plan, acts: &[Act]) -> Result<Journal, Fail> {
+/// How many lines the journal of these acts on a new cluster has, and the one in this place.
+fn journal_of(
+    alloc: Global,
+    plan: &Plan,
+    acts: &[Act],
+    place: usize,
+) -> Result<(usize, Option<Line>), Fail> {
     let (_cluster, journal) = apply(alloc, plan, acts)?;
-    Ok(journal)
+    Ok((journal.len(), journal.get(place)))
 }
 
 /// The place of the first row that is wrong on a new cluster after these acts.
@@ -287,10 +292,9 @@ fn window_waits<R: Abort>(rt: &R, alloc: Global, plan: &Plan) -> Result<(), Fail
 fn window_is_full<R: Abort>(rt: &R, alloc: Global, plan: &Plan, acts: &[Act]) -> Result<(), Fail> {
     let wrong = first_wrong_after(alloc, plan, acts, &OPENS)?;
     same(rt, "row", wrong, None);
-    let journal = journal_of(alloc, plan, acts)?;
-    same(rt, "length", journal.len(), 26);
     let last = line_of(Act::Learn { child: 2 }, 9, None);
-    same(rt, "last", journal.get(25), Some(last));
+    let journal = journal_of(alloc, plan, acts, 25)?;
+    same(rt, "length and last", journal, (26, Some(last)));
     Ok(())
 }
 
