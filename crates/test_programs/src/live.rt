@@ -262,23 +262,63 @@ fn words_of(alloc: Global, line: &str) -> Result<Vec<String>, AllocError> {
     Ok(words)
 }
 
+/// How a call of this line ends.
+fn ended_on(
+    alloc: Global,
+    line: &str,
+    source: &mut MemSource,
+    sink: &mut MemSink,
+) -> Result<Ending, AllocError> {
+    let words = words_of(alloc, line)?;
+    let mut memory = SystemMemory::new(alloc);
+    Ok(live(alloc, &mut memory, &words, source, sink))
+}
+
+/// How a call of this line on an input in pieces of so many bytes ends.
+fn ended(
+    alloc: Global,
+    line: &str,
+    input: &[&[u8]],
+    piece: usize,
+    sink: &mut MemSink,
+) -> Result<Ending, AllocError>
+    requires { 1 ≤ piece }
+{
+    let mut source = MemSource::new(joined(alloc, input)?, piece, Vec::new(alloc));
+    ended_on(alloc, line, &mut source, sink)
+}
+
+/// Whether the bytes are those of the parts.
+fn are_joined(alloc: Global, bytes: &[u8], parts: &[&[u8]]) -> Result<bool, AllocError> {
+    Ok(joined(alloc, parts)?.as_slice() == bytes)
+}
+
 /// A call on an input in pieces of so many bytes ends as its row says, and has written what is due.
-fn must_serve<R: Abort>(rt: &R, alloc: Global, row: &Row, piece: usize) -> Result<(), Fail>
+fn must_serve_into<R: Abort>(
+    rt: &R,
+    alloc: Global,
+    row: &Row,
+    piece: usize,
+    sink: &mut MemSink,
+) -> Result<(), Fail>
     requires { 1 ≤ piece }
 {
     let (line, input, ending, due) = *row;
-    let words = words_of(alloc, line)?;
-    let mut source = MemSource::new(joined(alloc, input)?, piece, Vec::new(alloc));
-    let mut sink = MemSink::new(alloc, 1_048_576, piece, Vec::new(alloc))?;
-    let mut memory = SystemMemory::new(alloc);
-    let ended = live(alloc, &mut memory, &words, &mut source, &mut sink);
-    let due = joined(alloc, due)?;
+    let ended = ended(alloc, line, input, piece, sink)?;
+    let written = are_joined(alloc, sink.bytes(), due)?;
     assert_eq!(rt;
-        (ended, sink.bytes()),
-        (ending, due.as_slice()),
+        (ended, written),
+        (ending, true),
         "at {line}, in pieces of {piece}"
     );
     Ok(())
+}
+
+fn must_serve<R: Abort>(rt: &R, alloc: Global, row: &Row, piece: usize) -> Result<(), Fail>
+    requires { 1 ≤ piece }
+{
+    let mut sink = MemSink::new(alloc, 1_048_576, piece, Vec::new(alloc))?;
+    must_serve_into(rt, alloc, row, piece, &mut sink)
 }
 
 #[test]

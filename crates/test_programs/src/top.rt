@@ -128,6 +128,19 @@ fn sink_of(alloc: Global, around: Around) -> Result<Counted<MemSink>, AllocError
     Ok(Counted::new(MemSink::new(alloc, 1_048_576, around.write.max(1), fails)?))
 }
 
+/// The status of the call of these arguments.
+fn status_of<R: Threads + Wait + Sync, G: Gate>(
+    rt: &R,
+    alloc: Global,
+    line: &str,
+    source: &mut Counted<MemSource>,
+    sink: &mut Counted<MemSink>,
+    gate: &G,
+) -> Result<Status, AllocError> {
+    let arguments = arguments_of(alloc, line)?;
+    Ok(market(rt, alloc, &arguments, source, sink, gate))
+}
+
 /// What the call of these arguments comes to.
 fn called<R: Threads + Wait + Sync, G: Gate>(
     rt: &R,
@@ -137,10 +150,9 @@ fn called<R: Threads + Wait + Sync, G: Gate>(
     around: Around,
     gate: &G,
 ) -> Result<Outcome, Fail> {
-    let arguments = arguments_of(alloc, line)?;
     let mut source = source_of(alloc, input, around)?;
     let mut sink = sink_of(alloc, around)?;
-    let status = market(rt, alloc, &arguments, &mut source, &mut sink, gate);
+    let status = status_of(rt, alloc, line, &mut source, &mut sink, gate)?;
     Ok(Outcome {
         status,
         text: sink.inner.bytes().to_vec(alloc)?,
@@ -201,15 +213,9 @@ const ROWS: &[Row] = &[
     ("run now", TWO_BIDS, 1, 1, Status::WriteFault, USAGE),
 ];
 
-/// A call answers as its row says, and has written the text, or a part of it if a write failed.
-fn must_answer<R: Threads + Wait + Sync + Abort>(
-    rt: &R,
-    alloc: Global,
-    row: &Row,
-) -> Result<(), Fail> {
-    let (line, input, bad_read, bad_write, status, text) = *row;
-    let around = PIECES.without_read(bad_read).without_write(bad_write);
-    let outcome = called(rt, alloc, line, input.as_bytes(), around, &OpenGate)?;
+/// A call comes to the status of its row, and has written the text, or a part of it if a write failed.
+fn must_be_of<R: Abort>(rt: &R, outcome: &Outcome, row: &Row) {
+    let (line, _, bad_read, bad_write, status, text) = *row;
     let is_begun = text.as_bytes().starts_with(&outcome.text);
     let is_whole = outcome.text.len() == text.len();
     assert_eq!(rt;
@@ -217,6 +223,18 @@ fn must_answer<R: Threads + Wait + Sync + Abort>(
         (status, true, status != Status::WriteFault),
         "at {line}, read {bad_read}, write {bad_write}"
     );
+}
+
+/// A call answers as its row says.
+fn must_answer<R: Threads + Wait + Sync + Abort>(
+    rt: &R,
+    alloc: Global,
+    row: &Row,
+) -> Result<(), Fail> {
+    let (line, input, bad_read, bad_write, _, _) = *row;
+    let around = PIECES.without_read(bad_read).without_write(bad_write);
+    let outcome = called(rt, alloc, line, input.as_bytes(), around, &OpenGate)?;
+    must_be_of(rt, &outcome, row);
     Ok(())
 }
 

@@ -115,15 +115,14 @@ impl Call<'_> {
     }
 }
 
-/// The command comes to what is right in these surroundings. Gives how often it read and wrote.
+/// The outcome is right in these surroundings.
 fn must_be_right<R: Threads + Wait + Sync + Abort>(
     rt: &R,
     alloc: Global,
     call: &Call<'_>,
+    outcome: &Outcome,
     around: Around,
-) -> Result<(u64, u64), Fail> {
-    let outcome = called(rt, alloc, call.line, call.input, around, &OpenGate)?;
-    let is_right = call.is_right(&outcome, around);
+) -> Result<(), Fail> {
     let Around {
         read,
         bad_read,
@@ -132,12 +131,24 @@ fn must_be_right<R: Threads + Wait + Sync + Abort>(
     } = around;
     let (line, length) = (call.line, call.input.len());
     assert!(rt;
-        is_right,
+        call.is_right(outcome, around),
         "{line}, {length} bytes, pieces of {read}, read {bad_read}, write {bad_write}"
     );
     if call.has_moves() && outcome.status == Status::Done {
         assert!(rt; is_legal(rt, alloc, call.input, &outcome.text)?);
     }
+    Ok(())
+}
+
+/// The command comes to what is right in these surroundings. Gives how often it read and wrote.
+fn must_come_right<R: Threads + Wait + Sync + Abort>(
+    rt: &R,
+    alloc: Global,
+    call: &Call<'_>,
+    around: Around,
+) -> Result<(u64, u64), Fail> {
+    let outcome = called(rt, alloc, call.line, call.input, around, &OpenGate)?;
+    must_be_right(rt, alloc, call, &outcome, around)?;
     Ok((outcome.reads, outcome.writes))
 }
 
@@ -149,15 +160,15 @@ fn must_stand_faults<R: Threads + Wait + Sync + Abort>(
     piece: usize,
 ) -> Result<(), Fail> {
     let whole = Around::pieces(piece);
-    let (reads, writes) = must_be_right(rt, alloc, call, whole)?;
+    let (reads, writes) = must_come_right(rt, alloc, call, whole)?;
     for before in 0..reads.saturating_add(1) {
         if is_tried(before, reads) {
-            must_be_right(rt, alloc, call, whole.without_read(before + 1))?;
+            must_come_right(rt, alloc, call, whole.without_read(before + 1))?;
         }
     }
     for before in 0..writes.saturating_add(1) {
         if is_tried(before, writes) {
-            must_be_right(rt, alloc, call, whole.without_write(before + 1))?;
+            must_come_right(rt, alloc, call, whole.without_write(before + 1))?;
         }
     }
     Ok(())
@@ -187,6 +198,18 @@ fn due_of<R: Threads + Wait + Sync + Abort>(
     Ok(due)
 }
 
+/// The command comes to what is right in pieces of each size.
+fn must_come_right_in_pieces<R: Threads + Wait + Sync + Abort>(
+    rt: &R,
+    alloc: Global,
+    call: &Call<'_>,
+) -> Result<(), Fail> {
+    for piece in PIECES {
+        must_come_right(rt, alloc, call, Around::pieces(*piece))?;
+    }
+    Ok(())
+}
+
 /// An input that is cut has one outcome in pieces of each size.
 fn must_stand_cut<R: Threads + Wait + Sync + Abort>(
     rt: &R,
@@ -195,15 +218,32 @@ fn must_stand_cut<R: Threads + Wait + Sync + Abort>(
     input: &[u8],
 ) -> Result<(), Fail> {
     let due = due_of(rt, alloc, line, input)?;
-    let call = Call {
-        line,
-        input,
-        due: &due,
-    };
+    let due = &due;
+    must_come_right_in_pieces(rt, alloc, &Call { line, input, due })
+}
+
+/// The command stands each fault in pieces of each size.
+fn must_stand_faults_in_pieces<R: Threads + Wait + Sync + Abort>(
+    rt: &R,
+    alloc: Global,
+    call: &Call<'_>,
+) -> Result<(), Fail> {
     for piece in PIECES {
-        must_be_right(rt, alloc, &call, Around::pieces(*piece))?;
+        must_stand_faults(rt, alloc, call, *piece)?;
     }
     Ok(())
+}
+
+/// The command stands each fault on its whole input.
+fn must_stand_whole<R: Threads + Wait + Sync + Abort>(
+    rt: &R,
+    alloc: Global,
+    line: &str,
+    input: &[u8],
+) -> Result<(), Fail> {
+    let due = due_of(rt, alloc, line, input)?;
+    let due = &due;
+    must_stand_faults_in_pieces(rt, alloc, &Call { line, input, due })
 }
 
 /// The command stands each fault, and each cut of its input.
@@ -213,15 +253,7 @@ fn must_stand<R: Threads + Wait + Sync + Abort>(
     line: &str,
     input: &[u8],
 ) -> Result<(), Fail> {
-    let due = due_of(rt, alloc, line, input)?;
-    let call = Call {
-        line,
-        input,
-        due: &due,
-    };
-    for piece in PIECES {
-        must_stand_faults(rt, alloc, &call, *piece)?;
-    }
+    must_stand_whole(rt, alloc, line, input)?;
     let whole = input.len();
     for length in 0..whole {
         if is_tried(length as u64, whole as u64) {

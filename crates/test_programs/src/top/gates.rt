@@ -19,18 +19,16 @@ const FILES: &[&str] = &[TWO_BIDS, FEEDER, VILLAGE];
 /// The commands that are tried. Each has to write the text of the first; a trace has moves behind it.
 const COMMANDS: &[&str] = &["run", "trace", "free"];
 
-/// A command has the text that is due under a gate, which is made anew for it. A trace is valid.
-fn must_keep_its_text<R: Threads + Wait + Sync + Abort>(
+/// An outcome has the text that is due. A trace is valid.
+fn must_have_text<R: Threads + Wait + Sync + Abort>(
     rt: &R,
     alloc: Global,
     file: &[u8],
     due: &Outcome,
+    outcome: &Outcome,
     schedule: &Schedule,
-    tree: &Tree,
     line: &str,
 ) -> Result<(), Fail> {
-    let gate = schedule.gate(alloc, tree)?;
-    let outcome = called(rt, alloc, line, file, PIECES, &gate)?;
     let is_right = if line == "trace" {
         outcome.text.starts_with(&due.text) && is_legal(rt, alloc, file, &outcome.text)?
     } else {
@@ -42,6 +40,21 @@ fn must_keep_its_text<R: Threads + Wait + Sync + Abort>(
         "{line} under {schedule}"
     );
     Ok(())
+}
+
+/// A command has the text that is due under a gate, which is made anew for it.
+fn must_keep_its_text<R: Threads + Wait + Sync + Abort>(
+    rt: &R,
+    alloc: Global,
+    file: &[u8],
+    due: &Outcome,
+    schedule: &Schedule,
+    tree: &Tree,
+    line: &str,
+) -> Result<(), Fail> {
+    let gate = schedule.gate(alloc, tree)?;
+    let outcome = called(rt, alloc, line, file, PIECES, &gate)?;
+    must_have_text(rt, alloc, file, due, &outcome, schedule, line)
 }
 
 /// Each command has the text that is due under each gate.
@@ -60,6 +73,17 @@ fn must_keep_texts<R: Threads + Wait + Sync + Abort>(
     Ok(())
 }
 
+/// Each command has its text under each gate for a tree.
+fn must_hold_on<R: Threads + Wait + Sync + Abort>(
+    rt: &R,
+    alloc: Global,
+    file: &[u8],
+    tree: &Tree,
+) -> Result<(), Fail> {
+    let due = called(rt, alloc, "run", file, PIECES, &OpenGate)?;
+    must_keep_texts(rt, alloc, file, &due, tree)
+}
+
 /// Each command has its text under each gate for the tree of a file.
 fn must_hold<R: Threads + Wait + Sync + Abort>(
     rt: &R,
@@ -67,8 +91,7 @@ fn must_hold<R: Threads + Wait + Sync + Abort>(
     file: &[u8],
 ) -> Result<(), Fail> {
     let plan = read_scene(alloc, file)?;
-    let due = called(rt, alloc, "run", file, PIECES, &OpenGate)?;
-    must_keep_texts(rt, alloc, file, &due, plan.tree())
+    must_hold_on(rt, alloc, file, plan.tree())
 }
 
 #[test]

@@ -1,6 +1,6 @@
 //! A gate under which two threads meet, and what is told to it.
 
-use super::{PIECES, called, envelope};
+use super::{Outcome, PIECES, called, envelope};
 use pm_gates::{MeetingGate, Moment, TellingGate};
 use pm_market::{Line, Move};
 use pm_top::Status;
@@ -93,6 +93,36 @@ fn must_be_told(rt: &impl Abort, alloc: Global, trace: &[u8], told: &[Line]) -> 
     Ok(())
 }
 
+/// Both nodes met under this command, and the moves of a trace are the lines that were told.
+fn must_have_met(
+    rt: &impl Abort,
+    alloc: Global,
+    line: &str,
+    outcome: &Outcome,
+    met: u64,
+    told: &[Line],
+) -> Result<(), Fail> {
+    assert_eq!(rt; (outcome.status, met), (status_of(line), 2), "at {line}");
+    if line == "trace" {
+        must_be_told(rt, alloc, &outcome.text, told)?;
+    }
+    Ok(())
+}
+
+/// The two nodes meet under this command on its input.
+fn must_meet_on<R: Threads + Wait + Sync + Abort>(
+    rt: &R,
+    alloc: Global,
+    line: &str,
+    input: &[u8],
+) -> Result<(), Fail> {
+    let meeting = MeetingGate::new((1, 2), moment_of(line), LOOKS);
+    let gate = TellingGate::new(rt, alloc, meeting);
+    let outcome = called(rt, alloc, line, input, PIECES, &gate)?;
+    let met = gate.gate().met();
+    must_have_met(rt, alloc, line, &outcome, met, &gate.into_lines())
+}
+
 /// The two nodes meet under this command.
 fn must_meet<R: Threads + Wait + Sync + Abort>(
     rt: &R,
@@ -100,19 +130,7 @@ fn must_meet<R: Threads + Wait + Sync + Abort>(
     line: &str,
 ) -> Result<(), Fail> {
     let input = input_of(alloc, line)?;
-    let meeting = MeetingGate::new((1, 2), moment_of(line), LOOKS);
-    let gate = TellingGate::new(rt, alloc, meeting);
-    let outcome = called(rt, alloc, line, input.as_bytes(), PIECES, &gate)?;
-    assert_eq!(rt;
-        (outcome.status, gate.gate().met()),
-        (status_of(line), 2),
-        "at {line}"
-    );
-    let told = gate.into_lines();
-    if line == "trace" {
-        must_be_told(rt, alloc, &outcome.text, &told)?;
-    }
-    Ok(())
+    must_meet_on(rt, alloc, line, input.as_bytes())
 }
 
 /// Under each command that runs a cluster the two nodes meet, and the moves that a trace prints are those that were told.

@@ -1,7 +1,7 @@
 //! A village under gates that hold some of its nodes back.
 
 use super::meeting::LOOKS;
-use super::{PIECES, called};
+use super::{Outcome, PIECES, called};
 use pm_gates::{HoldingGate, MeetingGate, Moment};
 use pm_nodes::{Gate, OpenGate};
 use pm_top::Status;
@@ -84,6 +84,12 @@ const LOAD1: Yields = [0, 0, 0, 0, 0, 0, 0, 0, 1000, 0, 0];
 
 const BOTH_CONCENTRATORS: Yields = [0, 1000, 1000, 0, 0, 0, 0, 0, 0, 0, 0];
 
+/// An outcome has the village's text.
+fn must_be_village<R: Abort>(rt: &R, outcome: &Outcome) {
+    let due = (Status::Done, VILLAGE_TEXT.as_bytes());
+    assert_eq!(rt; (outcome.status, outcome.text.as_slice()), due);
+}
+
 /// The village has its text under this gate.
 fn must_run<R: Threads + Wait + Sync + Abort, G: Gate>(
     rt: &R,
@@ -91,8 +97,7 @@ fn must_run<R: Threads + Wait + Sync + Abort, G: Gate>(
     gate: &G,
 ) -> Result<(), Fail> {
     let outcome = called(rt, alloc, "run", VILLAGE.as_bytes(), PIECES, gate)?;
-    let due = (Status::Done, VILLAGE_TEXT.as_bytes());
-    assert_eq!(rt; (outcome.status, outcome.text.as_slice()), due);
+    must_be_village(rt, &outcome);
     Ok(())
 }
 
