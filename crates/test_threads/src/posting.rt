@@ -26,9 +26,13 @@ const OTHER_KIND: &[u8] = b"{\"version\":2,\"basis\":{\"min\":0,\"max\":9,\"step
 #[test]
 fn a_refused_change_is_followed_by_a_new_next(rt: HostRuntime) -> Result<(), Fail> {
     let plan = read_scene(rt.alloc(), REJOINS)?;
-    let mut board = in_second_phase(rt.alloc(), &plan)?;
-    assert!(rt; all_posted(rt.alloc(), &mut board)? == [1, 2, 3]);
+    assert!(rt; posted_twice(rt.alloc(), &plan)? == [1, 2, 3]);
     Ok(())
+}
+
+fn posted_twice(alloc: Global, plan: &Plan) -> Result<[u32; 3], Fail> {
+    let mut board = in_second_phase(alloc, plan)?;
+    Ok(all_posted(alloc, &mut board)?)
 }
 
 /// A change of another kind is refused, and to ask anew gives the same.
@@ -36,11 +40,20 @@ fn a_refused_change_is_followed_by_a_new_next(rt: HostRuntime) -> Result<(), Fai
 fn a_change_of_another_kind_is_unfit(rt: HostRuntime) -> Result<(), Fail> {
     let plan = read_scene(rt.alloc(), REJOINS)?;
     let other = read_scene(rt.alloc(), OTHER_KIND)?;
-    let mut board = in_second_phase(rt.alloc(), &plan)?;
-    let next = next_of(&board, DEVICE).ok_or("no next change")?;
-    assert!(rt; post(rt.alloc(), &mut board, &other, next)? == Some(Posted::Unfit));
-    assert!(rt; next_of(&board, DEVICE) == Some(next));
+    assert!(rt; is_unfit(rt.alloc(), &plan, &other)?);
     Ok(())
+}
+
+/// Whether the next change is unfit if it is made by another plan, and stays the next one.
+fn is_unfit(alloc: Global, plan: &Plan, other: &Plan) -> Result<bool, Fail> {
+    let mut board = in_second_phase(alloc, plan)?;
+    refuses_other(alloc, &mut board, other)
+}
+
+fn refuses_other(alloc: Global, board: &mut Board, other: &Plan) -> Result<bool, Fail> {
+    let next = next_of(board, DEVICE).ok_or("no next change")?;
+    let posted = post(alloc, board, other, next)?;
+    Ok(posted == Some(Posted::Unfit) && next_of(board, DEVICE) == Some(next))
 }
 
 /// A board whose first phase, which has no changes, is closed.
