@@ -50,13 +50,28 @@ fn change(number: u32, member: bool, state: i64) -> Next {
     }
 }
 
+/// A change: its number, whether the device is a member, and its state; and its demands and the step at which the first ends.
+type Row = (u32, bool, i64, (i64, i64), usize);
+
+/// An agent of device 1 over ten steps answers each change as its row says.
+fn answers_are<R: Abort>(rt: &R, agent: &mut DeviceAgent, rows: &[Row]) {
+    same(rt, "agent", (agent.device(), agent.steps()), (1, 10));
+    for (number, member, state, demands, end) in rows {
+        let next = change(*number, *member, *state);
+        answer_is(rt, agent, next, &[], *demands, *end);
+    }
+}
+
+const LOAD: &[Row] = &[
+    (1, true, 100, (100, 0), 10),
+    (2, false, 100, (0, 0), 10),
+    (3, true, 250, (250, 0), 10),
+];
+
 #[test]
 fn a_load_answers_with_its_bid(rt: HostRuntime) -> Result<(), Fail> {
     let mut load = DeviceAgent::new(rt.alloc(), Kind::Load, 1, 10)?;
-    same(&rt, "agent", (load.device(), load.steps()), (1, 10));
-    answer_is(&rt, &mut load, change(1, true, 100), &[], (100, 0), 10);
-    answer_is(&rt, &mut load, change(2, false, 100), &[], (0, 0), 10);
-    answer_is(&rt, &mut load, change(3, true, 250), &[], (250, 0), 10);
+    answers_are(&rt, &mut load, LOAD);
     Ok(())
 }
 
@@ -68,12 +83,16 @@ const FREEZER: Kind = Kind::Freezer {
     cool: 80,
 };
 
+const FREEZES: &[Row] = &[
+    (1, false, -2000, (0, 0), 10),
+    (2, true, -2000, (200, 0), 5), // 200 * 9 / 400 = 4.5
+];
+
 #[test]
 fn a_freezer_answers_with_its_bid(rt: HostRuntime) -> Result<(), Fail> {
     assert!(rt; FREEZER.valid());
     let mut freezer = DeviceAgent::new(rt.alloc(), FREEZER, 1, 10)?;
-    answer_is(&rt, &mut freezer, change(1, false, -2000), &[], (0, 0), 10);
-    answer_is(&rt, &mut freezer, change(2, true, -2000), &[], (200, 0), 5); // 200 * 9 / 400 = 4.5
+    answers_are(&rt, &mut freezer, FREEZES);
     Ok(())
 }
 

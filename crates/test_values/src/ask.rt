@@ -196,13 +196,7 @@ fn a_list_has_an_end(rt: HostRuntime) -> Result<(), Fail> {
     Ok(())
 }
 
-#[test]
-fn curves_and_answers_are_told(rt: HostRuntime) -> Result<(), Fail> {
-    let alloc = rt.alloc();
-    let basis = Basis::new(0, 9, 10)?;
-    let curve = curve_of(alloc, &LOAD_AND_GENERATOR)?;
-    let text = ask_text(alloc, &basis, &curve, &[0, 100, -60])?;
-    let lines = "\
+const TEXT: &str = "\
 curve step 0 price 0 from 100 to high
 curve step 4 price 4 from -50 to 99
 curve step 9 price 9 from low to -51
@@ -210,7 +204,18 @@ target 0 price 4 step 4 total -50
 target 100 price 0 step 0 total 0
 target -60 price 9 step 9 total 10
 ";
-    same(&rt, "text", text.as_slice(), lines.as_bytes());
+
+/// The text of three targets over the prices 0 to 9.
+fn text_of_three(alloc: Global) -> Result<Vec<u8>, Fail> {
+    let basis = Basis::new(0, 9, 10)?;
+    let curve = curve_of(alloc, &LOAD_AND_GENERATOR)?;
+    Ok(ask_text(alloc, &basis, &curve, &[0, 100, -60])?)
+}
+
+#[test]
+fn curves_and_answers_are_told(rt: HostRuntime) -> Result<(), Fail> {
+    let text = text_of_three(rt.alloc())?;
+    same(&rt, "text", text.as_slice(), TEXT.as_bytes());
     Ok(())
 }
 

@@ -4,6 +4,7 @@ use crate::same::same;
 use crate::shared::may_be_shared;
 use pm_bid::{ArrayBid, BidFault, BidHead, uncounted};
 use std::alloc::Global;
+use std::process::Abort;
 use std::test::Fail;
 
 /// The fault of these demands, if they are no bid of three steps.
@@ -12,16 +13,20 @@ fn fault_of(alloc: Global, demands: &[i64]) -> Result<Option<BidFault>, Fail> {
     Ok(ArrayBid::new(demands, 3, &mut uncounted()).err())
 }
 
+fn has_no_power(rt: &impl Abort, bid: &ArrayBid) {
+    let mut counter = uncounted();
+    same(rt, "clears", bid.first_not_positive(&mut counter), 0);
+    for step in 0..bid.steps() {
+        same(rt, step, bid.at(step, &mut counter), 0);
+    }
+}
+
 #[test]
 fn a_market_without_bids_has_no_power_and_clears_at_the_first_step(
     rt: HostRuntime,
 ) -> Result<(), Fail> {
-    let mut counter = uncounted();
-    let bid = ArrayBid::zero(rt.alloc(), 10, &mut counter)?;
-    same(&rt, "clears", bid.first_not_positive(&mut counter), 0);
-    for step in 0..bid.steps() {
-        same(&rt, step, bid.at(step, &mut counter), 0);
-    }
+    let bid = ArrayBid::zero(rt.alloc(), 10, &mut uncounted())?;
+    has_no_power(&rt, &bid);
     Ok(())
 }
 

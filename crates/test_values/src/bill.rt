@@ -51,10 +51,15 @@ fn billed(alloc: Global, plan: &Plan) -> Result<Bill, Fail>
     Ok(bill_of_run(alloc, plan, &ends)?)
 }
 
+fn billed_text(alloc: Global, plan: &Plan) -> Result<Vec<u8>, Fail> {
+    let bill = billed(alloc, plan)?;
+    Ok(bill.text(plan)?)
+}
+
 /// A plan's run has a bill with this text.
 fn bill_is(rt: &impl Abort, alloc: Global, plan: &Plan, due: &str) -> Result<(), Fail> {
-    let bill = billed(alloc, plan)?;
-    same(rt, due, bill.text(plan)?.as_slice(), due.as_bytes());
+    let text = billed_text(alloc, plan)?;
+    same(rt, due, text.as_slice(), due.as_bytes());
     Ok(())
 }
 
@@ -124,22 +129,24 @@ fn account(amount: i128, taken: i128, given: i128) -> Account {
     }
 }
 
-/// The accounts and the grid after that hour.
+/// The grid before that hour, and the accounts and the grid after it.
 fn hour_is_billed(rt: &impl Abort, bill: &mut Bill)
     requires first { bill.old.ticks ≡ 0 }
     requires load { leaf_at bill.old.leaves 1 ≡ true }
     requires generator { leaf_at bill.old.leaves 2 ≡ true }
 {
+    let at_first = bill.grid();
     add_hour(bill);
     let load = account(24_000, 6000, 0);
     let generator = account(-36_000, 0, 9000);
     let grid = account(12_000, 3000, 0);
     let have = (
+        at_first,
         bill.account(NodeId(1)),
         bill.account(NodeId(2)),
         bill.grid(),
     );
-    same(rt, "hour", have, (load, generator, grid));
+    same(rt, "hour", have, (account(0, 0, 0), load, generator, grid));
 }
 
 /// The bill of a plan with these two devices before and after that hour.
@@ -148,7 +155,6 @@ fn bill_takes_an_hour(rt: &impl Abort, alloc: Global, plan: &Plan) -> Result<(),
         return Err("no devices".into());
     }
     let mut bill = Bill::open(alloc, plan)?;
-    same(rt, "grid at first", bill.grid(), account(0, 0, 0));
     hour_is_billed(rt, &mut bill);
     Ok(())
 }

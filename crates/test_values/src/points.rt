@@ -102,6 +102,12 @@ const DOWN: [(u8, i64); 6] = [
     (99, -490),
 ];
 
+fn demands_at_are(rt: &impl Abort, bid: &PointBid, demands: &[(u8, i64)]) {
+    for (price, demand) in demands {
+        same(rt, *price, bid.demand_at(i64::from(*price)), *demand);
+    }
+}
+
 /// The bid of the points on this basis has these demands at these prices.
 fn demands_are(
     rt: &impl Abort,
@@ -111,9 +117,7 @@ fn demands_are(
     demands: &[(u8, i64)],
 ) -> Result<(), Fail> {
     let bid = bid_of(alloc, points, basis)?;
-    for (price, demand) in demands {
-        same(rt, *price, bid.demand_at(i64::from(*price)), *demand);
-    }
+    demands_at_are(rt, &bid, demands);
     Ok(())
 }
 

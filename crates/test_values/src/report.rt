@@ -228,11 +228,15 @@ fn texts_are(rt: &impl Abort, alloc: Global, plan: &Plan, end: &PhaseEnd) -> Res
     Ok(())
 }
 
+fn texts_of_plan_are(rt: &impl Abort, alloc: Global, plan: &Plan) -> Result<(), Fail> {
+    let end = end_of(alloc, plan)?;
+    texts_are(rt, alloc, plan, &end)
+}
+
 #[test]
 fn a_lone_load_has_its_texts(rt: HostRuntime) -> Result<(), Fail> {
     let plan = plan_of(rt.alloc(), &LONE)?;
-    let end = end_of(rt.alloc(), &plan)?;
-    texts_are(&rt, rt.alloc(), &plan, &end)
+    texts_of_plan_are(&rt, rt.alloc(), &plan)
 }
 
 #[test]

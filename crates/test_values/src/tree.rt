@@ -66,12 +66,17 @@ fn size(alloc: Global, lines: &[Line]) -> Result<u32, TreeFault> {
     Ok(tree_of(alloc, lines)?.len())
 }
 
+/// The load of a number, under the auctioneer.
+fn load(alloc: Global, number: usize) -> Result<TreeEntry, AllocError> {
+    let name = format!(in alloc; "load{number}")?;
+    entry(alloc, name.as_str(), "auctioneer", true)
+}
+
 /// So many loads under the auctioneer.
 fn loads(alloc: Global, count: usize) -> Result<Vec<TreeEntry>, AllocError> {
     let mut entries = Vec::new(alloc);
     for number in 0..count {
-        let name = format!(in alloc; "load{number}")?;
-        entries.push(entry(alloc, name.as_str(), "auctioneer", true)?)?;
+        entries.push(load(alloc, number)?)?;
     }
     Ok(entries)
 }
@@ -208,13 +213,17 @@ fn places_are<R: Abort>(rt: &R, tree: &Tree) {
     }
 }
 
+fn look_ups_are<R: Abort>(rt: &R, tree: &Tree) {
+    same(rt, "nodes", (tree.len(), tree.is_empty()), (5, false));
+    same(rt, "l4", tree.find("l4"), None);
+    nodes_are(rt, tree);
+    places_are(rt, tree);
+}
+
 #[test]
 fn look_ups_answer_by_the_list(rt: HostRuntime) -> Result<(), Fail> {
     let tree = tree_of(rt.alloc(), &TWO)?;
-    same(&rt, "nodes", (tree.len(), tree.is_empty()), (5, false));
-    same(&rt, "l4", tree.find("l4"), None);
-    nodes_are(&rt, &tree);
-    places_are(&rt, &tree);
+    look_ups_are(&rt, &tree);
     Ok(())
 }
 

@@ -182,10 +182,15 @@ const CUTS: &[([u32; 2], Due)] = &[
     ),
 ];
 
+/// Whether a list is a cut, and its end is the one that is due.
+fn ends_so(alloc: Global, plan: &Plan, cut: &[u32], due: Due) -> Result<bool, Fail> {
+    let end = planned_end(alloc, plan, cut)?;
+    Ok(is_due(&end, due))
+}
+
 fn cuts_have_their_ends(rt: &impl Abort, alloc: Global, plan: &Plan) -> Result<(), Fail> {
     for (cut, due) in CUTS {
-        let end = planned_end(alloc, plan, cut)?;
-        same(rt, *cut, is_due(&end, *due), true);
+        same(rt, *cut, ends_so(alloc, plan, cut, *due)?, true);
     }
     Ok(())
 }
