@@ -45,13 +45,13 @@ pub(crate) fn holding_gate(
     held: HeldNodes,
 ) -> Result<HoldingGate, AllocError> {
     let yields = match held {
-        HeldNodes::First => yields_of_node(alloc, tree, 1)?,
-        HeldNodes::Last => yields_of_node(alloc, tree, tree.len())?,
-        HeldNodes::Auctioneer => yields_of_node(alloc, tree, 0)?,
-        HeldNodes::Subtree => yields_below(alloc, tree, first_concentrator(tree))?,
-        HeldNodes::Depth => yields_by_depth(alloc, tree)?,
+        HeldNodes::First => yields_of_node(alloc, tree, 1),
+        HeldNodes::Last => yields_of_node(alloc, tree, tree.len()),
+        HeldNodes::Auctioneer => yields_of_node(alloc, tree, 0),
+        HeldNodes::Subtree => yields_below(alloc, tree, first_concentrator(tree)),
+        HeldNodes::Depth => yields_by_depth(alloc, tree),
     };
-    Ok(HoldingGate::new(yields))
+    Ok(HoldingGate::new(yields?))
 }
 
 /// How often a node yields that is held or not.
