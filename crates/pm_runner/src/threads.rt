@@ -55,22 +55,41 @@ pub fn run_threads<'p, R: Threads + Wait + Sync, G: Gate>(
     let bells = Bells::of(plan.tree().len() + 1);
     let workers = make_workers(alloc, plan, bells.count())?;
     let order = starting_order(alloc, plan)?;
+    run_workers(rt, alloc, plan, gate, bells, &workers, &order, stack)
+}
+
+/// The board as these workers leave it, whose threads start in this order.
+fn run_workers<'p, R: Threads + Wait + Sync, G: Gate>(
+    rt: &R,
+    alloc: Global,
+    plan: &'p Plan,
+    gate: &G,
+    numbers: Bells,
+    workers: &[Mutex<Worker>],
+    order: &[u32],
+    stack: usize,
+) -> Result<Board<'p>, AllocError> {
     let left = Vec::with_capacity(alloc, order.len())?;
-    let pending = Pending::new(alloc, plan, bells)?;
-    let bells = make_bells(alloc, bells.count())?;
-    let desk = Mutex::new(Desk::new(Board::open(alloc, plan)?, pending));
+    let bells = make_bells(alloc, numbers.count())?;
+    let desk = Mutex::new(open_desk(alloc, plan, numbers)?);
     let shared = Shared {
         desk: &desk,
         bells: bells.as_slice(),
-        workers: workers.as_slice(),
+        workers,
     };
-    serve_all(rt, shared, gate, order.as_slice(), left, stack);
+    serve_all(rt, shared, gate, order, left, stack);
     let Desk {
         board,
         pending: _,
         halted: _,
     } = desk.into_inner();
     Ok(board)
+}
+
+/// What the lock guards before the first move.
+fn open_desk<'p>(alloc: Global, plan: &'p Plan, bells: Bells) -> Result<Desk<'p>, AllocError> {
+    let pending = Pending::new(alloc, plan, bells)?;
+    Ok(Desk::new(Board::open(alloc, plan)?, pending))
 }
 
 /// Serves each of the nodes on a thread of its own, and those whose threads cannot be started on this one.
@@ -101,11 +120,20 @@ fn make_workers(alloc: Global, plan: &Plan, bells: u32) -> Result<Vec<Mutex<Work
     let nodes = plan.tree().len();
     let mut workers = Vec::with_capacity(alloc, nodes as usize + 1)?;
     for node in 0..nodes + 1 {
-        let bid = bid_of(alloc, plan, NodeId(node))?;
-        let rings = Rings::with_capacity(alloc, bells)?;
-        workers.push(Mutex::new(Worker { bid, rings }))?;
+        workers.push(make_worker(alloc, plan, NodeId(node), bells)?)?;
     }
     Ok(workers)
+}
+
+fn make_worker(
+    alloc: Global,
+    plan: &Plan,
+    node: NodeId,
+    bells: u32,
+) -> Result<Mutex<Worker>, AllocError> {
+    let bid = bid_of(alloc, plan, node)?;
+    let rings = Rings::with_capacity(alloc, bells)?;
+    Ok(Mutex::new(Worker { bid, rings }))
 }
 
 /// A bid to write in for a device; none for another node.
@@ -120,18 +148,28 @@ fn bid_of(alloc: Global, plan: &Plan, node: NodeId) -> Result<Option<ArrayBid>, 
 /// The nodes in the order in which their threads start: the devices first, since they have something to do, and a parent
 /// after all nodes below it.
 fn starting_order(alloc: Global, plan: &Plan) -> Result<Vec<u32>, AllocError> {
-    let nodes = plan.tree().len();
-    let mut order = Vec::with_capacity(alloc, nodes as usize + 1)?;
-    for node in 1..nodes + 1 {
+    let mut order = Vec::with_capacity(alloc, plan.tree().len() as usize + 1)?;
+    add_devices(plan, &mut order)?;
+    add_parents(plan, &mut order)?;
+    Ok(order)
+}
+
+fn add_devices(plan: &Plan, order: &mut Vec<u32>) -> Result<(), AllocError> {
+    for node in 1..plan.tree().len() + 1 {
         if plan.tree().is_leaf(NodeId(node)) {
             order.push(node)?;
         }
     }
+    Ok(())
+}
+
+fn add_parents(plan: &Plan, order: &mut Vec<u32>) -> Result<(), AllocError> {
+    let nodes = plan.tree().len();
     for before in 0..nodes + 1 {
         let node = nodes - before;
         if !plan.tree().is_leaf(NodeId(node)) {
             order.push(node)?;
         }
     }
-    Ok(order)
+    Ok(())
 }
