@@ -7,6 +7,7 @@ their parent, is subscribed once, and its messages go to all of them.
 
 from __future__ import annotations
 
+import contextlib
 import threading
 import time
 from collections import deque
@@ -273,6 +274,8 @@ class SharedConnection:
         client.on_message = lambda _it, _data, message: self._on_message(message)
         client.on_publish = lambda _it, _data, number: self._on_publish(number)
         client.on_socket_close = lambda _it, _data, _socket: self._let_file_go()
+        # With this call paho writes in `_move` alone, and not in `publish`: TLS raises what is a lost connection, and no node may end by that.
+        client.on_socket_register_write = lambda _it, _data, _socket: self._watch()
         client.on_disconnect = lambda _it, _data, code, _more: self._words.append(words_of_end(code, self._is_there))
         self._file = client.socket().fileno()
         self._loop.watch(self._file, READ | WRITE, self._move)
@@ -338,8 +341,9 @@ class SharedConnection:
         if client is not None:
             self._let_file_go()
             self._client = None
-            client.disconnect()
-            client.loop_write()
+            with contextlib.suppress(OSError):
+                client.disconnect()
+                client.loop_write()
 
     # What comes.
 

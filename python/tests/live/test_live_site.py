@@ -5,19 +5,21 @@ from __future__ import annotations
 import json
 import os
 import signal
+import socket
 import subprocess
 import sys
 import threading
 import time
+from functools import partial
 
 import pytest
-from brokers import SECONDS, TOP, Mosquitto, Onlooker, require_broker, wait_until
+from brokers import SECONDS, TOP, Certificates, Mosquitto, Onlooker, require_broker, wait_until
 from markets import BASIS, PLACES, STEPS, Market, Process, falls_at
 
 from cogmaula.cli import main
 from cogmaula.deploy.toml_text import toml_text
 from cogmaula.live import BadSettings, site_life
-from cogmaula.live.broker_link import Message
+from cogmaula.live.broker_link import Message, Publication
 from cogmaula.live.metrics import metrics_bytes
 from cogmaula.live.node import Node
 from cogmaula.live.service import PolledService
@@ -135,6 +137,48 @@ def test_after_the_broker_was_away_all_is_published_again(whole, broker, onlooke
     wait_until(lambda: all(node._link.is_settled for node in whole.nodes.values()), "all are settled again")
     whole.offers(store=falls_at(6, 0, -150))
     whole.settles_at(6, house=100, store=-150)
+
+
+@pytest.mark.parametrize("with_tls", [False, True])
+def test_no_node_ends_by_a_connection_that_is_cut_while_it_publishes(with_tls, live, tmp_path):
+    """TLS raises at a write what without it is a lost connection. The site ends cleanly too, if the connection is cut then."""
+    require_broker()
+    lines, way = [], {}
+    if with_tls:
+        certificates = Certificates(tmp_path / "certificates")
+        certificate, key = certificates.make("broker", "127.0.0.1")
+        lines, way = [f"cafile {certificates.ca}", f"certfile {certificate}", f"keyfile {key}"], {"ca": certificates.ca}
+    with Mosquitto(tmp_path / "broker", *lines) as broker:
+        tables = tables_of(tmp_path, broker.port, live, "auctioneer", "street")
+        tables["broker"] |= way
+        with RunningSite(tables, None) as one:
+            connection, published = one.site._connection, []
+
+            def settled():
+                return all(node._link.is_settled for node in one.nodes.values())
+
+            def cut():
+                connection._client.socket().shutdown(socket.SHUT_RDWR)
+
+            def turn(node):
+                if not published and settled():
+                    cut()
+                    for number in range(3):
+                        published.append(number)
+                        node._link.publish(Publication(f"market/{node.settings.name}/heartbeat", b"%d" % number))
+                return type(node).turn(node)
+
+            wait_until(settled, "all are settled")
+            for node in one.nodes.values():
+                node.turn = partial(turn, node)
+            wait_until(lambda: published, "a node has published on a connection that is cut")
+            wait_until(lambda: connection.is_there and settled(), f"all are settled again, {one.error}")
+            assert one.site.nodes.keys() == one.nodes.keys()
+            # What the site says last is published on a connection that is cut.
+            say_down, said = connection.say_down, []
+            connection.say_down = lambda why: (cut(), said.append(why), say_down(why))
+            one.stop()
+            assert (said, one.error, one.thread.is_alive()) == (["stopped"], None, False)
 
 
 def test_a_site_and_nodes_of_their_own_are_one_market(broker, onlooker, live, tmp_path):
