@@ -26,7 +26,7 @@ mod SameAnswers
 mod Freeing
 mod Given
 mod WorkedWorlds
-mod WorkedBounds
+pub mod WorkedBounds
 mod WorkedFirst
 mod WorkedAgain
 mod WorkedLives
