@@ -179,8 +179,8 @@ module _ (root : RootValue) (relays : ℕ → RelayValue) where
   abbrev read_after : Lists → Pricing → World → ℕ → DeviceFrame → ℕ → World
   read_after lists p world d frame n = record world {
     seen = handed_out lists small_places (with_agent world.seen d (agent_after (world.seen.agents d) frame)) d
-        (take n (device_outs p world.basis (world.seen.agents d) frame));
-    agent_kept = update world.agent_kept d (stored_last (world.agent_kept d) (take n (device_outs p world.basis (world.seen.agents d) frame)));
+        (take n (device_outs p.steps world.basis (world.seen.agents d) frame));
+    agent_kept = update world.agent_kept d (stored_last (world.agent_kept d) (take n (device_outs p.steps world.basis (world.seen.agents d) frame)));
   }
 
   abbrev offer : DeviceFrame

@@ -135,7 +135,7 @@ abbrev pub announced_demand : List ℤ
 announced_demand = negsuc 1 ∷ negsuc 1 ∷ negsuc 2 ∷ []
 
 -- they are within the bounds of any bid
-announced_keeps : NeverBind widest announced_demand
+pub announced_keeps : NeverBind widest announced_demand
 announced_keeps =
     three_keep (negsuc 1) (negsuc 1) (negsuc 2) (omega (arith, ints), omega (arith, ints)) (omega (arith, ints), omega (arith, ints))
     (omega (arith, ints), omega (arith, ints))
