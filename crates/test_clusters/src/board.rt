@@ -94,10 +94,6 @@ fn turns(board: &mut Board, node: u32, due: Option<Line>) -> Result<bool, Fail> 
 /// Posts the join of the load by an agent of it.
 fn posts(alloc: Global, board: &mut Board, due: Option<Move>) -> Result<bool, Fail> {
     let mut agent = DeviceAgent::new(alloc, Kind::Load, 1, 10)?;
-    posts_by(&mut agent, board, due)
-}
-
-fn posts_by(agent: &mut DeviceAgent, board: &mut Board, due: Option<Move>) -> Result<bool, Fail> {
     let made = agent.work(
         Next {
             device: 1,
