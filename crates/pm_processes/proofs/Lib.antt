@@ -6,6 +6,7 @@ pub mod RootRuns
 pub mod DeviceRuns
 mod Following
 mod Handled
+mod Bounded
 mod Worked
 mod Standing
 mod Said

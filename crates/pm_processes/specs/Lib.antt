@@ -2,6 +2,7 @@ pub mod Processes
 pub mod RelayProcess
 pub mod RootProcess
 pub mod DeviceProcess
+pub mod Bounded
 pub mod HandedOn
 pub mod History
 pub mod Kept

@@ -5,9 +5,9 @@
 //! are ended at any byte and whatever is lost, repeated or reordered (`histories_keep_the_law`).
 //!
 //! The definitions stand in `specs/`: `Processes` (a process by its bytes), `RelayProcess`, `RootProcess` and `DeviceProcess` (the
-//! same frame by frame), `HandedOn` (frames that are handed on unchanged, by their bytes), `History` (processes of all nodes, and
-//! what the carriers promise), `Kept` (what holds then), `Said` (what that says of the tree), `Worked` and `WorkedLimits` (worked
-//! histories).
+//! same frame by frame), `Bounded` (what bounds do to the Bids that are read), `HandedOn` (frames that are handed on unchanged, by
+//! their bytes), `History` (processes of all nodes, and what the carriers promise), `Kept` (what holds then), `Said` (what that
+//! says of the tree), `Worked` and `WorkedLimits` (worked histories).
 #![tactic(auto)]
 
 ghost use Rattle.std.specs.Prelude.{◌≡◌, ◌⊎◌, ℕ, List};
@@ -20,9 +20,11 @@ ghost use Rattle.pm_frames.specs.RelayFrames.{relay_framing};
 ghost use Rattle.pm_frames.specs.RootFrames.{root_framing};
 ghost use Rattle.pm_frames.specs.DeviceFrames.{device_framing};
 ghost use Rattle.pm_processes.specs.Processes.{IsRelayProcess, IsRootProcess, IsDeviceProcess, relay_start, stream_start, HasNoFrame};
-ghost use Rattle.pm_processes.specs.RelayProcess.{RelayProcess};
+ghost use Rattle.pm_processes.specs.RelayProcess.{RelayProcess, setup_with};
 ghost use Rattle.pm_processes.specs.RootProcess.{RootProcess};
 ghost use Rattle.pm_processes.specs.DeviceProcess.{DeviceProcess};
+ghost use Rattle.pm_processes.specs.Bounded.{AreBounded, AreRootBounded};
+ghost use Rattle.pm_services.specs.Bounds.{widest};
 ghost use Rattle.pm_processes.specs.History.{Scene, RelayProcessGoesOn, RootProcessGoesOn, DeviceProcessGoesOn, HandlesNothing};
 ghost use Rattle.pm_processes.specs.Kept.{HistoriesKeepTheLaw};
 ghost use Rattle.pm_processes.specs.Said.{HistoriesSay};
@@ -76,6 +78,17 @@ pub fn what_is_handled_was_written()
     ensures device { (lists : Lists) (p : Pricing) (numbering : Numbering) (old new : Scene)
         (d : ℕ) → old.left d ≡ 0 → DeviceProcessGoesOn lists p numbering old d new →
         HandlesNothing old new }
+{}
+
+/// A law: a Bid counts in a process if it keeps the newest bound that the frames before it gave its child. Of one that breaks that
+/// bound this is said, and nothing changes. A child that was given no bound has the widest.
+pub fn bids_keep_their_bounds()
+    ensures relay { (child : ℕ) (terms : RelayTerms) (took wrote : List ℕ)
+        (process : RelayProcess child terms took wrote) →
+        AreBounded (setup_with child terms process.basis) (λ place. widest) process.held
+        process.exchanges }
+    ensures root { (took wrote : List ℕ) (process : RootProcess took wrote) →
+        AreRootBounded (λ place. widest) process.root process.exchanges }
 {}
 
 /// A law: there are such histories. In a worked one, by its bytes, a device offers, and its process is killed within the bid. The
