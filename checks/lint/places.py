@@ -162,7 +162,7 @@ LIMITS: dict[str, list[Place]] = {
         Said(PAGE, "power, charge, discharge"), Said(PAGE, "start of an objective"),
     ],
     "CAPACITY_LIMIT": [Bound("node battery/capacity/maximum"), Bound("node battery/start/maximum"), Said(PAGE, "capacity")],
-    "SPREAD_LIMIT": [Bound("node battery/spread/maximum"), Said(PAGE, r"spread \| 0 to")],
+    "SPREAD_LIMIT": [Bound("node battery/spread/maximum"), Said(PAGE, "spread is 0 to")],
     "MINUTES_LIMIT": [Bound("$defs/tick/properties/tick/maximum"), Said(PAGE, "minutes")],
     "MAX_POINTS": [Bound("$defs/points/maxItems"), Said(PAGE, "points")],
     "MOST_POINTS": [Said(RELAY, "points")],
