@@ -75,6 +75,7 @@ OTHER_MEANINGS = [
     ("pm_gen/src/devices.rt", "the batteries of the generator"),
     ("pm_gen/proofs/Parts.antt", "the batteries of the generator"),
     ("pm_laws/proofs/Examples.antt", "journals written out"),
+    ("pm_processes/specs/WorkedAnswers.antt", "prices, indices and bytes written out"),
     ("pm_plan/specs/Causes.antt", "the numbers of causes"),
     ("pm_plan/src/refusal.rt", "the numbers of causes"),
     ("pm_scene/src/kinds.rt", "the lengths of tables"),

@@ -15,3 +15,7 @@ mod LimitsRelay
 mod WorkedLimits
 mod LimitsMarket
 mod LimitsLaw
+mod AnswerRows
+mod RelayRows
+mod RootRows
+mod DeviceRows

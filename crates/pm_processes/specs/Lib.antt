@@ -9,3 +9,4 @@ pub mod Kept
 pub mod Said
 pub mod Worked
 pub mod WorkedLimits
+pub mod WorkedAnswers

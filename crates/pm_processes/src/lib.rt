@@ -30,6 +30,7 @@ ghost use Rattle.pm_processes.specs.Kept.{HistoriesKeepTheLaw};
 ghost use Rattle.pm_processes.specs.Said.{HistoriesSay};
 ghost use Rattle.pm_processes.specs.Worked.{small_scene, HistoryGoesOn};
 ghost use Rattle.pm_processes.specs.WorkedLimits.{limits_scene, LimitsHistoryKeepsTheLaw};
+ghost use Rattle.pm_processes.specs.WorkedAnswers.{RelayRows, RootRows, DeviceRows};
 ghost use Rattle.pm_relay.specs.Relays.{RelayValue};
 ghost use Rattle.pm_relay.specs.Roots.{RootValue};
 
@@ -111,3 +112,11 @@ pub fn a_relay_keeps_the_limits_given()
     // The call tells a fact: such histories keep the law.
     histories_keep_the_law();
 }
+
+/// A law: worked answers, by their bytes. Of small nodes each row says which bytes any answer to a frame has, and what the node is
+/// behind it. They are worked by hand from the tables of docs/RELAY.md.
+pub fn answers_are_as_worked_out()
+    ensures relay { RelayRows }
+    ensures auctioneer { RootRows }
+    ensures device { DeviceRows }
+{}
