@@ -1,4 +1,4 @@
--- Of the worked answers: those of a device, whose answers are functions of its frames.
+-- Of the worked answers: those of a device, whose answers are functions of its frames; and the frames that nodes read.
 use Rattle.std.proofs.Common.{◌≡◌, ◌∙◌, sym, ap, subst, refl, ℕ, List, [], ◌∷◌, Option, None}
 use Rattle.pm_wire.specs.Taking.{Runs}
 use Rattle.pm_frames.specs.declared.parent.ParentFrame.TheVariants.{Price}
@@ -9,7 +9,7 @@ use Rattle.pm_services.proofs.DeviceReplies.{of_another}
 use Rattle.pm_lives.specs.Answering.{IsOfOtherBasis, SaysOtherBasis}
 use Rattle.pm_lives.proofs.Answering.{device_says_other}
 use Rattle.pm_processes.specs.Processes.{new_device_service}
-use Rattle.pm_processes.specs.WorkedAnswers.{device_with, IsDeviceHello, DeviceSays, DeviceRows}
+use Rattle.pm_processes.specs.WorkedAnswers.{device_with, IsDeviceHello, DeviceSays, DeviceRows, FrameRows}
 
 -- the service behind a frame, and behind frames
 abbrev service_after : DeviceServiceValue → DeviceFrame → DeviceServiceValue
@@ -78,4 +78,24 @@ device_rows = record {
   window_full = says _ _ _ refl;
   no_offer_left = says _ _ _ refl;
   no_number_left = says _ _ _ refl;
+}
+
+-- the frames by their bytes
+pub frame_rows : FrameRows
+frame_rows = record {
+  hello = refl;
+  bid = refl;
+  gone = refl;
+  clear = refl;
+  old = refl;
+  send = refl;
+  expire = refl;
+  limits = refl;
+  bound = refl;
+  price = refl;
+  offer = refl;
+  leave = refl;
+  kind = refl;
+  state = λ state' demand. refl;
+  points = λ demand. refl;
 }

@@ -1,7 +1,7 @@
 -- Of the worked answers: those of a relay.
 use Rattle.std.proofs.Common.{◌≡◌, ◌⊎◌, ◌∙◌, sym, ap, subst, refl, inl, inr, ℕ}
 use Rattle.std.proofs.Common.{◌+◌, ◌-◌, ◌%◌, ◌<◌, ◌≤◌, ◌^◌, ℤ, pos, negsuc, false, arith}
-use Rattle.std.proofs.Common.{List, [], ◌∷◌, ◌++◌, append-nil, replicate, Option, Some, None, eqb, cond, not}
+use Rattle.std.proofs.Common.{List, [], ◌∷◌, ◌++◌, append-nil, Option, Some, None, eqb, cond, not}
 use Rattle.std.proofs.lemmas.Int.{ints}
 use Rattle.std.specs.Prelude.{slice_index_or, unwrap_or}
 use Rattle.pm_base.specs.Limits.{window_size}
@@ -27,7 +27,7 @@ use Rattle.pm_frames.specs.Answers.{dropped_bytes, other_basis_bytes, out_of_lim
 use Rattle.pm_frames.specs.Stored.{StoredRelay}
 use Rattle.pm_frames.specs.Terms.{giver_number}
 use Rattle.pm_frames.specs.declared.terms.RelayTerms.{RelayTerms}
-use Rattle.pm_frames.specs.declared.parent.ParentFrame.TheVariants.{Price}
+use Rattle.pm_frames.specs.declared.parent.ParentFrame.TheVariants.{Price, Old}
 use Rattle.pm_frames.specs.declared.relay.RelayFrame.{RelayFrame}
 use Rattle.pm_frames.specs.declared.relay.RelayFrame.TheVariants as to_relay
 use Rattle.pm_services.specs.Bounds.{KeepsBound, no_bounds, widest}
@@ -45,7 +45,8 @@ use Rattle.pm_processes.specs.WorkedAnswers.{small_bound, child_numbers, price_w
 use Rattle.pm_processes.specs.WorkedAnswers.{relay_setup_with, back, has_record, open_relay_with, hears_one}
 use Rattle.pm_processes.specs.WorkedAnswers.{hears_all, hears_newer, hears_giver, price_of_three, price_three, second_bids}
 use Rattle.pm_processes.specs.WorkedAnswers.{resume_written, relay_bid_written, giver_setup, stored_without, serves, RelaySays, RelayTurns}
-use Rattle.pm_processes.specs.WorkedAnswers.{old_written, too_much_written, hears_bounded, IsRelayHello, RelayRows, first_demand}
+use Rattle.pm_processes.specs.WorkedAnswers.{old_written, too_much_written, hears_bounded, IsRelayHello}
+use Rattle.pm_processes.specs.WorkedAnswers.{RelayRows, first_demand, first_field, hears_one_without}
 use Rattle.pm_processes.proofs.AnswerRows.{two_keep, recorded_are}
 
 abbrev Outs : Type 0
@@ -380,12 +381,53 @@ let_go_is new outs w =
       taken.1,
     )
 
-old_is : (new : WaitingRelay) (outs : Outs) → WritesBounded wide_setup no_bounds hears_all.held 2 3 second_demand new outs →
+-- if child 2 was gone in the record, it is had again once child 2 is let go
+abbrev heard_without : RelayValue
+heard_without = with_child_bid hears_one_without.held.relay 1 5 None
+
+hears_without : HearsItsRecord heard_without
+unfolding reaches suffices
+hears_without = record {
+  came_back = omega arith;
+  lost = refl;
+  caught_up = reached heard_without.recorded heard_without.gathered.cache.heads refl;
+  nothing_newer = enough heard_without.recorded heard_without.gathered.cache.heads refl;
+  changed = λ e. absurd (omega (arith, ap (λ (l : List BidHead). head_number l 0) e));
+}
+
+again_without : (learnt : RelayValue) → LooksForRecord heard_without learnt →
+    bid_again_outs hears_one_without.held.relay learnt ≡ bid_by 3 first_demand (Some wide) heard_without.gathered.cache
+unfolding said_between
+again_without learnt (inl again) =
+    let did = again.1 in
+    ap (λ (n : ℕ). cond (not (eqb n 0)) (bid_outs learnt) []) did.last
+    ∙ bid_are learnt 3 first_demand (Some wide) heard_without.gathered.cache (omega (arith, did.base, did.last)) did.announced did.limits did.cache
+again_without learnt (inr other) = absurd (other.0 hears_without)
+
+let_go_again_is : (new : WaitingRelay) (outs : Outs) → WritesExpire wide_setup hears_one_without.held 2 new outs →
+    relay_bytes wide_setup outs ≡ relay_bid_written 3 first_field
+let_go_again_is new outs w =
+    bytes_of wide_setup outs (bid_by 3 first_demand (Some wide) heard_without.gathered.cache ++ []) _
+    (w.replied ∙ (ap (λ (l : Outs). l ++ w.waiting_reply) (again_without w.learnt w.looks)
+    ∙ ap (λ (l : Outs). bid_by 3 first_demand (Some wide) heard_without.gathered.cache ++ l) w.tries.1)) refl
+
+old_is : (new : WaitingRelay) (outs : Outs) → WritesBounded wide_setup no_bounds hears_all.held 2 4 second_demand new outs →
     (relay_bytes wide_setup outs ≡ old_written 2 4) × (new ≡ hears_all.held)
 old_is new outs did =
-    let w = counts wide_setup hears_all.held 3 new outs did in
+    let w = counts wide_setup hears_all.held 4 new outs did in
     let same : w.learnt ≡ has_record = stays has_record w.learnt (λ h. absurd (omega (arith, h.lost))) w.looks in (
-      bytes_of wide_setup outs (receipt_outs 4 2 3 ++ []) _ (w.replied ∙ ap (λ (l : Outs). receipt_outs 4 2 3 ++ l) w.tries.1) refl,
+      bytes_of wide_setup outs (receipt_outs 4 2 4 ++ []) _ (w.replied ∙ ap (λ (l : Outs). receipt_outs 4 2 4 ++ l) w.tries.1) refl,
+      w.tries.0 ∙ ap (λ (r : RelayValue). record { relay = r; waiting = None }) same,
+    )
+
+abbrev record_without : RelayValue
+record_without = with_child_bid has_record 1 6 None
+
+gone_is : (new : WaitingRelay) (outs : Outs) → WritesBid wide_setup hears_all.held 2 6 None new outs →
+    (relay_bytes wide_setup outs ≡ []) × (new ≡ record { relay = record_without; waiting = None })
+gone_is new outs w =
+    let same : w.learnt ≡ record_without = stays record_without w.learnt (λ h. absurd (omega (arith, h.lost))) w.looks in (
+      bytes_of wide_setup outs [] [] (w.replied ∙ w.tries.1) refl,
       w.tries.0 ∙ ap (λ (r : RelayValue). record { relay = r; waiting = None }) same,
     )
 
@@ -604,6 +646,21 @@ is_new : (old : RelayValue) (p : PriceUpdate) → old.index < p.index → 1 ≤ 
     IsNewPrice old p
 is_new old p newer one from to = record { newer = newer; one = one; from = from; to = to }
 
+-- a price that waits is tried again behind what is answered to Send
+waits_on_is : (new : WaitingRelay) (outs : Outs) → WritesSend wide_setup (hears_one (Some (price_of_three 7 1))).held new outs →
+    (relay_bytes wide_setup outs ≡ 17 ∷ []) × (new ≡ (hears_one (Some (price_of_three 7 1))).held)
+waits_on_is new outs w =
+    let held : WaitingRelay = (hears_one None).held in
+    let said = lacks wide_setup held.relay w.asked w.first (λ c. absurd (omega (arith, c 1 (omega arith)))) w.answers in
+    let waited = it_waits wide_setup held (price_of_three 7 1) new w.waiting_reply
+    (is_new held.relay (price_of_three 7 1) (omega arith) (omega arith) (omega arith) (omega arith)) (omega arith) may_hear
+    (subst (λ (r : RelayValue). WritesPrice wide_setup (record { relay = r; waiting = None }) (price_of_three 7 1) new w.waiting_reply) said.1 w.tries) in (
+      bytes_of wide_setup outs (Says (not_sent_reply NotCaughtUp) ∷ []) (17 ∷ [])
+          (w.replied ∙ (ap (λ (l : Outs). l ++ w.waiting_reply) said.0
+          ∙ ap (λ (l : Outs). Says (not_sent_reply NotCaughtUp) ∷ l) waited.0)) refl,
+      waited.1,
+    )
+
 waits_row : (waiting : Option PriceUpdate) (index step : ℕ) (bytes : List ℕ) → 6 < index →
     relay_bytes wide_setup (drop_outs waiting (price_of_three index step)) ≡ bytes →
     RelayTurns (hears_one waiting) (price_three 3 index step) bytes (hears_one (waiting_with waiting (price_of_three index step)))
@@ -668,15 +725,20 @@ relay_rows = record {
       goes_down has_record None new outs has_it (told wide_setup hears_all.held (price_of_three 7 1) new outs did));
   again = says (hears_one None) (second_bids 4) (relay_bid_written 3 sum_field) bids_again;
   again_passes = says (hears_one (Some (price_of_three 7 1))) (second_bids 4) (relay_bid_written 3 sum_field ++ passed_bytes) bids_and_passes;
+  let_go_again = says hears_one_without (to_relay.Expire 2) (relay_bid_written 3 first_field) let_go_again_is;
   never_again = turns (hears_one (Some (price_of_three 7 1))) (second_bids 5) _ _ refl refl never_is;
   let_go = turns (hears_one (Some (price_of_three 7 1))) (to_relay.Expire 2) _ _ refl refl let_go_is;
-  old = turns hears_all (second_bids 3) _ hears_all refl refl old_is;
+  old = turns hears_all (second_bids 4) _ hears_all refl refl old_is;
+  counts_gone = turns hears_all (to_relay.Child (Gone 2 6)) [] _ refl refl gone_is;
+  ignores_old = turns hears_all (to_relay.Parent (Old 3 4)) [] hears_all refl refl (λ new outs did.
+      (ap (λ (l : Outs). relay_bytes wide_setup l) did.1, did.0));
   bound = turns hears_all (to_relay.Bound 2 small_bound) [] hears_bounded refl refl (λ new outs did.
       (ap (λ (l : Outs). relay_bytes wide_setup l) did.1, did.0));
   too_much = turns hears_bounded (second_bids 6) _ hears_bounded refl refl too_much_is;
   not_caught_up = turns (hears_one None) to_relay.Send (17 ∷ []) (hears_one None) refl refl (refuses wide_setup (back wide 3 2 holds_one)
       NotCaughtUp
       (17 ∷ []) refl (λ asked first. lacks wide_setup (back wide 3 2 holds_one) asked first (λ c. absurd (omega (arith, c 1 (omega arith))))));
+  waits_on = turns (hears_one (Some (price_of_three 7 1))) to_relay.Send (17 ∷ []) _ refl refl waits_on_is;
   not_changed = turns hears_all to_relay.Send (6 ∷ []) hears_all refl refl (refuses wide_setup has_record NotChanged (6 ∷ []) refl
       (λ asked first. still wide_setup has_record asked first record_caught refl));
   window_full = turns (hears_newer wide 10 2) to_relay.Send (10 ∷ []) (hears_newer wide 10 2) refl refl (refuses wide_setup (newer wide 10 2)

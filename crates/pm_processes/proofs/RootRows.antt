@@ -1,6 +1,6 @@
 -- Of the worked answers: those of an auctioneer.
 use Rattle.std.proofs.Common.{◌≡◌, ◌⊎◌, ◌∙◌, sym, ap, refl, inl, inr, ℕ, ◌+◌, ◌^◌, pos, negsuc, true, false, arith}
-use Rattle.std.proofs.Common.{List, [], ◌∷◌, ◌++◌, Option, Some, None, eqb, cond, not}
+use Rattle.std.proofs.Common.{List, [], ◌∷◌, ◌++◌, Option, Some, None, eqb, cond, not, ◌&&◌}
 use Rattle.std.proofs.lemmas.Int.{ints}
 use Rattle.std.proofs.lemmas.Bool.{true≢false}
 use Rattle.pm_base.specs.declared.limits.Limits.{Limits}
@@ -23,7 +23,8 @@ use Rattle.pm_services.specs.RootAnswers.{OpenRoot, RootComesUpBy}
 use Rattle.pm_system.proofs.Worked.{reaches, reached, suffices, enough}
 use Rattle.pm_processes.specs.WorkedAnswers.{nine_basis, nine_field, numbers_field, price_written, first_demand, small_bound}
 use Rattle.pm_processes.specs.WorkedAnswers.{child_numbers, RootSays, RootTurns, HasIndexBeyond, IsRootHello, RootRows}
-use Rattle.pm_processes.specs.WorkedAnswers.{old_written, too_much_written, root_hears_gone, root_hears_newer, root_cleared, bounded_root, first_bids}
+use Rattle.pm_processes.specs.WorkedAnswers.{old_written, too_much_written, root_without, root_hears_bid}
+use Rattle.pm_processes.specs.WorkedAnswers.{root_hears_gone, root_hears_newer, root_cleared, bounded_root, first_bids}
 use Rattle.pm_processes.proofs.AnswerRows.{two_keep, recorded_are}
 
 abbrev Outs : Type 0
@@ -129,7 +130,7 @@ stays : (heard new : RootValue) → (HearsItsClearing heard → ⊥) → LooksFo
 stays heard new lacks (inl found) = absurd (lacks found.0)
 stays heard new lacks (inr other) = other.1
 
--- with the Bid of number 2 child 1 is heard again
+-- With the Bid of number 2 child 1 is heard again. Or that was heard, and child 2 is let go again under number 5.
 abbrev heard_again : RootValue
 heard_again = with_root_bid root_hears_gone.root 0 2 (Some first_demand)
 
@@ -143,20 +144,22 @@ hears_it = record {
   changed = refl;
 }
 
-again_of : (new : RootValue) (outs : Outs) → LooksForClearing heard_again new → outs ≡ clearing_again_outs root_hears_gone.root new →
+again_of : (old new : RootValue) (outs : Outs) → old.auction.index ≡ 0 → LooksForClearing heard_again new → outs ≡ clearing_again_outs old new →
     root_bytes nine_basis outs ≡ price_written 1 2 4
-again_of new outs (inl found) replied =
+again_of old new outs lost (inl found) replied =
     let cleared = found.1.cleared in
     let index : newest_index new ≡ 4 = omega (arith, found.1.base, cleared.new_index) in
     bytes_of nine_basis outs (downs 4 1 0 heard_again.auction.cache.heads) (price_written 1 2 4)
-    (replied ∙ (ap (λ (n : ℕ). cond (not (eqb n 0)) (clearing_outs new) []) cleared.new_index
+    (replied ∙ (ap (λ (n : ℕ). cond (eqb n 0 && not (eqb new.auction.index 0)) (clearing_outs new) []) lost
+    ∙ (ap (λ (n : ℕ). cond (not (eqb n 0)) (clearing_outs new) []) cleared.new_index
     ∙ (ap (λ (n : ℕ). downs n new.auction.step 0 new.auction.cache.heads) index
-    ∙ (ap (λ (n : ℕ). downs 4 n 0 new.auction.cache.heads) cleared.new_step ∙ ap (λ (k : Cache). downs 4 1 0 k.heads) cleared.cache)))) refl
-again_of new outs (inr other) replied = absurd (other.0 hears_it)
+    ∙ (ap (λ (n : ℕ). downs 4 n 0 new.auction.cache.heads) cleared.new_step ∙ ap (λ (k : Cache). downs 4 1 0 k.heads) cleared.cache))))) refl
+again_of old new outs lost (inr other) replied = absurd (other.0 hears_it)
 
 is_again : (new : RootValue) (outs : Outs) → WritesRootBounded no_bounds root_hears_gone.root 1 2 first_demand new outs →
     root_bytes nine_basis outs ≡ price_written 1 2 4
-is_again new outs did = let w = counts root_hears_gone.root 2 new outs did in again_of new outs w.looks w.replied
+is_again new outs did =
+    let w = counts root_hears_gone.root 2 new outs did in again_of root_hears_gone.root new outs refl w.looks w.replied
 
 -- it hears a newer one
 is_never_again : (new : RootValue) (outs : Outs) → WritesRootBounded no_bounds root_hears_gone.root 1 4 first_demand new outs →
@@ -245,11 +248,15 @@ root_rows = record {
   ];
   clears = says (root_hears_newer 4) (Market Clear) _ clears_by;
   again = says root_hears_gone (first_bids 2) (price_written 1 2 4) is_again;
+  let_go_again = says root_hears_bid (Expire 2) (price_written 1 2 4) (λ new outs did.
+      again_of root_hears_bid.root new outs refl did.looks did.replied);
   never_again = turns root_hears_gone (first_bids 4) [] (root_hears_newer 4) refl refl is_never_again;
   old = turns root_cleared (first_bids 1) _ root_cleared refl refl is_old;
   bound = turns root_cleared (Bound 1 small_bound) [] bounded_root refl refl (λ new outs did.
       (ap (λ (l : Outs). root_bytes nine_basis l) did.1, did.0));
   too_much = turns bounded_root (first_bids 4) _ bounded_root refl refl is_too_much;
-  let_go = turns root_cleared (Expire 1) [] _ refl refl (λ new outs did.
+  counts_gone = turns root_cleared (Market (Gone 1 6)) [] (root_without 6) refl refl (λ new outs did.
+      (ap (λ (l : Outs). root_bytes nine_basis l) did.replied, stays _ new (λ h. absurd (omega (arith, h.lost))) did.looks));
+  let_go = turns root_cleared (Expire 1) [] (root_without 3) refl refl (λ new outs did.
       (ap (λ (l : Outs). root_bytes nine_basis l) did.replied, stays _ new (λ h. absurd (omega (arith, h.lost))) did.looks));
 }

@@ -10,13 +10,18 @@ use Rattle.pm_bid.specs.declared.head.BidHead.{BidHead}
 use Rattle.pm_cache.specs.Cache.{Cache, kept_number}
 use Rattle.pm_session.specs.Windows.{Sent}
 use Rattle.pm_session.specs.declared.price.PriceUpdate.{PriceUpdate}
+use Rattle.pm_device.specs.declared.state.DeviceState.{DeviceState}
 use Rattle.pm_relay.specs.Relays.{RelayValue, RelayComesBack, newest_bid_number, limits_places}
 use Rattle.pm_relay.specs.Roots.{RootComesBack, newest_index}
+use Rattle.pm_wire.specs.Frames.{signed_bytes}
 use Rattle.pm_wire.specs.SettingUp.{IsHello}
 use Rattle.pm_wire.specs.Taking.{Runs}
-use Rattle.pm_wire.specs.declared.frame.Frame.TheVariants.{Bid, Clear}
+use Rattle.pm_wire.specs.declared.frame.Frame.TheVariants.{Hello, Bid, Gone, Clear}
+use Rattle.pm_frames.specs.RelayFrames.{relay_frame_bytes}
+use Rattle.pm_frames.specs.RootFrames.{root_frame_bytes}
+use Rattle.pm_frames.specs.DeviceFrames.{device_frame_bytes}
 use Rattle.pm_frames.specs.Stored.{StoredRelay}
-use Rattle.pm_frames.specs.declared.form.OfferForm.TheVariants.{Array}
+use Rattle.pm_frames.specs.declared.form.OfferForm.TheVariants.{Array, Points, State}
 use Rattle.pm_frames.specs.declared.parent.ParentFrame.TheVariants.{Price, Old}
 use Rattle.pm_frames.specs.declared.relay.RelayFrame.{RelayFrame}
 use Rattle.pm_frames.specs.declared.relay.RelayFrame.TheVariants as to_relay
@@ -47,6 +52,9 @@ first_demand = pos 5 ∷ negsuc 2 ∷ []
 
 abbrev pub second_demand : List ℤ
 second_demand = pos 16 ∷ pos 0 ∷ []
+
+abbrev pub first_field : List ℕ
+first_field = 0 ∷ 0 ∷ 0 ∷ 5 ∷ 255 ∷ 255 ∷ 255 ∷ 253 ∷ []
 
 abbrev pub sum_field : List ℕ
 sum_field = 0 ∷ 0 ∷ 0 ∷ 21 ∷ 255 ∷ 255 ∷ 255 ∷ 253 ∷ []
@@ -170,6 +178,10 @@ open_relay_with own relay' waiting' = record { setup = own; bounds = no_bounds; 
 abbrev pub hears_one : Option PriceUpdate → OpenRelay
 hears_one waiting = open_relay_with (relay_setup_with wide) (back wide 3 2 holds_one) waiting
 
+-- the same, if child 2 was gone in that record, under number 5
+abbrev pub hears_one_without : OpenRelay
+hears_one_without = open_relay_with (relay_setup_with wide) (record (back wide 3 2 holds_one) { recorded = child_numbers 1 5 }) None
+
 -- it has its record
 abbrev pub hears_all : OpenRelay
 hears_all = open_relay_with (relay_setup_with wide) has_record None
@@ -222,6 +234,44 @@ stored_without = record {
 -- a relay with GIVER 2 that restarted, and learnt its limits again
 abbrev pub hears_giver : OpenRelay
 hears_giver = open_relay_with giver_setup (back narrow 3 2 (holds nothing_sent no_demand (gone_under 4) no_demand)) None
+
+-- ---- what a device reads
+
+-- the power that device 2 offers: 500 and -300 watts
+abbrev pub two_powers : List ℤ
+two_powers = pos 500 ∷ negsuc 299 ∷ []
+
+abbrev pub two_powers_field : List ℕ
+two_powers_field = 0 ∷ 0 ∷ 1 ∷ 244 ∷ 255 ∷ 255 ∷ 254 ∷ 212 ∷ []
+
+abbrev pub hello : DeviceFrame
+hello = to_device.Hello nine_basis
+
+abbrev pub offers_two : DeviceFrame
+offers_two = to_device.Offer Array two_powers
+
+-- ---- the frames that are read
+
+-- each sort of them by its bytes, which begin with its kind; a Resume is one that a node wrote
+pub record FrameRows : Type 0 where
+  pub hello : relay_frame_bytes (to_relay.Child (Hello nine_basis)) ≡ 1 ∷ nine_field
+  pub bid : relay_frame_bytes (second_bids 4) ≡ 2 ∷ 0 ∷ 2 ∷ 0 ∷ 0 ∷ 0 ∷ 4 ∷ 0 ∷ 0 ∷ 0 ∷ 16 ∷ 0 ∷ 0 ∷ 0 ∷ 0 ∷ []
+  pub gone : relay_frame_bytes (to_relay.Child (Gone 2 5)) ≡ 3 ∷ 0 ∷ 2 ∷ 0 ∷ 0 ∷ 0 ∷ 5 ∷ []
+  pub clear : root_frame_bytes (to_root.Market Clear) ≡ 4 ∷ []
+  pub old : relay_frame_bytes (to_relay.Parent (Old 3 4)) ≡ old_written 3 4
+  pub send : relay_frame_bytes to_relay.Send ≡ 9 ∷ []
+  pub expire : relay_frame_bytes (to_relay.Expire 2) ≡ 19 ∷ 0 ∷ 2 ∷ []
+  pub limits : relay_frame_bytes (to_relay.Limits 6 narrow) ≡ 20 ∷ 0 ∷ 0 ∷ 0 ∷ 6 ∷ narrow_field
+  pub bound : relay_frame_bytes (to_relay.Bound 2 small_bound) ≡ 21 ∷ 0 ∷ 2 ∷ 0 ∷ 0 ∷ 0 ∷ 0 ∷ 0 ∷ 0 ∷ 0 ∷ 4 ∷ []
+  pub price : relay_frame_bytes (price_three 4 7 1) ≡ price_written 3 4 7
+  -- those of a device's control: an Offer, Leave, a battery as its Kind, a State, and two Points
+  pub offer : device_frame_bytes offers_two ≡ 13 ∷ two_powers_field
+  pub leave : device_frame_bytes to_device.Leave ≡ 14 ∷ []
+  pub kind : device_frame_bytes (to_device.Kind (record { number = 3; first = pos 1000; second = pos 300; third = pos 301; fourth = pos 7; fifth = pos 0 }))
+      ≡ 29 ∷ 3 ∷ 0 ∷ 0 ∷ 3 ∷ 232 ∷ 0 ∷ 0 ∷ 1 ∷ 44 ∷ 0 ∷ 0 ∷ 1 ∷ 45 ∷ 0 ∷ 0 ∷ 0 ∷ 7 ∷ 0 ∷ 0 ∷ 0 ∷ 0 ∷ []
+  pub state : (state : DeviceState) (demand : List ℤ) → device_frame_bytes (to_device.Offer (State state) demand) ≡ 30 ∷ signed_bytes state.0
+  pub points : (demand : List ℤ) → device_frame_bytes (to_device.Offer (Points ((pos 0, pos 500) ∷ (pos 9, negsuc 299) ∷ [])) demand)
+      ≡ 130 ∷ 0 ∷ 0 ∷ 0 ∷ 0 ∷ 0 ∷ 0 ∷ 1 ∷ 244 ∷ 0 ∷ 0 ∷ 0 ∷ 9 ∷ 255 ∷ 255 ∷ 254 ∷ 212 ∷ []
 
 -- ---- rows of a relay
 
@@ -286,18 +336,28 @@ pub record RelayRows : Type 0 where
   -- and the price that waits is answered behind the Bid
   pub again_passes : RelaySays (hears_one (Some (price_of_three 7 1))) (second_bids 4)
       (relay_bid_written 3 sum_field ++ (price_written 1 1 7 ++ (price_written 2 4 7 ++ resume_written wide_field 3 3 7 1 4)))
+  -- so it has it if child 2 was gone in it, and is let go again
+  pub let_go_again : RelaySays hears_one_without (to_relay.Expire 2) (relay_bid_written 3 first_field)
   -- with a newer Bid of child 2, or if it is let go, the record never comes again: the price that waits is taken alone
   pub never_again : RelayTurns (hears_one (Some (price_of_three 7 1))) (second_bids 5) (resume_written wide_field 3 3 7 1 4)
       (open_relay_with (relay_setup_with wide) (record (back wide 3 3 (holds_both 1 5)) { index = 7 }) None)
   pub let_go : RelayTurns (hears_one (Some (price_of_three 7 1))) (to_relay.Expire 2) (resume_written wide_field 3 3 7 1 4)
       (open_relay_with (relay_setup_with wide) (record (back wide 3 3 (holds (bid_under 1) first_demand (gone_under 5) no_demand)) { index = 7 }) None)
-  -- a Bid whose number is not above 4, the one kept of child 2: Old
-  pub old : RelayTurns hears_all (second_bids 3) (old_written 2 4) hears_all
+  -- a Bid of child 2 under number 4, which is kept: Old
+  pub old : RelayTurns hears_all (second_bids 4) (old_written 2 4) hears_all
+  -- a Gone of child 2 counts, and an Old of the parent changes nothing; neither is answered
+  pub counts_gone : RelayTurns hears_all (to_relay.Child (Gone 2 6)) []
+      (open_relay_with (relay_setup_with wide) (record has_record {
+        gathered = record has_record.gathered { cache = holds (bid_under 1) first_demand (gone_under 6) no_demand };
+      }) None)
+  pub ignores_old : RelayTurns hears_all (to_relay.Parent (Old 3 4)) [] hears_all
   -- a Bound of 0 to 4 watts for child 2, and a Bid of 16 watts beyond it: TooMuch
   pub bound : RelayTurns hears_all (to_relay.Bound 2 small_bound) [] hears_bounded
   pub too_much : RelayTurns hears_bounded (second_bids 6) (too_much_written 2 6) hears_bounded
-  -- Send: child 2 was not heard again; nothing counted since the last bid; numbers 3 to 10 are unanswered; no number is left
+  -- Send: child 2 was not heard again, and a price that waits goes on waiting; nothing counted since the last bid; numbers 3 to 10 are
+  -- unanswered; no number is left
   pub not_caught_up : RelayTurns (hears_one None) to_relay.Send (17 ∷ []) (hears_one None)
+  pub waits_on : RelayTurns (hears_one (Some (price_of_three 7 1))) to_relay.Send (17 ∷ []) (hears_one (Some (price_of_three 7 1)))
   pub not_changed : RelayTurns hears_all to_relay.Send (6 ∷ []) hears_all
   pub window_full : RelayTurns (hears_newer wide 10 2) to_relay.Send (10 ∷ []) (hears_newer wide 10 2)
   pub out_of_numbers : (new : RelayServiceValue) (reply : List ℕ) →
@@ -329,7 +389,11 @@ root_back last' cache' changed' = record {
 abbrev pub root_hears_gone : OpenRoot
 root_hears_gone = root_back 4 (holds nothing_sent no_demand (gone_under 5) no_demand) true
 
--- it heard a newer Bid of child 1 also
+-- it heard the Bid of child 1
+abbrev pub root_hears_bid : OpenRoot
+root_hears_bid = root_back 4 (holds (bid_under 2) first_demand nothing_sent no_demand) true
+
+-- it heard that child 2 is gone, and a newer Bid of child 1
 abbrev pub root_hears_newer : ℕ → OpenRoot
 root_hears_newer last = root_back last (holds (bid_under 4) first_demand (gone_under 5) no_demand) true
 
@@ -340,6 +404,14 @@ root_cleared = record root_hears_gone {
     auction = record { cache = holds (bid_under 2) first_demand (gone_under 5) no_demand; step = 1; index = 1; changed = false };
     base = 3;
     recorded = child_numbers 2 5;
+  };
+}
+
+-- and then child 1 is gone under this number
+abbrev pub root_without : ℕ → OpenRoot
+root_without number = record root_cleared {
+  root = record root_cleared.root {
+    auction = record { cache = holds (gone_under number) no_demand (gone_under 5) no_demand; step = 1; index = 1; changed = true };
   };
 }
 
@@ -376,33 +448,19 @@ pub record RootRows : Type 0 where
       (25 ∷ 0 ∷ 0 ∷ 0 ∷ 5 ∷ (nine_field ++ (numbers_field 4 5 ++ price_written 1 4 5)))
   -- with the Bid of child 1 it has its clearing again: its Price again, of index 4
   pub again : RootSays root_hears_gone (first_bids 2) (price_written 1 2 4)
+  -- so it does if it let child 2 go before, and lets it go again
+  pub let_go_again : RootSays root_hears_bid (to_root.Expire 2) (price_written 1 2 4)
   -- with a newer Bid it never has it again
   pub never_again : RootTurns root_hears_gone (first_bids 4) [] (root_hears_newer 4)
   -- Old, Bound and TooMuch as of a relay
   pub old : RootTurns root_cleared (first_bids 1) (old_written 1 2) root_cleared
   pub bound : RootTurns root_cleared (to_root.Bound 1 small_bound) [] bounded_root
   pub too_much : RootTurns bounded_root (first_bids 4) (too_much_written 1 4) bounded_root
-  -- child 1 is let go: it is gone under number 3
-  pub let_go : RootTurns root_cleared (to_root.Expire 1) [] (record root_cleared {
-    root = record root_cleared.root {
-      auction = record { cache = holds (gone_under 3) no_demand (gone_under 5) no_demand; step = 1; index = 1; changed = true };
-    };
-  })
+  -- child 1 is let go, and so it is gone under number 3; its own Gone of number 6 counts too
+  pub let_go : RootTurns root_cleared (to_root.Expire 1) [] (root_without 3)
+  pub counts_gone : RootTurns root_cleared (to_root.Market (Gone 1 6)) [] (root_without 6)
 
 -- ---- a device
-
--- the power that it offers: 500 and -300 watts
-abbrev pub two_powers : List ℤ
-two_powers = pos 500 ∷ negsuc 299 ∷ []
-
-abbrev pub two_powers_field : List ℕ
-two_powers_field = 0 ∷ 0 ∷ 1 ∷ 244 ∷ 255 ∷ 255 ∷ 254 ∷ 212 ∷ []
-
-abbrev pub hello : DeviceFrame
-hello = to_device.Hello nine_basis
-
-abbrev pub offers_two : DeviceFrame
-offers_two = to_device.Offer Array two_powers
 
 abbrev pub price_two : (number index step : ℕ) → DeviceFrame
 price_two number index step = to_device.Parent (Price 2 number index step nine_basis)

@@ -30,7 +30,7 @@ ghost use Rattle.pm_processes.specs.Kept.{HistoriesKeepTheLaw};
 ghost use Rattle.pm_processes.specs.Said.{HistoriesSay};
 ghost use Rattle.pm_processes.specs.Worked.{small_scene, HistoryGoesOn};
 ghost use Rattle.pm_processes.specs.WorkedLimits.{limits_scene, LimitsHistoryKeepsTheLaw};
-ghost use Rattle.pm_processes.specs.WorkedAnswers.{RelayRows, RootRows, DeviceRows};
+ghost use Rattle.pm_processes.specs.WorkedAnswers.{FrameRows, RelayRows, RootRows, DeviceRows};
 ghost use Rattle.pm_relay.specs.Relays.{RelayValue};
 ghost use Rattle.pm_relay.specs.Roots.{RootValue};
 
@@ -114,8 +114,9 @@ pub fn a_relay_keeps_the_limits_given()
 }
 
 /// A law: worked answers, by their bytes. Of small nodes each row says which bytes any answer to a frame has, and what the node is
-/// behind it. They are worked by hand from the tables of docs/RELAY.md.
+/// behind it; and each sort of frame has its row. They are worked by hand from the tables of docs/RELAY.md.
 pub fn answers_are_as_worked_out()
+    ensures frames { FrameRows }
     ensures relay { RelayRows }
     ensures auctioneer { RootRows }
     ensures device { DeviceRows }
