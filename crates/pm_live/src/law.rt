@@ -1,6 +1,7 @@
 //! The law of what a peer may ask of a node.
 
 ghost use Rattle.pm_live.specs.Asks.{AsksNode};
+ghost use Rattle.pm_live.specs.Endings.{EndingCodesAreAsWorkedOut};
 ghost use Rattle.pm_live.specs.Processes.{AsksForProcess};
 
 use crate::named::LiveNode;
@@ -12,4 +13,9 @@ pub fn processes_may_be_asked<W: Peer>()
     ensures { (node : LiveNode) (old : W) →
         AsksForProcess W.left W.held W.becomes W.may_read W.may_write node old →
         AsksNode W.left W.held W.becomes W.may_read W.may_write node old }
+{}
+
+/// A law: worked exit codes, of each ending.
+pub fn ending_codes_are_as_worked_out()
+    ensures { EndingCodesAreAsWorkedOut }
 {}

@@ -15,6 +15,6 @@ mod serving;
 mod top;
 
 pub use ending::Ending;
-pub use law::processes_may_be_asked;
+pub use law::{ending_codes_are_as_worked_out, processes_may_be_asked};
 pub use named::{LiveNode, named_node};
 pub use top::{live, live_peer};
