@@ -16,6 +16,7 @@ mod WorkedLimits
 mod LimitsMarket
 mod LimitsLaw
 mod AnswerRows
+mod RelayCauses
 mod RelayRows
 mod RootRows
 mod DeviceRows
