@@ -134,44 +134,38 @@ fn close_all(
         let Some(ends) = places.pop() else {
             unreachable!()
         };
-        let log = close_one(alloc, link, ends)?;
-        logs.push(log)?;
+        logs.push(close_one(link, ends))?;
     }
     logs.reverse();
     Ok(logs)
 }
 
 /// Closes a link, if its two ends came back.
-fn close_one(alloc: Global, link: FreeLink, ends: Places) -> Result<Option<LinkLog>, AllocError>
+fn close_one(link: FreeLink, ends: Places) -> Option<LinkLog>
     requires { IsPlaced link ends }
-    ensures log { IfOk result (λ log. IfSome log IsLogOfLink) }
-    ensures closed { IfOk result (λ log. (nodes : List Node) → (place : ℕ) →
-        IsReturned nodes place ends → IfSome log (ClosedLink nodes place)) }
-    ensures both { IfOk result (λ log. (child : LinkEnd) (parent : LinkEnd) →
-        ends.up ≡ Some child → ends.down ≡ Some parent → log ≡ None → ⊥) }
+    ensures log { IfSome result IsLogOfLink }
+    ensures closed { (nodes : List Node) → (place : ℕ) →
+        IsReturned nodes place ends → IfSome result (ClosedLink nodes place) }
+    ensures both { (child : LinkEnd) (parent : LinkEnd) →
+        ends.up ≡ Some child → ends.down ≡ Some parent → result ≡ None → ⊥ }
 {
-    match (ends.up, ends.down) {
-        (Some(child), Some(parent)) => {
-            let log = close_link(link, child, parent);
-            let kept = without_room(alloc, &log)?;
-            Ok(Some(kept))
-        }
-        _ => Ok(None),
-    }
+    let Places { up, down } = ends;
+    let child = up?;
+    let parent = down?;
+    let mut log = close_link(link, child, parent);
+    give_room_back(&mut log);
+    Some(log)
 }
 
-/// The same log in as much memory as it fills: a link has room for more numbers than it takes, and logs are kept for all phases.
-fn without_room(alloc: Global, log: &LinkLog) -> Result<LinkLog, AllocError>
-    ensures bid_puts { IfOk result (λ kept. kept.bid_puts.items ≡ log.now.bid_puts.items) }
-    ensures bid_takes { IfOk result (λ kept. kept.bid_takes.items ≡ log.now.bid_takes.items) }
-    ensures price_puts { IfOk result (λ kept. kept.price_puts.items ≡ log.now.price_puts.items) }
-    ensures price_takes { IfOk result (λ kept.
-        kept.price_takes.items ≡ log.now.price_takes.items) }
+/// Gives back the room that the numbers of a log leave: a link has room for more than it takes, and logs are kept for all phases.
+fn give_room_back(log: &mut LinkLog)
+    ensures bid_puts { log.new.bid_puts.items ≡ log.old.bid_puts.items }
+    ensures bid_takes { log.new.bid_takes.items ≡ log.old.bid_takes.items }
+    ensures price_puts { log.new.price_puts.items ≡ log.old.price_puts.items }
+    ensures price_takes { log.new.price_takes.items ≡ log.old.price_takes.items }
 {
-    Ok(LinkLog {
-        bid_puts: log.bid_puts.to_vec(alloc)?,
-        bid_takes: log.bid_takes.to_vec(alloc)?,
-        price_puts: log.price_puts.to_vec(alloc)?,
-        price_takes: log.price_takes.to_vec(alloc)?,
-    })
+    log.bid_puts.shrink_to_fit();
+    log.bid_takes.shrink_to_fit();
+    log.price_puts.shrink_to_fit();
+    log.price_takes.shrink_to_fit();
 }

@@ -34,9 +34,9 @@ loop-link-preserved c =
         ap length c.in-Some.ensures.items,
         length-append c.pop.new.self.items (c.in-Some.link ∷ []),
         ap length c.in_ok-push.ensures.items,
-        length-append c.loop-link.logs.items (c.in_ok-log.log ∷ []),
+        length-append c.loop-link.logs.items (c.close_one.result ∷ []),
       ),
-      subst All-logs (sym c.in_ok-push.ensures.items) (All-push (λ log. IfSome log IsLogOfLink) _ _ c.loop-link.invariant.2 c.in_ok-log.ensures.log),
+      subst All-logs (sym c.in_ok-push.ensures.items) (All-push (λ log. IfSome log IsLogOfLink) _ _ c.loop-link.invariant.2 c.close_one.ensures.log),
       λ nodes from.
           let (now, logs) = c.loop-link.invariant.3 nodes from in
           let (before, here) = from_popped nodes c.loop-link.places.items c.pop-in-Some.new.self.items c.in-Some-pop.ends c.in-Some-pop.ensures.items now in
@@ -46,9 +46,9 @@ loop-link-preserved c =
           omega (arith, ap length c.in-Some.ensures.items, length-append links (c.in-Some.link ∷ [])) in (
             before,
             subst (LogsFrom nodes (length links)) (sym c.in_ok-push.ensures.items)
-                (logs_more nodes (length links) c.loop-link.logs.items c.in_ok-log.log
+                (logs_more nodes (length links) c.loop-link.logs.items c.close_one.result
                 (subst (λ (n : ℕ). LogsFrom nodes n c.loop-link.logs.items) long logs)
-                (c.in_ok-log.ensures.closed nodes (length links) (subst (λ (n : ℕ). IsReturned nodes n c.in-Some-pop.ends) (same_length _ _ placed) here))),
+                (c.close_one.ensures.closed nodes (length links) (subst (λ (n : ℕ). IsReturned nodes n c.in-Some-pop.ends) (same_length _ _ placed) here))),
           ),
     )
 

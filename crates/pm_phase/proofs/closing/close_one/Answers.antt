@@ -8,9 +8,9 @@ among : {taken put kept_taken kept_put : List ℕ} → kept_taken ≡ taken → 
 among {taken = taken} {put = put} {kept_taken = kept_taken} {kept_put = kept_put} same_taken same_put all =
     subst (λ (t : List ℕ). AllAmong t kept_put) (sym same_taken) (subst (λ (p : List ℕ). AllAmong taken p) (sym same_put) all)
 
-pub returns-in_ok-kept-in-Some-Some-clause-log : goal.returns-in_ok-kept-in-Some-Some-clause-log
-returns-in_ok-kept-in-Some-Some-clause-log c =
-    let same = c.in_ok-kept-in-Some-Some.ensures in
+pub returns-clause-log : goal.returns-clause-log
+returns-clause-log c =
+    let same = c.give_room_back.ensures in
     let closed = c.close_link-log.ensures in record {
       bids_rise = subst AreRising (sym same.bid_takes) closed.bids_rise;
       bids_were_put = among same.bid_takes same.bid_puts closed.bids_were_put;
