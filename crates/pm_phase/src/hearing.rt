@@ -55,7 +55,6 @@ pub(crate) fn hear_price_to_pass(
 }
 
 /// A node with children takes a bid from the child in a place, and learns it; whether one came.
-#[tactic(auto, using(crate::proofs::Heard::heard_entries, crate::proofs::Heard::no_entries, crate::proofs::Moves::heard_moves, crate::proofs::Moves::no_moves))]
 pub(crate) fn hear_bid(
     links: &[FreeLink],
     place: usize,
