@@ -186,7 +186,6 @@ fn send(alloc: Global, parent: &mut ParentPart) -> bool
 }
 
 /// A concentrator makes its next bid; whether it made one. If memory runs out, it makes none.
-#[tactic(auto, using(crate::proofs::PartsMove::made_or_not))]
 fn make_next_bid(alloc: Global, parent: &mut ParentPart) -> bool
     ensures moves { PartMovesOn parent.old parent.new }
 {
@@ -229,7 +228,6 @@ fn children_turn(links: &[FreeLink], downs: &mut Vec<DownEnd>, parent: &mut Pare
 }
 
 /// A node with children learns the bid of a child, and puts the price that waits for it; whether it did either.
-#[tactic(auto, using(crate::proofs::Moves::child_trans))]
 fn child_turn(links: &[FreeLink], place: usize, down: &mut DownEnd, parent: &mut ParentPart) -> bool
     requires { IsDownOf links.now down.old }
     ensures link { IsDownOf links.now down.new }
