@@ -1,34 +1,32 @@
 //! Runs over links without a lock.
 
-use crate::runs::{LOOKS, REJOINS, TWO_BIDS, are_right, holding, meeting};
+use crate::holds::holds;
+use crate::runs::{LOOKS, REJOINS, TWO_BIDS, are_right, demo, holding, meeting, plan_of};
 use pm_cells::LinkLog;
 use pm_free::{FreePhase, FreeRun, run_free, settle_free};
 use pm_gates::{DrawingGate, Moment};
-use pm_gen::make_plan;
 use pm_nodes::{Gate, OpenGate};
 use pm_plan::{PhaseEnd, Plan, is_device};
-use pm_scene::read_scene;
 use pm_session::Held;
 use pm_tree::NodeId;
 use std::alloc::Global;
+use std::process::Abort;
 use std::sync::Wait;
-use std::test::Fail;
 use std::thread::Threads;
 
 /// The two devices' threads meet, each at its first turn, and no turn is told with a line.
 #[test]
-fn the_meeting_of_turns(rt: HostRuntime) -> Result<(), Fail> {
-    let plan = read_scene(rt.alloc(), TWO_BIDS)?;
-    assert!(rt; turns_meet(&rt, rt.alloc(), &plan)?);
-    Ok(())
+fn the_meeting_of_turns(rt: HostRuntime) {
+    turns_meet(&rt, rt.alloc(), &plan_of(&rt, rt.alloc(), TWO_BIDS));
 }
 
-fn turns_meet<R: Threads + Wait + Sync>(rt: &R, alloc: Global, plan: &Plan) -> Result<bool, Fail> {
+fn turns_meet<R: Threads + Wait + Sync + Abort>(rt: &R, alloc: Global, plan: &Plan) {
     let gate = meeting(rt, alloc, Moment::Turn, LOOKS);
-    let ends = settle_free(rt, alloc, plan, &gate)?;
+    let ends = settle_free(rt, alloc, plan, &gate).expect(rt, "ends");
     let met = gate.gate().met();
-    let untold = gate.into_lines().is_empty();
-    Ok(met == 2 && untold && are_right(alloc, plan, &ends)?)
+    holds(rt, ("met", met), met == 2);
+    holds(rt, "untold", gate.into_lines().is_empty());
+    holds(rt, "right", are_right(rt, alloc, plan, &ends));
 }
 
 /// The step at which the devices below a node's limited concentrator settle at a phase's end, by the lines of the report.
@@ -177,74 +175,74 @@ fn phases_with_changes(plan: &Plan) -> usize {
         .count()
 }
 
-/// Whether each phase came over the links, to what the board's end of the phase says, and the ends are right.
-fn is_carried(alloc: Global, plan: &Plan, run: &FreeRun) -> Result<bool, Fail> {
-    let ends = run.board.ends();
-    for (place, phase) in run.phases.iter().enumerate() {
-        let Some(end) = ends.get(place) else {
-            return Ok(false);
-        };
-        if !all_hold_the_end(plan, end, phase) || !links_did_their_part(plan, end, phase) {
-            return Ok(false);
-        }
-    }
-    Ok(
-        run.phases.len() == ends.len()
-            && phases_with_links(run) == phases_with_changes(plan)
-            && phases_over_links(run) == ends.len()
-            && are_right(alloc, plan, ends)?,
-    )
+/// Whether a phase came over the links, to what the board's end of the phase says.
+fn is_carried_phase(plan: &Plan, end: &PhaseEnd, phase: &FreePhase) -> bool {
+    all_hold_the_end(plan, end, phase) && links_did_their_part(plan, end, phase)
 }
 
-fn are_carried<R: Threads + Wait + Sync, G: Gate>(
+/// Whether each phase did so.
+fn are_carried_phases(plan: &Plan, run: &FreeRun) -> bool {
+    let ends = run.board.ends();
+    for (place, phase) in run.phases.iter().enumerate() {
+        match ends.get(place) {
+            Some(end) if is_carried_phase(plan, end, phase) => {}
+            _ => return false,
+        }
+    }
+    run.phases.len() == ends.len()
+}
+
+/// Whether the phases with links are as many as those with changes, and all came over their links.
+fn are_counted(plan: &Plan, run: &FreeRun) -> bool {
+    phases_with_links(run) == phases_with_changes(plan)
+        && phases_over_links(run) == run.board.ends().len()
+}
+
+/// Each phase comes over the links, to what the board's end of the phase says, and the ends are right.
+fn must_be_carried<R: Threads + Wait + Sync + Abort, G: Gate>(
     rt: &R,
     alloc: Global,
     plan: &Plan,
     gate: &G,
-) -> Result<bool, Fail> {
-    let run = run_free(rt, alloc, plan, gate)?;
-    is_carried(alloc, plan, &run)
+    case: &str,
+) {
+    let run = run_free(rt, alloc, plan, gate).expect(rt, "a run");
+    holds(rt, (case, "carried"), are_carried_phases(plan, &run));
+    holds(rt, (case, "counted"), are_counted(plan, &run));
+    let right = are_right(rt, alloc, plan, run.board.ends());
+    holds(rt, (case, "right"), right);
 }
 
 /// The same under a gate that holds the nodes of this rest by 3 back.
-fn are_carried_held<R: Threads + Wait + Sync>(
+fn must_be_carried_held<R: Threads + Wait + Sync + Abort>(
     rt: &R,
     alloc: Global,
     plan: &Plan,
     rest: u32,
-) -> Result<bool, Fail> {
-    let gate = holding(alloc, 3, rest)?;
-    are_carried(rt, alloc, plan, &gate)
+    case: &str,
+) {
+    let gate = holding(rt, alloc, 3, rest);
+    must_be_carried(rt, alloc, plan, &gate, case);
 }
 
-/// Whether they do so for a plan, under a gate that is open, under one that draws how long it holds a thread back, and under ones
+/// They do so for a plan, under a gate that is open, under one that draws how long it holds a thread back, and under ones
 /// that hold every third node back.
-fn market_is_carried<R: Threads + Wait + Sync>(
-    rt: &R,
-    alloc: Global,
-    plan: &Plan,
-) -> Result<bool, Fail> {
-    Ok(
-        are_carried(rt, alloc, plan, &OpenGate)?
-            && are_carried(rt, alloc, plan, &DrawingGate::new(1, 30))?
-            && are_carried_held(rt, alloc, plan, 0)?
-            && are_carried_held(rt, alloc, plan, 1)?
-            && are_carried_held(rt, alloc, plan, 2)?,
-    )
+fn market_is_carried<R: Threads + Wait + Sync + Abort>(rt: &R, alloc: Global, plan: &Plan) {
+    must_be_carried(rt, alloc, plan, &OpenGate, "open");
+    must_be_carried(rt, alloc, plan, &DrawingGate::new(1, 30), "drawn");
+    must_be_carried_held(rt, alloc, plan, 0, "rest 0");
+    must_be_carried_held(rt, alloc, plan, 1, "rest 1");
+    must_be_carried_held(rt, alloc, plan, 2, "rest 2");
 }
 
 /// Whoever is slow, the messages over the links come to the prices of the plain auction.
 #[test]
-fn the_links_carry_the_market_of_a_file(rt: HostRuntime) -> Result<(), Fail> {
-    let plan = read_scene(rt.alloc(), REJOINS)?;
-    assert!(rt; market_is_carried(&rt, rt.alloc(), &plan)?);
-    Ok(())
+fn the_links_carry_the_market_of_a_file(rt: HostRuntime) {
+    market_is_carried(&rt, rt.alloc(), &plan_of(&rt, rt.alloc(), REJOINS));
 }
 
 /// The same for twenty devices.
 #[test]
-fn the_links_carry_the_market_of_twenty(rt: HostRuntime) -> Result<(), Fail> {
-    let plan = make_plan(rt.alloc(), 20, 7)?;
-    assert!(rt; market_is_carried(&rt, rt.alloc(), &plan)?);
-    Ok(())
+fn the_links_carry_the_market_of_twenty(rt: HostRuntime) {
+    market_is_carried(&rt, rt.alloc(), &demo(&rt, rt.alloc(), 20, 7));
 }

@@ -6,6 +6,8 @@
 #[cfg(test)]
 mod free;
 #[cfg(test)]
+mod holds;
+#[cfg(test)]
 mod locked;
 #[cfg(test)]
 mod posting;

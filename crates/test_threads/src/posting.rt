@@ -1,15 +1,15 @@
 //! What a device's thread does on the board if its change is refused.
 
-use crate::runs::REJOINS;
+use crate::holds::holds;
+use crate::runs::{REJOINS, plan_of};
 use pm_bid::{ArrayBid, uncounted};
 use pm_board::Board;
 use pm_device::Next;
 use pm_nodes::make_bid;
 use pm_plan::Plan;
-use pm_scene::read_scene;
 use pm_turns::{Posted, next_of, post_made};
-use std::alloc::{AllocError, Global};
-use std::test::Fail;
+use std::alloc::Global;
+use std::process::Abort;
 
 /// The device that joins, leaves and joins again in the second phase.
 const DEVICE: u32 = 4;
@@ -22,84 +22,69 @@ const OTHER_KIND: &[u8] = b"{\"version\":2,\"basis\":{\"min\":0,\"max\":9,\"step
     {\"name\":\"a\",\"kind\":\"solar\",\"parent\":\"c3\",\"start\":100}],
     \"phases\":[]}";
 
-/// A change that was made already is refused, and the next change that the board names then is made.
-#[test]
-fn a_refused_change_is_followed_by_a_new_next(rt: HostRuntime) -> Result<(), Fail> {
-    let plan = read_scene(rt.alloc(), REJOINS)?;
-    assert!(rt; posted_twice(rt.alloc(), &plan)? == [1, 2, 3]);
-    Ok(())
+/// A board whose first phase, which has no changes, is closed.
+fn in_second_phase<'p, R: Abort>(rt: &R, alloc: Global, plan: &'p Plan) -> Board<'p> {
+    let mut board = Board::open(alloc, plan).expect(rt, "a board");
+    holds(rt, "closed", board.close().expect(rt, "memory"));
+    board
 }
 
-fn posted_twice(alloc: Global, plan: &Plan) -> Result<[u32; 3], Fail> {
-    let mut board = in_second_phase(alloc, plan)?;
-    Ok(all_posted(alloc, &mut board)?)
+/// A change that was made already is refused, and the next change that the board names then is made.
+#[test]
+fn a_refused_change_is_followed_by_a_new_next(rt: HostRuntime) {
+    all_are_posted(&rt, rt.alloc(), &plan_of(&rt, rt.alloc(), REJOINS));
+}
+
+/// The numbers of the changes that are made one after the other.
+const NUMBERS: &[u32] = &[1, 2, 3];
+
+/// Each change is posted twice, and after each the board is asked for the next one.
+fn all_are_posted<R: Abort>(rt: &R, alloc: Global, plan: &Plan) {
+    let mut board = in_second_phase(rt, alloc, plan);
+    for number in NUMBERS {
+        is_posted(rt, alloc, &mut board, *number);
+    }
+}
+
+/// The next change has this number and is made, and a second post of it is refused.
+fn is_posted<R: Abort>(rt: &R, alloc: Global, board: &mut Board, number: u32) {
+    let next = next_of(board, DEVICE).expect(rt, "a next change");
+    let plan = board.plan();
+    holds(rt, number, next.number == number);
+    let posted = post(rt, alloc, board, plan, next);
+    holds(rt, (number, "made"), posted == Posted::Made);
+    let posted = post(rt, alloc, board, plan, next);
+    holds(rt, (number, "stale"), posted == Posted::Stale);
 }
 
 /// A change of another kind is refused, and to ask anew gives the same.
 #[test]
-fn a_change_of_another_kind_is_unfit(rt: HostRuntime) -> Result<(), Fail> {
-    let plan = read_scene(rt.alloc(), REJOINS)?;
-    let other = read_scene(rt.alloc(), OTHER_KIND)?;
-    assert!(rt; is_unfit(rt.alloc(), &plan, &other)?);
-    Ok(())
+fn a_change_of_another_kind_is_unfit(rt: HostRuntime) {
+    let plan = plan_of(&rt, rt.alloc(), REJOINS);
+    let other = plan_of(&rt, rt.alloc(), OTHER_KIND);
+    is_unfit(&rt, rt.alloc(), &plan, &other);
 }
 
-/// Whether the next change is unfit if it is made by another plan, and stays the next one.
-fn is_unfit(alloc: Global, plan: &Plan, other: &Plan) -> Result<bool, Fail> {
-    let mut board = in_second_phase(alloc, plan)?;
-    refuses_other(alloc, &mut board, other)
+/// The next change is unfit if it is made by another plan, and stays the next one.
+fn is_unfit<R: Abort>(rt: &R, alloc: Global, plan: &Plan, other: &Plan) {
+    refuses_other(rt, alloc, &mut in_second_phase(rt, alloc, plan), other);
 }
 
-fn refuses_other(alloc: Global, board: &mut Board, other: &Plan) -> Result<bool, Fail> {
-    let next = next_of(board, DEVICE).ok_or("no next change")?;
-    let posted = post(alloc, board, other, next)?;
-    Ok(posted == Some(Posted::Unfit) && next_of(board, DEVICE) == Some(next))
+fn refuses_other<R: Abort>(rt: &R, alloc: Global, board: &mut Board, other: &Plan) {
+    let next = next_of(board, DEVICE).expect(rt, "a next change");
+    let posted = post(rt, alloc, board, other, next);
+    holds(rt, "unfit", posted == Posted::Unfit);
+    holds(rt, "same", next_of(board, DEVICE) == Some(next));
 }
 
-/// A board whose first phase, which has no changes, is closed.
-fn in_second_phase<'p>(alloc: Global, plan: &'p Plan) -> Result<Board<'p>, Fail> {
-    let mut board = Board::open(alloc, plan)?;
-    if !board.close()? {
-        return Err(Fail::from("the first phase is open"));
-    }
-    Ok(board)
-}
-
-/// The numbers of the changes that are made if each is posted twice, and after each the board is asked for the next one. A
-/// number is 0 if a second post is not refused so.
-fn all_posted(alloc: Global, board: &mut Board) -> Result<[u32; 3], AllocError> {
-    let mut numbers = [0, 0, 0];
-    for number in &mut numbers {
-        let Some(next) = next_of(board, DEVICE) else {
-            return Ok([0, 0, 0]);
-        };
-        let made = post(alloc, board, board.plan(), next)? == Some(Posted::Made);
-        let stale = post(alloc, board, board.plan(), next)? == Some(Posted::Stale);
-        *number = if made && stale { next.number } else { 0 };
-    }
-    Ok(numbers)
-}
-
-/// What comes of a change that is made by a plan, which may be another one than the board's. It is None if that plan has no such
-/// device, or what comes back is no bid of as many steps.
-fn post(
-    alloc: Global,
-    board: &mut Board,
-    plan: &Plan,
-    next: Next,
-) -> Result<Option<Posted>, AllocError> {
+/// What comes of a change that is made by a plan, which may be another one than the board's. What comes back is a bid of as many
+/// steps.
+fn post<R: Abort>(rt: &R, alloc: Global, board: &mut Board, plan: &Plan, next: Next) -> Posted {
     let steps = board.plan().basis().steps();
-    let bid = ArrayBid::zero(alloc, steps, &mut uncounted())?;
-    let Ok(made) = make_bid(plan, next, bid) else {
-        return Ok(None);
-    };
-    if made.demand().steps() != steps {
-        return Ok(None);
-    }
+    let bid = ArrayBid::zero(alloc, steps, &mut uncounted()).expect(rt, "memory");
+    let made = make_bid(plan, next, bid).ok().expect(rt, "a bid");
+    assert!(rt; made.demand().steps() == steps);
     let (posted, other) = post_made(board, made);
-    Ok(if other.steps() == steps {
-        Some(posted)
-    } else {
-        None
-    })
+    holds(rt, "steps", other.steps() == steps);
+    posted
 }

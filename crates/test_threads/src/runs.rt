@@ -1,11 +1,13 @@
 //! The files that are run, and what is due of a run.
 
 use pm_gates::{HoldingGate, MeetingGate, Moment, TellingGate};
+use pm_gen::make_plan;
 use pm_plan::{PhaseEnd, Plan};
+use pm_scene::read_scene;
 use pm_walk::all_ends;
-use std::alloc::{AllocError, Global};
+use std::alloc::Global;
+use std::process::Abort;
 use std::sync::Wait;
-use std::test::Fail;
 
 /// A load of 100 at all steps, and a generator of 150 from step 4.
 pub(crate) const TWO_BIDS: &[u8] =
@@ -33,6 +35,16 @@ pub(crate) const REJOINS: &[u8] =
     {\"events\":[{\"join\":\"a\"},{\"state\":\"a\",\"value\":101},{\"state\":\"a\",\"value\":102},{\"leave\":\"d\"},{\"leave\":\"c\"}]},
     {\"events\":[{\"join\":\"b\"},{\"leave\":\"a\"},{\"leave\":\"b\"}]},{\"events\":[]}]}";
 
+/// The plan of a file.
+pub(crate) fn plan_of<R: Abort>(rt: &R, alloc: Global, file: &[u8]) -> Plan {
+    read_scene(alloc, file).expect(rt, "a plan")
+}
+
+/// The plan of a demo cluster.
+pub(crate) fn demo<R: Abort>(rt: &R, alloc: Global, size: u32, number: u32) -> Plan {
+    make_plan(alloc, size, number).expect(rt, "a plan")
+}
+
 /// Whether two ends are the same.
 fn is_same(end: &PhaseEnd, due: &PhaseEnd) -> bool {
     (end.step(), end.price(), end.total()) == (due.step(), due.price(), due.total())
@@ -52,22 +64,27 @@ fn are_same(ends: &[PhaseEnd], due: &[PhaseEnd]) -> bool {
 }
 
 /// Whether the ends are those of the plain program.
-pub(crate) fn are_right(alloc: Global, plan: &Plan, ends: &[PhaseEnd]) -> Result<bool, Fail> {
-    let due = all_ends(alloc, plan)?;
-    Ok(are_same(ends, &due))
+pub(crate) fn are_right<R: Abort>(rt: &R, alloc: Global, plan: &Plan, ends: &[PhaseEnd]) -> bool {
+    are_same(ends, &all_ends(alloc, plan).expect(rt, "ends"))
 }
 
-/// A gate that holds back, of the first eleven nodes, those whose number has this rest by `divisor`.
-pub(crate) fn holding(alloc: Global, divisor: u32, rest: u32) -> Result<HoldingGate, AllocError> {
-    let mut yields = Vec::with_capacity(alloc, 11)?;
+/// How often each of the first eleven nodes yields the processor: 100 times if its number has this rest by `divisor`.
+fn yields_of<R: Abort>(rt: &R, alloc: Global, divisor: u32, rest: u32) -> Vec<u32> {
+    let mut yields = Vec::new(alloc);
     for node in 0..11 {
-        yields.push(if node % divisor.max(1) == rest {
+        let many = if node % divisor.max(1) == rest {
             100
         } else {
             0
-        })?;
+        };
+        yields.push(many).expect(rt, "memory");
     }
-    Ok(HoldingGate::new(yields))
+    yields
+}
+
+/// A gate that holds back, of the first eleven nodes, those whose number has this rest by `divisor`.
+pub(crate) fn holding<R: Abort>(rt: &R, alloc: Global, divisor: u32, rest: u32) -> HoldingGate {
+    HoldingGate::new(yields_of(rt, alloc, divisor, rest))
 }
 
 /// How often a node looks for the other at most.
