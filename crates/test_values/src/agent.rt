@@ -1,6 +1,6 @@
 //! Tests of agents: bids after a change, worked by hand for three kinds.
 
-ghost use Rattle.std.specs.Prelude.{◌≡◌, length, IfOk};
+ghost use Rattle.std.specs.Prelude.{◌≡◌, length};
 ghost use Rattle.pm_bid.specs.Bids.{HaveSteps};
 
 use crate::same::same;
@@ -10,7 +10,7 @@ use pm_bid::{ArrayBid, uncounted};
 use pm_device::{DeviceState, Kind, Next};
 use std::alloc::Global;
 use std::process::Abort;
-use std::test::Fail;
+use std::slice::from_ref;
 
 /// The answer to a change of device 1 has the change and the agent's kind. It has one demand at the steps before the
 /// end and another from there on.
@@ -56,10 +56,15 @@ type Row = (u32, bool, i64, (i64, i64), usize);
 /// An agent of device 1 over ten steps answers each change as its row says.
 fn answers_are<R: Abort>(rt: &R, agent: &mut DeviceAgent, rows: &[Row]) {
     same(rt, "agent", (agent.device(), agent.steps()), (1, 10));
-    for (number, member, state, demands, end) in rows {
-        let next = change(*number, *member, *state);
-        answer_is(rt, agent, next, &[], *demands, *end);
+    for row in rows {
+        answer_is(rt, agent, change(row.0, row.1, row.2), &[], row.3, row.4);
     }
+}
+
+/// An agent of device 1 over ten steps.
+fn agent_of<R: Abort>(rt: &R, alloc: Global, kind: Kind) -> DeviceAgent {
+    assert!(rt; kind.valid());
+    DeviceAgent::new(alloc, kind, 1, 10).expect(rt, "memory")
 }
 
 const LOAD: &[Row] = &[
@@ -69,10 +74,8 @@ const LOAD: &[Row] = &[
 ];
 
 #[test]
-fn a_load_answers_with_its_bid(rt: HostRuntime) -> Result<(), Fail> {
-    let mut load = DeviceAgent::new(rt.alloc(), Kind::Load, 1, 10)?;
-    answers_are(&rt, &mut load, LOAD);
-    Ok(())
+fn a_load_answers_with_its_bid(rt: HostRuntime) {
+    answers_are(&rt, &mut agent_of(&rt, rt.alloc(), Kind::Load), LOAD);
 }
 
 const FREEZER: Kind = Kind::Freezer {
@@ -89,30 +92,38 @@ const FREEZES: &[Row] = &[
 ];
 
 #[test]
-fn a_freezer_answers_with_its_bid(rt: HostRuntime) -> Result<(), Fail> {
-    assert!(rt; FREEZER.valid());
-    let mut freezer = DeviceAgent::new(rt.alloc(), FREEZER, 1, 10)?;
-    answers_are(&rt, &mut freezer, FREEZES);
-    Ok(())
+fn a_freezer_answers_with_its_bid(rt: HostRuntime) {
+    answers_are(&rt, &mut agent_of(&rt, rt.alloc(), FREEZER), FREEZES);
 }
 
 /// An array of three steps with 7 at the first of them.
-fn seven_first(alloc: Global) -> Result<ArrayBid, Fail>
-    ensures { IfOk result (λ array. length array ≡ 3) }
+fn seven_first<R: Abort>(rt: &R, alloc: Global) -> ArrayBid
+    ensures { length result ≡ 3 }
 {
     let mut counter = uncounted();
-    let mut array = ArrayBid::zero(alloc, 3, &mut counter)?;
+    let mut array = ArrayBid::zero(alloc, 3, &mut counter).expect(rt, "memory");
     array.set(0, 7, &mut counter);
-    Ok(array)
+    array
 }
 
 #[test]
-fn a_manual_device_answers_with_its_array(rt: HostRuntime) -> Result<(), Fail> {
-    let arrays = [seven_first(rt.alloc())?];
-    let mut agent = DeviceAgent::new(rt.alloc(), Kind::Manual, 1, 3)?;
-    same(&rt, "steps", agent.steps(), 3);
-    answer_is(&rt, &mut agent, change(1, true, 0), &arrays, (7, 0), 1);
-    Ok(())
+fn a_manual_device_answers_with_its_array(rt: HostRuntime) {
+    manual_device_answers(&rt, rt.alloc(), &seven_first(&rt, rt.alloc()));
+}
+
+fn manual_device_answers<R: Abort>(rt: &R, alloc: Global, array: &ArrayBid)
+    requires { length array.now ≡ 3 }
+{
+    let mut agent = DeviceAgent::new(alloc, Kind::Manual, 1, 3).expect(rt, "memory");
+    same(rt, "steps", agent.steps(), 3);
+    answer_is(
+        rt,
+        &mut agent,
+        change(1, true, 0),
+        from_ref(array),
+        (7, 0),
+        1,
+    );
 }
 
 /// Agents and their answers may be sent to threads and shared by them: it is proved here.

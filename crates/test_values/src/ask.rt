@@ -1,6 +1,6 @@
 //! Tests of targets: breaks, answers, lists and texts worked by hand.
 
-ghost use Rattle.std.specs.Prelude.{◌≡◌, length, IfOk};
+ghost use Rattle.std.specs.Prelude.{◌≡◌, length};
 ghost use Rattle.pm_base.specs.Limits.{AreSteps};
 
 use crate::same::same;
@@ -10,61 +10,58 @@ use pm_ask::{
 };
 use pm_basis::Basis;
 use pm_bid::{ArrayBid, uncounted};
-use std::alloc::{AllocError, Global};
+use std::alloc::Global;
 use std::process::Abort;
-use std::test::Fail;
 
 /// A load of 100 watts beside a generator that delivers 150 watts from step 4 on.
 const LOAD_AND_GENERATOR: [i32; 10] = [100, 100, 100, 100, -50, -50, -50, -50, -50, -50];
 
 /// The total of these demands.
-fn total_of(alloc: Global, demands: &[i32]) -> Result<ArrayBid, AllocError>
+fn total_of<R: Abort>(rt: &R, alloc: Global, demands: &[i32]) -> ArrayBid
     requires { AreSteps (length demands.now) }
-    ensures { IfOk result (λ total. length total ≡ length demands.now) }
+    ensures { length result ≡ length demands.now }
 {
     let mut counter = uncounted();
-    let mut total = ArrayBid::zero(alloc, demands.len(), &mut counter)?;
+    let mut total = ArrayBid::zero(alloc, demands.len(), &mut counter).expect(rt, "memory");
     for (step, demand) in demands.iter().enumerate() {
         total.set(step, i64::from(*demand), &mut counter);
     }
-    Ok(total)
+    total
 }
 
 /// The curve of the total of these demands.
-fn curve_of(alloc: Global, demands: &[i32]) -> Result<Curve, Fail>
+fn curve_of<R: Abort>(rt: &R, alloc: Global, demands: &[i32]) -> Curve
     requires { AreSteps (length demands.now) }
-    ensures { IfOk result (λ curve. length curve ≡ length demands.now) }
+    ensures { length result ≡ length demands.now }
 {
-    let total = total_of(alloc, demands)?;
-    Ok(Curve::new(alloc, &total)?)
+    Curve::new(alloc, &total_of(rt, alloc, demands)).expect(rt, "a curve")
 }
 
 /// The curve of the total of these demands has these breaks.
-fn breaks_are(rt: &impl Abort, alloc: Global, demands: &[i32], breaks: &[Break]) -> Result<(), Fail>
+fn breaks_are<R: Abort>(rt: &R, alloc: Global, demands: &[i32], breaks: &[Break])
     requires { AreSteps (length demands.now) }
 {
-    let curve = curve_of(alloc, demands)?;
-    same(rt, demands, curve.breaks(), breaks);
-    Ok(())
+    same(rt, demands, curve_of(rt, alloc, demands).breaks(), breaks);
 }
 
 /// Targets, and the step and the total of the answer to each.
 const ANSWERS: &[(i16, u32, i64)] = &[(0, 4, -50), (100, 0, 0), (-60, 9, 10), (99, 4, -149)];
 
-fn answers_are(rt: &impl Abort, curve: &Curve) {
-    let mut counter = uncounted();
-    for (target, step, total) in ANSWERS {
-        let answer = curve.answer(i64::from(*target), &mut counter);
-        let (step, total) = (*step, *total);
-        same(rt, *target, answer, Answer { step, total });
+fn answer_is<R: Abort>(rt: &R, curve: &Curve, row: (i16, u32, i64)) {
+    let (target, step, total) = row;
+    let answer = curve.answer(i64::from(target), &mut uncounted());
+    same(rt, target, answer, Answer { step, total });
+}
+
+fn answers_are<R: Abort>(rt: &R, curve: &Curve) {
+    for row in ANSWERS {
+        answer_is(rt, curve, *row);
     }
 }
 
 #[test]
-fn each_target_has_its_step(rt: HostRuntime) -> Result<(), Fail> {
-    let curve = curve_of(rt.alloc(), &LOAD_AND_GENERATOR)?;
-    answers_are(&rt, &curve);
-    Ok(())
+fn each_target_has_its_step(rt: HostRuntime) {
+    answers_are(&rt, &curve_of(&rt, rt.alloc(), &LOAD_AND_GENERATOR));
 }
 
 /// Targets from 100 on have step 0, those from -50 to 99 step 4, and those below step 9.
@@ -101,44 +98,40 @@ const TWO_BREAKS: &[Break] = &[
 ];
 
 #[test]
-fn steps_with_targets_have_breaks(rt: HostRuntime) -> Result<(), Fail> {
-    breaks_are(&rt, rt.alloc(), &LOAD_AND_GENERATOR, THREE_BREAKS)?;
-    breaks_are(&rt, rt.alloc(), &[5, 5], TWO_BREAKS)?;
-    breaks_are(&rt, rt.alloc(), &[5, 4], TWO_BREAKS)
+fn steps_with_targets_have_breaks(rt: HostRuntime) {
+    breaks_are(&rt, rt.alloc(), &LOAD_AND_GENERATOR, THREE_BREAKS);
+    breaks_are(&rt, rt.alloc(), &[5, 5], TWO_BREAKS);
+    breaks_are(&rt, rt.alloc(), &[5, 4], TWO_BREAKS);
 }
 
 /// The fault of the total of these demands, if it has no curve.
-fn fault_of(alloc: Global, demands: &[i32]) -> Result<Option<CurveFault>, Fail>
+fn fault_of<R: Abort>(rt: &R, alloc: Global, demands: &[i32]) -> Option<CurveFault>
     requires { AreSteps (length demands.now) }
 {
-    let total = total_of(alloc, demands)?;
-    Ok(Curve::new(alloc, &total).err())
+    Curve::new(alloc, &total_of(rt, alloc, demands)).err()
 }
 
 #[test]
-fn a_total_that_rises_has_no_curve(rt: HostRuntime) -> Result<(), Fail> {
-    let alloc = rt.alloc();
-    let at_once = fault_of(alloc, &[5, 6])?;
+fn a_total_that_rises_has_no_curve(rt: HostRuntime) {
+    let at_once = fault_of(&rt, rt.alloc(), &[5, 6]);
     same(&rt, "at once", at_once, Some(CurveFault::Rising { at: 1 }));
-    let later = fault_of(alloc, &[5, 5, 4, 6, 7])?;
+    let later = fault_of(&rt, rt.alloc(), &[5, 5, 4, 6, 7]);
     same(&rt, "later", later, Some(CurveFault::Rising { at: 3 }));
-    Ok(())
 }
 
 /// The list has these targets.
-fn targets_are(rt: &impl Abort, alloc: Global, list: &str, due: &[i64]) -> Result<(), Fail> {
-    let targets = read_targets(alloc, list.as_bytes())?;
+fn targets_are<R: Abort>(rt: &R, alloc: Global, list: &str, due: &[i64]) {
+    let targets = read_targets(alloc, list.as_bytes()).expect(rt, "targets");
     same(rt, list, targets.as_slice(), due);
-    Ok(())
 }
 
 const FIVE_TARGETS: &[i64] = &[0, 100, -60, 1_000_000_000, -1_000_000_000];
 
 #[test]
-fn lists_of_targets_are_read(rt: HostRuntime) -> Result<(), Fail> {
+fn lists_of_targets_are_read(rt: HostRuntime) {
     let list = "0\n100\n-60\n1000000000\n-1000000000\n";
-    targets_are(&rt, rt.alloc(), list, FIVE_TARGETS)?;
-    targets_are(&rt, rt.alloc(), "", &[])
+    targets_are(&rt, rt.alloc(), list, FIVE_TARGETS);
+    targets_are(&rt, rt.alloc(), "", &[]);
 }
 
 /// Lists of targets, and the first line of each that is no target.
@@ -161,39 +154,37 @@ const BAD_LISTS: &[(&str, u32)] = &[
 
 #[test]
 fn the_first_bad_line_is_told(rt: HostRuntime) {
-    for (text, line) in BAD_LISTS {
-        let read = read_targets(rt.alloc(), text.as_bytes());
-        let bad = TargetsFault::Bad { line: *line };
-        same(&rt, *text, read.err(), Some(bad));
+    for row in BAD_LISTS {
+        let bad = TargetsFault::Bad { line: row.1 };
+        let have = read_targets(rt.alloc(), row.0.as_bytes()).err();
+        same(&rt, row.0, have, Some(bad));
     }
 }
 
 /// So many lines of one target.
-fn lines_of(alloc: Global, count: usize) -> Result<Vec<u8>, AllocError> {
+fn lines_of<R: Abort>(rt: &R, alloc: Global, count: usize) -> Vec<u8> {
     let mut text = Vec::new(alloc);
     for _line in 0..count {
-        text.extend_from_slice(b"7\n")?;
+        text.extend_from_slice(b"7\n").expect(rt, "memory");
     }
-    Ok(text)
+    text
 }
 
 /// How many targets are read from so many lines, or the fault.
-fn count_of(alloc: Global, count: usize) -> Result<Result<usize, TargetsFault>, Fail> {
-    let text = lines_of(alloc, count)?;
-    Ok(match read_targets(alloc, &text) {
+fn count_of<R: Abort>(rt: &R, alloc: Global, count: usize) -> Result<usize, TargetsFault> {
+    match read_targets(alloc, &lines_of(rt, alloc, count)) {
         Ok(targets) => Ok(targets.len()),
         Err(fault) => Err(fault),
-    })
+    }
 }
 
 #[test]
-fn a_list_has_an_end(rt: HostRuntime) -> Result<(), Fail> {
-    let most = count_of(rt.alloc(), MOST_TARGETS)?;
+fn a_list_has_an_end(rt: HostRuntime) {
+    let most = count_of(&rt, rt.alloc(), MOST_TARGETS);
     same(&rt, "most", most, Ok(MOST_TARGETS));
-    let one_more = count_of(rt.alloc(), MOST_TARGETS + 1)?;
+    let one_more = count_of(&rt, rt.alloc(), MOST_TARGETS + 1);
     let bad = TargetsFault::Bad { line: 100_001 };
     same(&rt, "one more", one_more, Err(bad));
-    Ok(())
 }
 
 const TEXT: &str = "\
@@ -206,17 +197,16 @@ target -60 price 9 step 9 total 10
 ";
 
 /// The text of three targets over the prices 0 to 9.
-fn text_of_three(alloc: Global) -> Result<Vec<u8>, Fail> {
-    let basis = Basis::new(0, 9, 10)?;
-    let curve = curve_of(alloc, &LOAD_AND_GENERATOR)?;
-    Ok(ask_text(alloc, &basis, &curve, &[0, 100, -60])?)
+fn text_of_three<R: Abort>(rt: &R, alloc: Global) -> Vec<u8> {
+    let basis = Basis::new(0, 9, 10).expect(rt, "a basis");
+    let curve = curve_of(rt, alloc, &LOAD_AND_GENERATOR);
+    ask_text(alloc, &basis, &curve, &[0, 100, -60]).expect(rt, "a text")
 }
 
 #[test]
-fn curves_and_answers_are_told(rt: HostRuntime) -> Result<(), Fail> {
-    let text = text_of_three(rt.alloc())?;
+fn curves_and_answers_are_told(rt: HostRuntime) {
+    let text = text_of_three(&rt, rt.alloc());
     same(&rt, "text", text.as_slice(), TEXT.as_bytes());
-    Ok(())
 }
 
 /// Curves, what they tell, and faults may be sent to threads and shared by them: it is proved here.

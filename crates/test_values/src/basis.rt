@@ -3,7 +3,6 @@
 use crate::same::same;
 use crate::shared::may_be_shared;
 use pm_basis::{Basis, BasisFault};
-use std::test::Fail;
 
 /// The least price, the greatest, the number of steps, and the fault.
 const FAULTS: &[(i64, i64, i64, BasisFault)] = &[
@@ -17,10 +16,8 @@ const FAULTS: &[(i64, i64, i64, BasisFault)] = &[
 
 #[test]
 fn faults_come_in_their_order(rt: HostRuntime) {
-    for (min, max, steps, fault) in FAULTS {
-        let case = (*min, *max, *steps);
-        let made = Basis::new(case.0, case.1, case.2);
-        same(&rt, case, made, Err(*fault));
+    for row in FAULTS {
+        same(&rt, row, Basis::new(row.0, row.1, row.2), Err(row.3));
     }
 }
 
@@ -30,14 +27,22 @@ fn bases_may_be_shared() {
     may_be_shared::<(Basis, BasisFault)>();
 }
 
-#[test]
-fn prices_stand_at_equal_distances(rt: HostRuntime) -> Result<(), Fail> {
-    let basis = Basis::new(-100, 100, 5)?;
-    same(&rt, "steps", basis.steps(), 5);
-    for (step, price) in [-100, -50, 0, 50, 100].iter().enumerate() {
-        if step < basis.steps() {
-            same(&rt, step, basis.price(step), *price);
-        }
+/// The prices from -100 to 100 in five steps.
+const PRICES: &[i64] = &[-100, -50, 0, 50, 100];
+
+fn price_at(basis: &Basis, step: usize) -> Option<i64> {
+    if step < basis.steps() {
+        Some(basis.price(step))
+    } else {
+        None
     }
-    Ok(())
+}
+
+#[test]
+fn prices_stand_at_equal_distances(rt: HostRuntime) {
+    let basis = Basis::new(-100, 100, 5).expect(&rt, "a basis");
+    same(&rt, "steps", basis.steps(), PRICES.len());
+    for (step, price) in PRICES.iter().enumerate() {
+        same(&rt, step, price_at(&basis, step), Some(*price));
+    }
 }

@@ -5,12 +5,16 @@ use crate::shared::may_be_shared;
 use pm_bid::{ArrayBid, BidFault, BidHead, uncounted};
 use std::alloc::Global;
 use std::process::Abort;
-use std::test::Fail;
 
 /// The fault of these demands, if they are no bid of three steps.
-fn fault_of(alloc: Global, demands: &[i64]) -> Result<Option<BidFault>, Fail> {
-    let demands = demands.to_vec(alloc)?;
-    Ok(ArrayBid::new(demands, 3, &mut uncounted()).err())
+fn fault_of<R: Abort>(rt: &R, alloc: Global, demands: &[i64]) -> Option<BidFault> {
+    let demands = demands.to_vec(alloc).expect(rt, "memory");
+    ArrayBid::new(demands, 3, &mut uncounted()).err()
+}
+
+/// The sum of no bids at ten steps.
+fn no_bids<R: Abort>(rt: &R, alloc: Global) -> ArrayBid {
+    ArrayBid::zero(alloc, 10, &mut uncounted()).expect(rt, "memory")
 }
 
 fn has_no_power(rt: &impl Abort, bid: &ArrayBid) {
@@ -22,12 +26,8 @@ fn has_no_power(rt: &impl Abort, bid: &ArrayBid) {
 }
 
 #[test]
-fn a_market_without_bids_has_no_power_and_clears_at_the_first_step(
-    rt: HostRuntime,
-) -> Result<(), Fail> {
-    let bid = ArrayBid::zero(rt.alloc(), 10, &mut uncounted())?;
-    has_no_power(&rt, &bid);
-    Ok(())
+fn a_market_without_bids_has_no_power_and_clears_at_the_first_step(rt: HostRuntime) {
+    has_no_power(&rt, &no_bids(&rt, rt.alloc()));
 }
 
 /// A wrong length comes before a rise, and a rise before a demand that is too large.
@@ -40,11 +40,10 @@ const FAULTS: &[(&[i64], Option<BidFault>)] = &[
 ];
 
 #[test]
-fn the_first_fault_is_named(rt: HostRuntime) -> Result<(), Fail> {
-    for (demands, fault) in FAULTS {
-        same(&rt, *demands, fault_of(rt.alloc(), *demands)?, *fault);
+fn the_first_fault_is_named(rt: HostRuntime) {
+    for row in FAULTS {
+        same(&rt, row.0, fault_of(&rt, rt.alloc(), row.0), row.1);
     }
-    Ok(())
 }
 
 /// Bids, heads and faults may be sent to threads and shared by them: it is proved here.

@@ -1,20 +1,18 @@
 //! Tests of bills: two small clusters billed by hand, and accounts at their limits.
 
-ghost use Rattle.std.specs.Prelude.{◌≡◌, IfOk, true};
+ghost use Rattle.std.specs.Prelude.{◌≡◌, true};
 ghost use Rattle.pm_tree.specs.Entries.{leaves_of};
 ghost use Rattle.pm_tree.specs.Shape.{leaf_at};
 
-use crate::plans::{NodeLine, Role, joins, plan_of_parts};
+use crate::plans::{NodeLine, Role, basis_of, joins, plan_of_parts};
 use crate::same::same;
 use crate::shared::may_be_shared;
-use pm_basis::Basis;
 use pm_bill::{Account, Bill, GroupSum, Share, bill_of_run};
 use pm_plan::{PhaseSpec, Plan};
 use pm_tree::NodeId;
 use pm_walk::all_ends;
 use std::alloc::Global;
 use std::process::Abort;
-use std::test::Fail;
 
 /// A load and a generator under the auctioneer: they clear at step 4, with 50 watts too many.
 const UNLIMITED: [NodeLine; 2] = [
@@ -38,29 +36,27 @@ const LIMITED: [NodeLine; 3] = [
 ];
 
 /// The plan of these nodes over the prices 0 to 9: all devices join, and then so many minutes go by.
-fn plan_of(alloc: Global, lines: &[NodeLine], minutes: i64) -> Result<Plan, Fail> {
-    let phases = Vec::from_array(alloc, [joins(alloc, lines)?, PhaseSpec::Tick { minutes }])?;
-    plan_of_parts(alloc, Basis::new(0, 9, 10)?, lines, phases)
+fn plan_of<R: Abort>(rt: &R, alloc: Global, lines: &[NodeLine], minutes: i64) -> Plan {
+    let mut phases = Vec::new(alloc);
+    phases.push(joins(rt, alloc, lines)).expect(rt, "memory");
+    phases
+        .push(PhaseSpec::Tick { minutes })
+        .expect(rt, "memory");
+    plan_of_parts(rt, alloc, basis_of(rt, 0, 9, 10), lines, phases)
 }
 
 /// The bill of a plan's run.
-fn billed(alloc: Global, plan: &Plan) -> Result<Bill, Fail>
-    ensures { IfOk result (λ bill. bill.leaves ≡ leaves_of plan.now.entries) }
+fn billed<R: Abort>(rt: &R, alloc: Global, plan: &Plan) -> Bill
+    ensures { result.leaves ≡ leaves_of plan.now.entries }
 {
-    let ends = all_ends(alloc, plan)?;
-    Ok(bill_of_run(alloc, plan, &ends)?)
-}
-
-fn billed_text(alloc: Global, plan: &Plan) -> Result<Vec<u8>, Fail> {
-    let bill = billed(alloc, plan)?;
-    Ok(bill.text(plan)?)
+    let ends = all_ends(alloc, plan).expect(rt, "ends");
+    bill_of_run(alloc, plan, &ends).expect(rt, "a bill")
 }
 
 /// A plan's run has a bill with this text.
-fn bill_is(rt: &impl Abort, alloc: Global, plan: &Plan, due: &str) -> Result<(), Fail> {
-    let text = billed_text(alloc, plan)?;
+fn bill_is<R: Abort>(rt: &R, alloc: Global, plan: &Plan, due: &str) {
+    let text = billed(rt, alloc, plan).text(plan).expect(rt, "a text");
     same(rt, due, text.as_slice(), due.as_bytes());
-    Ok(())
 }
 
 const UNLIMITED_BILL: &str = "\
@@ -78,15 +74,15 @@ ticks 1 minutes 10
 ";
 
 #[test]
-fn an_hour_without_limits_is_billed(rt: HostRuntime) -> Result<(), Fail> {
-    let plan = plan_of(rt.alloc(), &UNLIMITED, 60)?;
-    bill_is(&rt, rt.alloc(), &plan, UNLIMITED_BILL)
+fn an_hour_without_limits_is_billed(rt: HostRuntime) {
+    let plan = plan_of(&rt, rt.alloc(), &UNLIMITED, 60);
+    bill_is(&rt, rt.alloc(), &plan, UNLIMITED_BILL);
 }
 
 #[test]
-fn ten_minutes_within_limits_are_billed(rt: HostRuntime) -> Result<(), Fail> {
-    let plan = plan_of(rt.alloc(), &LIMITED, 10)?;
-    bill_is(&rt, rt.alloc(), &plan, LIMITED_BILL)
+fn ten_minutes_within_limits_are_billed(rt: HostRuntime) {
+    let plan = plan_of(&rt, rt.alloc(), &LIMITED, 10);
+    bill_is(&rt, rt.alloc(), &plan, LIMITED_BILL);
 }
 
 /// Whether a node of the plan is a device.
@@ -130,7 +126,7 @@ fn account(amount: i128, taken: i128, given: i128) -> Account {
 }
 
 /// The grid before that hour, and the accounts and the grid after it.
-fn hour_is_billed(rt: &impl Abort, bill: &mut Bill)
+fn hour_is_billed<R: Abort>(rt: &R, bill: &mut Bill)
     requires first { bill.old.ticks ≡ 0 }
     requires load { leaf_at bill.old.leaves 1 ≡ true }
     requires generator { leaf_at bill.old.leaves 2 ≡ true }
@@ -150,19 +146,15 @@ fn hour_is_billed(rt: &impl Abort, bill: &mut Bill)
 }
 
 /// The bill of a plan with these two devices before and after that hour.
-fn bill_takes_an_hour(rt: &impl Abort, alloc: Global, plan: &Plan) -> Result<(), Fail> {
-    if !has_device(plan, 1) || !has_device(plan, 2) {
-        return Err("no devices".into());
-    }
-    let mut bill = Bill::open(alloc, plan)?;
-    hour_is_billed(rt, &mut bill);
-    Ok(())
+fn bill_takes_an_hour<R: Abort>(rt: &R, alloc: Global, plan: &Plan) {
+    assert!(rt; has_device(plan, 1) && has_device(plan, 2));
+    hour_is_billed(rt, &mut Bill::open(alloc, plan).expect(rt, "a bill"));
 }
 
 #[test]
-fn the_grid_takes_what_is_left_over(rt: HostRuntime) -> Result<(), Fail> {
-    let plan = plan_of(rt.alloc(), &UNLIMITED, 60)?;
-    bill_takes_an_hour(&rt, rt.alloc(), &plan)
+fn the_grid_takes_what_is_left_over(rt: HostRuntime) {
+    let plan = plan_of(&rt, rt.alloc(), &UNLIMITED, 60);
+    bill_takes_an_hour(&rt, rt.alloc(), &plan);
 }
 
 /// Bills, accounts, shares and groups may be sent to threads and shared by them: it is proved here.

@@ -9,7 +9,6 @@ use pm_plan::Plan;
 use pm_tree::NodeId;
 use std::alloc::Global;
 use std::process::Abort;
-use std::test::Fail;
 
 /// Nodes without the auctioneer, phases and changes of a plan.
 type Counts = (u32, u32, u64);
@@ -35,9 +34,8 @@ const SIZES: &[(u32, u32, Result<Counts, GenFault>)] = &[
 
 #[test]
 fn a_size_has_its_counts_or_is_refused(rt: HostRuntime) {
-    for (size, number, due) in SIZES {
-        let counts = count(rt.alloc(), *size, *number);
-        same(&rt, (*size, *number), counts, *due);
+    for row in SIZES {
+        same(&rt, (row.0, row.1), count(rt.alloc(), row.0, row.1), row.2);
     }
 }
 
@@ -60,17 +58,15 @@ const DEVICES: &[(u32, Option<(Kind, DeviceState)>)] = &[
     (5, Some((Kind::Solar, DeviceState(1900)))),
 ];
 
-fn devices_are(rt: &impl Abort, plan: &Plan) {
-    for (node, due) in DEVICES {
-        same(rt, *node, device(plan, NodeId(*node)), *due);
+fn devices_are<R: Abort>(rt: &R, plan: &Plan) {
+    for row in DEVICES {
+        same(rt, row.0, device(plan, NodeId(row.0)), row.1);
     }
 }
 
 #[test]
-fn the_devices_have_the_drawn_kinds_and_starts(rt: HostRuntime) -> Result<(), Fail> {
-    let plan = make_plan(rt.alloc(), 21, 7)?;
-    devices_are(&rt, &plan);
-    Ok(())
+fn the_devices_have_the_drawn_kinds_and_starts(rt: HostRuntime) {
+    devices_are(&rt, &make_plan(rt.alloc(), 21, 7).expect(&rt, "a plan"));
 }
 
 /// Faults may be sent to threads and shared by them: it is proved here.

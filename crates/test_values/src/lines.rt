@@ -1,18 +1,16 @@
 //! Tests of lines of a trace: lines that are read, and bytes that are no line.
 
-use crate::plans::{CHAIN, joined_plan};
+use crate::plans::{CHAIN, basis_of, joined_plan};
 use crate::same::same;
-use pm_basis::Basis;
 use pm_check::read_line;
 use pm_market::{Line, Move};
 use pm_plan::Plan;
 use std::alloc::Global;
 use std::process::Abort;
-use std::test::Fail;
 
 /// The plan of a load under a concentrator over the prices -20, -10, 0, 10 and 20: nodes 2 and 1.
-fn plan_of(alloc: Global) -> Result<Plan, Fail> {
-    joined_plan(alloc, Basis::new(-20, 20, 5)?, &CHAIN)
+fn plan_of<R: Abort>(rt: &R, alloc: Global) -> Plan {
+    joined_plan(rt, alloc, basis_of(rt, -20, 20, 5), &CHAIN)
 }
 
 /// A line, its move, and the step and the number that the load then holds.
@@ -60,18 +58,17 @@ const CHANGE: Move = Move::Change {
 /// The first clearing's pass to the load.
 const PASS: Move = Move::Pass { node: 2, index: 1 };
 
-fn lines_are_read(rt: &impl Abort, plan: &Plan) {
-    for (text, what, held) in LINES {
-        let read = read_line(plan, text.as_bytes());
-        let (what, held) = (*what, *held);
-        same(rt, *text, read, Some(Line { what, held }));
+fn lines_are_read<R: Abort>(rt: &R, plan: &Plan) {
+    for row in LINES {
+        let (what, held) = (row.1, row.2);
+        let have = read_line(plan, row.0.as_bytes());
+        same(rt, row.0, have, Some(Line { what, held }));
     }
 }
 
 #[test]
-fn a_line_is_read(rt: HostRuntime) -> Result<(), Fail> {
-    lines_are_read(&rt, &plan_of(rt.alloc())?);
-    Ok(())
+fn a_line_is_read(rt: HostRuntime) {
+    lines_are_read(&rt, &plan_of(&rt, rt.alloc()));
 }
 
 const NO_LINES: &[&str] = &[
@@ -103,14 +100,13 @@ const NO_LINES: &[&str] = &[
     "pass load1 1 none \n",
 ];
 
-fn no_line_is_read(rt: &impl Abort, plan: &Plan) {
+fn no_line_is_read<R: Abort>(rt: &R, plan: &Plan) {
     for text in NO_LINES {
         same(rt, *text, read_line(plan, text.as_bytes()), None);
     }
 }
 
 #[test]
-fn other_bytes_are_no_line(rt: HostRuntime) -> Result<(), Fail> {
-    no_line_is_read(&rt, &plan_of(rt.alloc())?);
-    Ok(())
+fn other_bytes_are_no_line(rt: HostRuntime) {
+    no_line_is_read(&rt, &plan_of(&rt, rt.alloc()));
 }

@@ -1,6 +1,6 @@
 //! Plans by their parts: nodes in a table, and devices that join.
 
-ghost use Rattle.std.specs.Prelude.{◌≡◌, IfOk, map};
+ghost use Rattle.std.specs.Prelude.{◌≡◌, map};
 ghost use Rattle.pm_tree.specs.Entries.{entries_of, leaves_of};
 ghost use Rattle.pm_plan.specs.Parts.{is_device, node_part};
 
@@ -8,8 +8,8 @@ use pm_basis::Basis;
 use pm_device::Kind;
 use pm_plan::{EventSpec, NodeSpec, PhaseSpec, Plan, StateSpec};
 use pm_tree::{Tree, TreeEntry};
-use std::alloc::{AllocError, Global};
-use std::test::Fail;
+use std::alloc::Global;
+use std::process::Abort;
 
 /// What a node is.
 #[derive(Clone, Copy)]
@@ -36,8 +36,8 @@ pub const CHAIN: [NodeLine; 2] = [
 ];
 
 /// What a plan takes of a node.
-fn spec_of(alloc: Global, role: Role) -> Result<NodeSpec, AllocError> {
-    Ok(match role {
+fn spec_of<R: Abort>(rt: &R, alloc: Global, role: Role) -> NodeSpec {
+    match role {
         Role::Concentrator => NodeSpec::Concentrator,
         Role::Limited(floor, ceiling) => NodeSpec::Limited { floor, ceiling },
         Role::Device(kind, number) => NodeSpec::Device {
@@ -46,9 +46,9 @@ fn spec_of(alloc: Global, role: Role) -> Result<NodeSpec, AllocError> {
         },
         Role::Manual(demands) => NodeSpec::Device {
             kind: Kind::Manual,
-            start: StateSpec::Array(Vec::from_array(alloc, demands)?),
+            start: StateSpec::Array(Vec::from_array(alloc, demands).expect(rt, "memory")),
         },
-    })
+    }
 }
 
 /// Whether a node is a device.
@@ -58,65 +58,81 @@ fn is_leaf(spec: &NodeSpec) -> bool
     matches!(spec, NodeSpec::Device { .. })
 }
 
+/// A name in memory.
+pub fn string_of<R: Abort>(rt: &R, alloc: Global, name: &str) -> String {
+    String::from_str(alloc, name).expect(rt, "memory")
+}
+
 /// What a tree takes of a node, which is a device or not.
-fn entry_of(alloc: Global, line: &NodeLine, leaf: bool) -> Result<TreeEntry, AllocError>
-    ensures { IfOk result (λ entry. entry.leaf ≡ leaf) }
+fn entry_of<R: Abort>(rt: &R, alloc: Global, line: &NodeLine, leaf: bool) -> TreeEntry
+    ensures { result.leaf ≡ leaf }
 {
-    let name = String::from_str(alloc, line.0)?;
-    let parent = String::from_str(alloc, line.1)?;
-    Ok(TreeEntry { name, parent, leaf })
+    TreeEntry {
+        name: string_of(rt, alloc, line.0),
+        parent: string_of(rt, alloc, line.1),
+        leaf,
+    }
 }
 
 /// The entries of a tree, and what a plan takes of them.
-fn parts_of(
-    alloc: Global,
-    lines: &[NodeLine],
-) -> Result<(Vec<TreeEntry>, Vec<NodeSpec>), AllocError>
-    ensures { IfOk result (λ parts. map is_device (map node_part parts.1.items)
-        ≡ leaves_of (entries_of parts.0.items)) }
+fn parts_of<R: Abort>(rt: &R, alloc: Global, lines: &[NodeLine]) -> (Vec<TreeEntry>, Vec<NodeSpec>)
+    ensures { map is_device (map node_part result.1.items) ≡ leaves_of (entries_of result.0.items) }
 {
     let mut entries = Vec::new(alloc);
     let mut nodes = Vec::new(alloc);
     for line in lines {
-        let spec = spec_of(alloc, line.2)?;
-        let entry = entry_of(alloc, line, is_leaf(&spec))?;
-        entries.push(entry)?;
-        nodes.push(spec)?;
+        let spec = spec_of(rt, alloc, line.2);
+        let entry = entry_of(rt, alloc, line, is_leaf(&spec));
+        entries.push(entry).expect(rt, "memory");
+        nodes.push(spec).expect(rt, "memory");
     }
-    Ok((entries, nodes))
+    (entries, nodes)
+}
+
+/// Whether devices of a role join.
+fn may_join(role: &Role) -> bool {
+    matches!(*role, Role::Device(_, _) | Role::Manual(_))
 }
 
 /// The join of a device.
-fn join_of(alloc: Global, name: &str) -> Result<EventSpec, AllocError> {
-    let device = String::from_str(alloc, name)?;
-    Ok(EventSpec::Join { device })
+fn join_of<R: Abort>(rt: &R, alloc: Global, name: &str) -> EventSpec {
+    EventSpec::Join {
+        device: string_of(rt, alloc, name),
+    }
 }
 
 /// A phase in which all devices join.
-pub fn joins(alloc: Global, lines: &[NodeLine]) -> Result<PhaseSpec, AllocError> {
+pub fn joins<R: Abort>(rt: &R, alloc: Global, lines: &[NodeLine]) -> PhaseSpec {
     let mut events = Vec::new(alloc);
-    for (name, _, role) in lines {
-        if matches!(*role, Role::Device(_, _) | Role::Manual(_)) {
-            events.push(join_of(alloc, *name)?)?;
+    for line in lines {
+        if may_join(&line.2) {
+            events.push(join_of(rt, alloc, line.0)).expect(rt, "memory");
         }
     }
-    Ok(PhaseSpec::Events(events))
+    PhaseSpec::Events(events)
+}
+
+/// The basis of these prices.
+pub fn basis_of<R: Abort>(rt: &R, min: i64, max: i64, steps: i64) -> Basis {
+    Basis::new(min, max, steps).expect(rt, "a basis")
 }
 
 /// The plan of these nodes and phases over these prices.
-pub fn plan_of_parts(
+pub fn plan_of_parts<R: Abort>(
+    rt: &R,
     alloc: Global,
     basis: Basis,
     lines: &[NodeLine],
     phases: Vec<PhaseSpec>,
-) -> Result<Plan, Fail> {
-    let (entries, nodes) = parts_of(alloc, lines)?;
-    let tree = Tree::new(alloc, entries)?;
-    Ok(Plan::new(alloc, basis, tree, nodes, phases)?)
+) -> Plan {
+    let (entries, nodes) = parts_of(rt, alloc, lines);
+    let tree = Tree::new(alloc, entries).expect(rt, "a tree");
+    Plan::new(alloc, basis, tree, nodes, phases).expect(rt, "a plan")
 }
 
 /// The plan of these nodes over these prices, of one phase in which all devices join.
-pub fn joined_plan(alloc: Global, basis: Basis, lines: &[NodeLine]) -> Result<Plan, Fail> {
-    let phases = Vec::from_array(alloc, [joins(alloc, lines)?])?;
-    plan_of_parts(alloc, basis, lines, phases)
+pub fn joined_plan<R: Abort>(rt: &R, alloc: Global, basis: Basis, lines: &[NodeLine]) -> Plan {
+    let mut phases = Vec::new(alloc);
+    phases.push(joins(rt, alloc, lines)).expect(rt, "memory");
+    plan_of_parts(rt, alloc, basis, lines, phases)
 }

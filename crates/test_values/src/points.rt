@@ -7,12 +7,20 @@ use pm_bid::{ArrayBid, uncounted};
 use pm_points::{PointBid, PointFault};
 use std::alloc::Global;
 use std::process::Abort;
-use std::test::Fail;
 
-/// The fault of these points, if they are no bid on a basis of the prices 0 to 9.
-fn fault_of(alloc: Global, points: &[(i64, i64)]) -> Result<Option<PointFault>, Fail> {
-    let basis = Basis::new(0, 9, 10)?;
-    Ok(PointBid::new(points.to_vec(alloc)?, &basis).err())
+/// The basis of the prices 0 to 9.
+fn ten_prices<R: Abort>(rt: &R) -> Basis {
+    Basis::new(0, 9, 10).expect(rt, "a basis")
+}
+
+/// The fault of these points, if they are no bid on this basis.
+fn fault_of<R: Abort>(
+    rt: &R,
+    alloc: Global,
+    points: &[(i64, i64)],
+    basis: &Basis,
+) -> Option<PointFault> {
+    PointBid::new(points.to_vec(alloc).expect(rt, "memory"), basis).err()
 }
 
 const FAULTS: &[(&[(i64, i64)], Option<PointFault>)] = &[
@@ -33,22 +41,24 @@ const FAULTS: &[(&[(i64, i64)], Option<PointFault>)] = &[
 ];
 
 #[test]
-fn the_first_fault_is_named(rt: HostRuntime) -> Result<(), Fail> {
-    for (points, fault) in FAULTS {
-        same(&rt, *points, fault_of(rt.alloc(), *points)?, *fault);
+fn the_first_fault_is_named(rt: HostRuntime) {
+    let basis = ten_prices(&rt);
+    for row in FAULTS {
+        same(&rt, row.0, fault_of(&rt, rt.alloc(), row.0, &basis), row.1);
     }
-    Ok(())
 }
 
 /// The bid of these points on this basis.
-fn bid_of(alloc: Global, points: &[(i64, i64)], basis: &Basis) -> Result<PointBid, Fail> {
-    Ok(PointBid::new(points.to_vec(alloc)?, basis)?)
+fn bid_of<R: Abort>(rt: &R, alloc: Global, points: &[(i64, i64)], basis: &Basis) -> PointBid {
+    let points = points.to_vec(alloc).expect(rt, "memory");
+    PointBid::new(points, basis).expect(rt, "a bid")
 }
 
 /// The array of these points on this basis.
-fn array_of(alloc: Global, points: &[(i64, i64)], basis: &Basis) -> Result<ArrayBid, Fail> {
-    let bid = bid_of(alloc, points, basis)?;
-    Ok(bid.to_array(basis)?)
+fn array_of<R: Abort>(rt: &R, alloc: Global, points: &[(i64, i64)], basis: &Basis) -> ArrayBid {
+    bid_of(rt, alloc, points, basis)
+        .to_array(basis)
+        .expect(rt, "memory")
 }
 
 /// The array has these demands, step by step.
@@ -72,13 +82,11 @@ const LINES: &[(&[(i64, i64)], &[i64])] = &[
 ];
 
 #[test]
-fn the_demand_lies_on_the_lines(rt: HostRuntime) -> Result<(), Fail> {
-    let basis = Basis::new(0, 9, 10)?;
-    for (points, demands) in LINES {
-        let array = array_of(rt.alloc(), *points, &basis)?;
-        array_is(&rt, &array, *demands);
+fn the_demand_lies_on_the_lines(rt: HostRuntime) {
+    let basis = ten_prices(&rt);
+    for row in LINES {
+        array_is(&rt, &array_of(&rt, rt.alloc(), row.0, &basis), row.1);
     }
-    Ok(())
 }
 
 /// On the prices 0 to 99: 600 up to price 20, then 10 less for each price, and 0 from price 80.
@@ -108,25 +116,18 @@ fn demands_at_are(rt: &impl Abort, bid: &PointBid, demands: &[(u8, i64)]) {
     }
 }
 
-/// The bid of the points on this basis has these demands at these prices.
-fn demands_are(
-    rt: &impl Abort,
-    alloc: Global,
-    points: &[(i64, i64)],
-    basis: &Basis,
-    demands: &[(u8, i64)],
-) -> Result<(), Fail> {
-    let bid = bid_of(alloc, points, basis)?;
-    demands_at_are(rt, &bid, demands);
-    Ok(())
-}
+/// Points, and demands of their bid at some prices.
+const BIDS: &[(&[(i64, i64)], &[(u8, i64)])] = &[
+    (&[(20, 600), (80, 0)], &LEVEL_THEN_DOWN),
+    (&[(0, 500), (99, -490)], &DOWN),
+];
 
 #[test]
-fn bids_of_a_hundred_steps(rt: HostRuntime) -> Result<(), Fail> {
-    let basis = Basis::new(0, 99, 100)?;
-    let level = [(20, 600), (80, 0)];
-    demands_are(&rt, rt.alloc(), &level, &basis, &LEVEL_THEN_DOWN)?;
-    demands_are(&rt, rt.alloc(), &[(0, 500), (99, -490)], &basis, &DOWN)
+fn bids_of_a_hundred_steps(rt: HostRuntime) {
+    let basis = Basis::new(0, 99, 100).expect(&rt, "a basis");
+    for row in BIDS {
+        demands_at_are(&rt, &bid_of(&rt, rt.alloc(), row.0, &basis), row.1);
+    }
 }
 
 /// Bids and faults may be sent to threads and shared by them: it is proved here.

@@ -1,52 +1,48 @@
 //! Tests of texts: reports, traces and refusals written out by hand.
 
-ghost use Rattle.std.specs.Prelude.{◌≡◌, All, IfOk, IsTrue};
+ghost use Rattle.std.specs.Prelude.{◌≡◌, All, IsTrue};
 ghost use Rattle.pm_report.specs.Report.{IsEndOf};
 ghost use Rattle.pm_report.specs.Trace.{IsLineOf};
 
-use crate::plans::{CHAIN, LONE, NodeLine, joined_plan};
+use crate::plans::{CHAIN, LONE, NodeLine, basis_of, joined_plan};
 use crate::same::same;
-use pm_basis::Basis;
 use pm_market::{Journal, Line, Move};
 use pm_plan::{Cause, MemberLine, PhaseEnd, Place, Plan, Refusal};
 use pm_report::{phase_text, refusal_line, report_text, summary_text, trace_text};
-use std::alloc::{AllocError, Global};
+use std::alloc::Global;
 use std::process::Abort;
 use std::slice::from_ref;
-use std::test::Fail;
 
 /// The plan of the nodes over the prices 0 to 9, with one phase in which the load joins.
-fn plan_of(alloc: Global, lines: &[NodeLine]) -> Result<Plan, Fail> {
-    joined_plan(alloc, Basis::new(0, 9, 10)?, lines)
+fn plan_of<R: Abort>(rt: &R, alloc: Global, lines: &[NodeLine]) -> Plan {
+    joined_plan(rt, alloc, basis_of(rt, 0, 9, 10), lines)
 }
 
 /// The end of that phase: the load, which is the last node, takes 100 watts, and the total never balances.
-fn end_of(alloc: Global, plan: &Plan) -> Result<PhaseEnd, Fail>
-    ensures { IfOk result (λ end. IsEndOf plan.now end.end) }
+fn end_of<R: Abort>(rt: &R, alloc: Global, plan: &Plan) -> PhaseEnd
+    ensures { IsEndOf plan.now result.end }
 {
     let basis = plan.basis();
-    if basis.steps() <= 9 {
-        return Err(Fail::from("no step 9"));
-    }
+    assert!(rt; basis.steps() > 9);
     let (node, power, number) = (plan.tree().len(), 100, 1);
     let member = MemberLine {
         node,
         power,
         number,
     };
-    let members = Vec::from_array(alloc, [member])?;
-    Ok(PhaseEnd::new(basis, 9, 100, members, Vec::new(alloc)))
+    let members = Vec::from_array(alloc, [member]).expect(rt, "memory");
+    PhaseEnd::new(basis, 9, 100, members, Vec::new(alloc))
 }
 
 /// A journal of these lines.
-fn journal_of(alloc: Global, lines: &[Line]) -> Result<Journal, AllocError>
-    ensures { IfOk result (λ journal. journal.lines ≡ lines.now) }
+fn journal_of<R: Abort>(rt: &R, alloc: Global, lines: &[Line]) -> Journal
+    ensures { result.lines ≡ lines.now }
 {
     let mut journal = Journal::new(alloc);
     for line in lines {
-        journal.push(*line)?;
+        journal.push(*line).expect(rt, "memory");
     }
-    Ok(journal)
+    journal
 }
 
 /// Whether the nodes and the step that a line names are the plan's.
@@ -81,38 +77,27 @@ fn are_lines_of(plan: &Plan, lines: &[Line]) -> bool
 }
 
 /// The trace of an end and lines that are the plan's.
-fn trace(alloc: Global, plan: &Plan, end: &PhaseEnd, lines: &[Line]) -> Result<Vec<u8>, Fail>
+fn trace<R: Abort>(rt: &R, alloc: Global, plan: &Plan, end: &PhaseEnd, lines: &[Line]) -> Vec<u8>
     requires { IsEndOf plan.now end.now.end }
 {
-    if !are_lines_of(plan, lines) {
-        return Err(Fail::from("a line of another plan"));
-    }
-    let journal = journal_of(alloc, lines)?;
-    Ok(trace_text(alloc, plan, from_ref(end), &journal)?)
+    assert!(rt; are_lines_of(plan, lines));
+    trace_text(alloc, plan, from_ref(end), &journal_of(rt, alloc, lines)).expect(rt, "a text")
 }
 
 /// The trace of a plan by these lines.
-fn trace_by(alloc: Global, plan: &Plan, lines: &[Line]) -> Result<Vec<u8>, Fail> {
-    let end = end_of(alloc, plan)?;
-    trace(alloc, plan, &end, lines)
+fn trace_by<R: Abort>(rt: &R, alloc: Global, plan: &Plan, lines: &[Line]) -> Vec<u8> {
+    trace(rt, alloc, plan, &end_of(rt, alloc, plan), lines)
 }
 
 /// A text is the one that is due.
-fn text_is(rt: &impl Abort, text: Vec<u8>, due: &str) {
-    same(rt, due, text.as_slice(), due.as_bytes());
+fn text_is<R: Abort>(rt: &R, text: &[u8], due: &str) {
+    same(rt, due, text, due.as_bytes());
 }
 
 /// The plan of these nodes has this trace by these lines.
-fn trace_is(
-    rt: &impl Abort,
-    alloc: Global,
-    nodes: &[NodeLine],
-    lines: &[Line],
-    due: &str,
-) -> Result<(), Fail> {
-    let plan = plan_of(alloc, nodes)?;
-    text_is(rt, trace_by(alloc, &plan, lines)?, due);
-    Ok(())
+fn trace_is<R: Abort>(rt: &R, alloc: Global, nodes: &[NodeLine], lines: &[Line], due: &str) {
+    let plan = plan_of(rt, alloc, nodes);
+    text_is(rt, &trace_by(rt, alloc, &plan, lines), due);
 }
 
 /// The lines of a journal: moves, and the step and the number that a device then holds.
@@ -201,13 +186,13 @@ moves 8
 ";
 
 #[test]
-fn a_lone_load_has_its_trace(rt: HostRuntime) -> Result<(), Fail> {
-    trace_is(&rt, rt.alloc(), &LONE, LONE_LINES, LONE_TRACE)
+fn a_lone_load_has_its_trace(rt: HostRuntime) {
+    trace_is(&rt, rt.alloc(), &LONE, LONE_LINES, LONE_TRACE);
 }
 
 #[test]
-fn a_load_under_a_concentrator_has_its_trace(rt: HostRuntime) -> Result<(), Fail> {
-    trace_is(&rt, rt.alloc(), &CHAIN, CHAIN_LINES, CHAIN_TRACE)
+fn a_load_under_a_concentrator_has_its_trace(rt: HostRuntime) {
+    trace_is(&rt, rt.alloc(), &CHAIN, CHAIN_LINES, CHAIN_TRACE);
 }
 
 const PHASE: &str = "phase 1 price 9 step 9 total 100 members 1\nmember load1 power 100 bid 1\n";
@@ -219,30 +204,29 @@ const SUMMARY: &str =
     "demo size 1 number 7 nodes 1 phases 1 changes 1\nprices 9 totals 100\nlast price 9 total 100 members 1\n";
 
 /// The text of a phase, the report and the summary of a lone load.
-fn texts_are(rt: &impl Abort, alloc: Global, plan: &Plan, end: &PhaseEnd) -> Result<(), Fail>
+fn texts_are<R: Abort>(rt: &R, alloc: Global, plan: &Plan, end: &PhaseEnd)
     requires { IsEndOf plan.now end.now.end }
 {
-    text_is(rt, phase_text(alloc, plan, 1, end)?, PHASE);
-    text_is(rt, report_text(alloc, plan, from_ref(end))?, REPORT);
-    text_is(rt, summary_text(alloc, 1, 7, plan, from_ref(end))?, SUMMARY);
-    Ok(())
+    let phase = phase_text(alloc, plan, 1, end).expect(rt, "a text");
+    text_is(rt, &phase, PHASE);
+    let report = report_text(alloc, plan, from_ref(end)).expect(rt, "a text");
+    text_is(rt, &report, REPORT);
+    let summary = summary_text(alloc, 1, 7, plan, from_ref(end)).expect(rt, "a text");
+    text_is(rt, &summary, SUMMARY);
 }
 
-fn texts_of_plan_are(rt: &impl Abort, alloc: Global, plan: &Plan) -> Result<(), Fail> {
-    let end = end_of(alloc, plan)?;
-    texts_are(rt, alloc, plan, &end)
-}
-
-#[test]
-fn a_lone_load_has_its_texts(rt: HostRuntime) -> Result<(), Fail> {
-    let plan = plan_of(rt.alloc(), &LONE)?;
-    texts_of_plan_are(&rt, rt.alloc(), &plan)
+fn texts_of_plan_are<R: Abort>(rt: &R, alloc: Global, plan: &Plan) {
+    texts_are(rt, alloc, plan, &end_of(rt, alloc, plan));
 }
 
 #[test]
-fn a_refusal_has_its_line(rt: HostRuntime) -> Result<(), Fail> {
+fn a_lone_load_has_its_texts(rt: HostRuntime) {
+    texts_of_plan_are(&rt, rt.alloc(), &plan_of(&rt, rt.alloc(), &LONE));
+}
+
+#[test]
+fn a_refusal_has_its_line(rt: HostRuntime) {
     let refusal = Refusal::of_item(Cause::BadArray, Place::Node { number: 1 }, 2);
-    let line = refusal_line(rt.alloc(), &refusal)?;
-    text_is(&rt, line, "refused 17 node 1 item 2\n");
-    Ok(())
+    let line = refusal_line(rt.alloc(), &refusal).expect(&rt, "a line");
+    text_is(&rt, &line, "refused 17 node 1 item 2\n");
 }

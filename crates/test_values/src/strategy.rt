@@ -1,7 +1,7 @@
 //! Tests of strategies: the bids of each kind over bases of ten and a hundred steps, by hand.
 
-ghost use Rattle.std.specs.Prelude.{◌≡◌, ◌<◌, length, IfOk};
-ghost use Rattle.pm_base.specs.Limits.{IsWithin, sum_limit};
+ghost use Rattle.std.specs.Prelude.{◌≡◌, ◌<◌, length};
+ghost use Rattle.pm_base.specs.Limits.{AreSteps, IsWithin, sum_limit};
 ghost use Rattle.pm_bid.specs.Bids.{HaveSteps};
 
 use crate::kinds::{battery, cogeneration, freezer, heat_pump};
@@ -11,33 +11,6 @@ use pm_device::{DeviceState, Kind};
 use pm_strategy::fill_bid;
 use std::alloc::Global;
 use std::process::Abort;
-use std::test::Fail;
-
-/// The bid has one demand at the steps before the first end, the next before the second end, and the last from there
-/// on.
-fn bid_is<R: Abort>(
-    rt: &R,
-    out: &mut ArrayBid,
-    kind: Kind,
-    number: i64,
-    demands: (i64, i64, i64),
-    ends: (usize, usize),
-) {
-    let state = DeviceState(number);
-    assert!(rt; kind.valid() && kind.fits(state));
-    fill_bid(&kind, state, &[], out);
-    let mut counter = uncounted();
-    for step in 0..out.steps() {
-        let want = if step < ends.0 {
-            demands.0
-        } else if step < ends.1 {
-            demands.1
-        } else {
-            demands.2
-        };
-        same(rt, (kind, number, step), out.at(step, &mut counter), want);
-    }
-}
 
 const COLD: Kind = freezer!(-2200, -1800, 200, 30, 80);
 
@@ -57,6 +30,34 @@ const HOME: Kind = battery!(5000, 1000, 1000, 5);
 
 /// A kind, its number, its demands, and the steps at which the first two of them end.
 type Row = (Kind, i64, (i64, i64, i64), (usize, usize));
+
+/// One demand at the steps before the first end, the next before the second end, and the last from there on.
+fn demand_at(row: &Row, step: usize) -> i64 {
+    let (demands, ends) = (row.2, row.3);
+    if step < ends.0 {
+        demands.0
+    } else if step < ends.1 {
+        demands.1
+    } else {
+        demands.2
+    }
+}
+
+fn demands_are<R: Abort>(rt: &R, bid: &ArrayBid, row: &Row) {
+    let mut counter = uncounted();
+    for step in 0..bid.steps() {
+        let have = bid.at(step, &mut counter);
+        same(rt, (row.0, row.1, step), have, demand_at(row, step));
+    }
+}
+
+/// The bid of the row's kind is that of the row.
+fn bid_is<R: Abort>(rt: &R, out: &mut ArrayBid, row: &Row) {
+    let (kind, state) = (row.0, DeviceState(row.1));
+    assert!(rt; kind.valid() && kind.fits(state));
+    fill_bid(&kind, state, &[], out);
+    demands_are(rt, out, row);
+}
 
 /// Ten steps, so the last is 9. Each row is worked by hand.
 const TEN: &[Row] = &[
@@ -110,36 +111,36 @@ const HUNDRED: &[Row] = &[
     (HOME, 2250, (1000, 0, -1000), (49, 60)), // 54.5
 ];
 
-fn rows_are<R: Abort>(rt: &R, out: &mut ArrayBid, rows: &[Row]) {
-    for (kind, number, demands, ends) in rows {
-        bid_is(rt, out, *kind, *number, *demands, *ends);
+/// Each row has its bid over so many steps.
+fn rows_are<R: Abort>(rt: &R, alloc: Global, steps: usize, rows: &[Row])
+    requires { AreSteps steps }
+{
+    let mut out = ArrayBid::zero(alloc, steps, &mut uncounted()).expect(rt, "memory");
+    for row in rows {
+        bid_is(rt, &mut out, row);
     }
 }
 
 #[test]
-fn bids_of_ten_steps_follow_the_table(rt: HostRuntime) -> Result<(), Fail> {
-    let mut out = ArrayBid::zero(rt.alloc(), 10, &mut uncounted())?;
-    rows_are(&rt, &mut out, TEN);
-    Ok(())
+fn bids_of_ten_steps_follow_the_table(rt: HostRuntime) {
+    rows_are(&rt, rt.alloc(), 10, TEN);
 }
 
 #[test]
-fn bids_of_a_hundred_steps_follow_the_table(rt: HostRuntime) -> Result<(), Fail> {
-    let mut out = ArrayBid::zero(rt.alloc(), 100, &mut uncounted())?;
-    rows_are(&rt, &mut out, HUNDRED);
-    Ok(())
+fn bids_of_a_hundred_steps_follow_the_table(rt: HostRuntime) {
+    rows_are(&rt, rt.alloc(), 100, HUNDRED);
 }
 
 /// An array of three steps with one demand at a step, and 0 at the others.
-fn array_with(alloc: Global, step: usize, demand: i64) -> Result<ArrayBid, Fail>
+fn array_with<R: Abort>(rt: &R, alloc: Global, step: usize, demand: i64) -> ArrayBid
     requires step { step < 3 }
     requires within { IsWithin sum_limit demand }
-    ensures { IfOk result (λ bid. length bid ≡ 3) }
+    ensures { length result ≡ 3 }
 {
     let mut counter = uncounted();
-    let mut array = ArrayBid::zero(alloc, 3, &mut counter)?;
+    let mut array = ArrayBid::zero(alloc, 3, &mut counter).expect(rt, "memory");
     array.set(step, demand, &mut counter);
-    Ok(array)
+    array
 }
 
 /// The demands of a manual device with the number, at the first step and the last of three.
@@ -155,18 +156,18 @@ fn manual_bid(out: &mut ArrayBid, number: u8, arrays: &[ArrayBid]) -> (i64, i64)
 }
 
 /// The number of a manual device counts the arrays from 0; a number without an array bids nothing.
-fn manual_bids_are(rt: &impl Abort, alloc: Global, arrays: &[ArrayBid]) -> Result<(), Fail>
+fn manual_bids_are(rt: &impl Abort, alloc: Global, arrays: &[ArrayBid])
     requires { HaveSteps 3 arrays.now }
 {
-    let mut out = ArrayBid::zero(alloc, 3, &mut uncounted())?;
+    let mut out = ArrayBid::zero(alloc, 3, &mut uncounted()).expect(rt, "memory");
     same(rt, 1, manual_bid(&mut out, 1, arrays), (0, -5));
     same(rt, 2, manual_bid(&mut out, 2, arrays), (0, 0));
-    Ok(())
 }
 
 #[test]
-fn a_manual_device_bids_its_array(rt: HostRuntime) -> Result<(), Fail> {
+fn a_manual_device_bids_its_array(rt: HostRuntime) {
     let alloc = rt.alloc();
-    let arrays = [array_with(alloc, 0, 7)?, array_with(alloc, 2, -5)?];
-    manual_bids_are(&rt, alloc, &arrays)
+    let arrays = [array_with(&rt, alloc, 0, 7), array_with(&rt, alloc, 2, -5)];
+    let arrays = Vec::from_array(alloc, arrays).expect(&rt, "memory");
+    manual_bids_are(&rt, alloc, &arrays);
 }

@@ -5,7 +5,6 @@ use crate::shared::may_be_shared;
 use pm_tree::{NodeId, Tree, TreeEntry, TreeFault};
 use std::alloc::{AllocError, Global};
 use std::process::Abort;
-use std::test::Fail;
 
 /// A name, its parent's name, and whether the node is a leaf.
 type Line = (&'static str, &'static str, bool);
@@ -51,8 +50,8 @@ fn entry(alloc: Global, name: &str, parent: &str, leaf: bool) -> Result<TreeEntr
 
 fn listed(alloc: Global, lines: &[Line]) -> Result<Vec<TreeEntry>, AllocError> {
     let mut entries = Vec::new(alloc);
-    for (name, parent, leaf) in lines {
-        entries.push(entry(alloc, name, parent, *leaf)?)?;
+    for line in lines {
+        entries.push(entry(alloc, line.0, line.1, line.2)?)?;
     }
     Ok(entries)
 }
@@ -139,8 +138,8 @@ const CASES: &[(&[Line], Result<u32, TreeFault>)] = &[
 
 #[test]
 fn a_list_is_accepted_or_refused_by_the_first_check_of_the_first_entry(rt: HostRuntime) {
-    for (lines, expected) in CASES {
-        same(&rt, *lines, size(rt.alloc(), *lines), *expected);
+    for row in CASES {
+        same(&rt, row.0, size(rt.alloc(), row.0), row.1);
     }
 }
 
@@ -204,27 +203,25 @@ fn nodes_are<R: Abort>(rt: &R, tree: &Tree) {
 /// A node, its parent, and its place among the children of its parent.
 const PLACES: &[(u32, u32, usize)] = &[(1, 0, 0), (2, 1, 0), (3, 1, 1), (4, 3, 0), (5, 0, 1)];
 
-fn places_are<R: Abort>(rt: &R, tree: &Tree) {
-    for (node, parent, place) in PLACES {
-        assert!(rt; 1 <= *node && *node <= tree.len());
-        let node = NodeId(*node);
-        let have = (tree.parent(node), tree.place(node));
-        same(rt, node, have, (NodeId(*parent), *place));
-    }
+fn place_is<R: Abort>(rt: &R, tree: &Tree, row: (u32, u32, usize)) {
+    let node = NodeId(row.0);
+    assert!(rt; 1 <= row.0 && row.0 <= tree.len());
+    let have = (tree.parent(node), tree.place(node));
+    same(rt, node, have, (NodeId(row.1), row.2));
 }
 
 fn look_ups_are<R: Abort>(rt: &R, tree: &Tree) {
     same(rt, "nodes", (tree.len(), tree.is_empty()), (5, false));
     same(rt, "l4", tree.find("l4"), None);
     nodes_are(rt, tree);
-    places_are(rt, tree);
+    for row in PLACES {
+        place_is(rt, tree, *row);
+    }
 }
 
 #[test]
-fn look_ups_answer_by_the_list(rt: HostRuntime) -> Result<(), Fail> {
-    let tree = tree_of(rt.alloc(), &TWO)?;
-    look_ups_are(&rt, &tree);
-    Ok(())
+fn look_ups_answer_by_the_list(rt: HostRuntime) {
+    look_ups_are(&rt, &tree_of(rt.alloc(), &TWO).expect(&rt, "a tree"));
 }
 
 #[test]

@@ -4,16 +4,14 @@ ghost use Rattle.std.specs.Prelude.{◌≡◌, ℕ, ◌≤◌, length, true};
 ghost use Rattle.pm_plan.specs.Plans.{change_count};
 ghost use Rattle.pm_walk.specs.Cuts.{file_cut};
 
-use crate::plans::{NodeLine, Role, joins, plan_of_parts};
+use crate::plans::{NodeLine, Role, basis_of, joins, plan_of_parts, string_of};
 use crate::same::same;
-use pm_basis::Basis;
 use pm_device::Kind;
 use pm_plan::{EventSpec, MemberLine, PhaseEnd, PhaseSpec, Plan, StateSpec};
 use pm_tree::NodeId;
 use pm_walk::{all_ends, end_of_cut};
-use std::alloc::{AllocError, Global};
+use std::alloc::Global;
 use std::process::Abort;
-use std::test::Fail;
 
 /// A phase's end: step, price and total; and the members.
 #[derive(Clone, Copy)]
@@ -48,24 +46,25 @@ const NODES: [NodeLine; 2] = [
 ];
 
 /// The load takes 500 watts.
-fn load_rises(alloc: Global) -> Result<PhaseSpec, AllocError> {
-    let device = String::from_str(alloc, "load")?;
+fn load_rises<R: Abort>(rt: &R, alloc: Global) -> PhaseSpec {
+    let device = string_of(rt, alloc, "load");
     let value = StateSpec::Number(500);
-    let events = Vec::from_array(alloc, [EventSpec::State { device, value }])?;
-    Ok(PhaseSpec::Events(events))
+    let mut events = Vec::new(alloc);
+    events
+        .push(EventSpec::State { device, value })
+        .expect(rt, "memory");
+    PhaseSpec::Events(events)
 }
 
 /// The plan of the nodes over the prices 0 to 9: both join, a quarter of an hour goes by, and the load rises.
-fn plan_of(alloc: Global) -> Result<Plan, Fail> {
-    let phases = Vec::from_array(
-        alloc,
-        [
-            joins(alloc, &NODES)?,
-            PhaseSpec::Tick { minutes: 15 },
-            load_rises(alloc)?,
-        ],
-    )?;
-    plan_of_parts(alloc, Basis::new(0, 9, 10)?, &NODES, phases)
+fn plan_of<R: Abort>(rt: &R, alloc: Global) -> Plan {
+    let mut phases = Vec::new(alloc);
+    phases.push(joins(rt, alloc, &NODES)).expect(rt, "memory");
+    phases
+        .push(PhaseSpec::Tick { minutes: 15 })
+        .expect(rt, "memory");
+    phases.push(load_rises(rt, alloc)).expect(rt, "memory");
+    plan_of_parts(rt, alloc, basis_of(rt, 0, 9, 10), &NODES, phases)
 }
 
 /// Whether an end is the one that is due, without a limited concentrator.
@@ -92,22 +91,28 @@ const ENDS: [Due; 3] = [
     },
 ];
 
-fn ends_are(rt: &impl Abort, ends: &[PhaseEnd]) {
-    same(rt, "ends", ends.len(), ENDS.len());
-    for (place, due) in ENDS.iter().enumerate() {
-        let right = match ends.get(place) {
-            Some(end) => is_due(end, *due),
-            None => false,
-        };
-        same(rt, due.end, right, true);
+/// Whether the end in this place is the one that is due.
+fn is_end_at(ends: &[PhaseEnd], place: usize, due: Due) -> bool {
+    match ends.get(place) {
+        Some(end) => is_due(end, due),
+        None => false,
     }
 }
 
+fn ends_are<R: Abort>(rt: &R, ends: &[PhaseEnd]) {
+    same(rt, "ends", ends.len(), ENDS.len());
+    for (place, due) in ENDS.iter().enumerate() {
+        same(rt, place, is_end_at(ends, place, *due), true);
+    }
+}
+
+fn ends_of_plan_are<R: Abort>(rt: &R, alloc: Global, plan: &Plan) {
+    ends_are(rt, &all_ends(alloc, plan).expect(rt, "ends"));
+}
+
 #[test]
-fn the_ends_of_all_phases(rt: HostRuntime) -> Result<(), Fail> {
-    let plan = plan_of(rt.alloc())?;
-    ends_are(&rt, &all_ends(rt.alloc(), &plan)?);
-    Ok(())
+fn the_ends_of_all_phases(rt: HostRuntime) {
+    ends_of_plan_are(&rt, rt.alloc(), &plan_of(&rt, rt.alloc()));
 }
 
 /// Whether a node has so many changes.
@@ -143,11 +148,9 @@ fn is_cut(plan: &Plan, cut: &[u32]) -> bool
 }
 
 /// The end over a list that is a cut.
-fn planned_end(alloc: Global, plan: &Plan, cut: &[u32]) -> Result<PhaseEnd, Fail> {
-    if !is_cut(plan, cut) {
-        return Err(Fail::from("no cut"));
-    }
-    Ok(end_of_cut(alloc, plan, cut)?)
+fn planned_end<R: Abort>(rt: &R, alloc: Global, plan: &Plan, cut: &[u32]) -> PhaseEnd {
+    assert!(rt; is_cut(plan, cut));
+    end_of_cut(alloc, plan, cut).expect(rt, "an end")
 }
 
 /// The battery after its tick or before it, with the load before or after its new state.
@@ -182,21 +185,19 @@ const CUTS: &[([u32; 2], Due)] = &[
     ),
 ];
 
-/// Whether a list is a cut, and its end is the one that is due.
-fn ends_so(alloc: Global, plan: &Plan, cut: &[u32], due: Due) -> Result<bool, Fail> {
-    let end = planned_end(alloc, plan, cut)?;
-    Ok(is_due(&end, due))
+/// A list is a cut, and its end is the one that is due.
+fn cut_has_its_end<R: Abort>(rt: &R, alloc: Global, plan: &Plan, row: &([u32; 2], Due)) {
+    let end = planned_end(rt, alloc, plan, &row.0);
+    same(rt, row.0, is_due(&end, row.1), true);
 }
 
-fn cuts_have_their_ends(rt: &impl Abort, alloc: Global, plan: &Plan) -> Result<(), Fail> {
-    for (cut, due) in CUTS {
-        same(rt, *cut, ends_so(alloc, plan, cut, *due)?, true);
+fn cuts_have_their_ends<R: Abort>(rt: &R, alloc: Global, plan: &Plan) {
+    for row in CUTS {
+        cut_has_its_end(rt, alloc, plan, row);
     }
-    Ok(())
 }
 
 #[test]
-fn the_end_over_a_cut(rt: HostRuntime) -> Result<(), Fail> {
-    let plan = plan_of(rt.alloc())?;
-    cuts_have_their_ends(&rt, rt.alloc(), &plan)
+fn the_end_over_a_cut(rt: HostRuntime) {
+    cuts_have_their_ends(&rt, rt.alloc(), &plan_of(&rt, rt.alloc()));
 }

@@ -1,5 +1,7 @@
 -- Of `parts_of`: the turns of its loop over `line`.
 use Rattle.std.proofs.Common.{◌≡◌, ◌∙◌, sym, ap, List, [], ◌∷◌, ◌++◌, map}
+use Rattle.std.specs.Bool.{if◌then◌else◌}
+use Rattle.std.specs.Result.{is_ok}
 use Rattle.std.proofs.lemmas.List.{map-append}
 use Rattle.pm_tree.specs.declared.entry.TreeEntry.{TreeEntry}
 use Rattle.pm_tree.specs.Entries.{entry_of, entries_of, leaves_of}
@@ -24,10 +26,15 @@ more nodes new_nodes entries new_entries spec entry so_far leaf nodes_are entrie
 
 pub loop-line-init : goal.loop-line-init
 unfolding leaves_of
-loop-line-init c =
+loop-line-init g c =
     ap (λ all. map is_device (map node_part all)) c.new-nodes.ensures.items ∙ sym (ap (λ all. leaves_of (entries_of all)) c.new-entries.ensures.items)
 
 pub loop-line-preserved : goal.loop-line-preserved
-loop-line-preserved c =
-    more c.loop-line.nodes.items _ c.loop-line.entries.items _ c.in_ok-spec.spec _ c.loop-line.invariant
-    (sym (c.in_ok-entry.ensures ∙ c.is_leaf.ensures)) c.in_ok-push-2.ensures.items c.in_ok-push.ensures.items
+loop-line-preserved g c =
+    more c.loop-line.nodes.items _ c.loop-line.entries.items _ c.spec_of-spec.result c.entry_of-entry.result c.loop-line.invariant
+    (sym (c.entry_of-entry.ensures ∙ c.is_leaf.ensures))
+    (c.push-in-loop-line.ensures.items
+    ∙ ap (λ pushed. if is_ok pushed then c.loop-line.nodes.items ++ c.spec_of-spec.result ∷ [] else c.loop-line.nodes.items)
+    c.expect-in-loop-line.ensures)
+    (c.push.ensures.items
+    ∙ ap (λ pushed. if is_ok pushed then c.loop-line.entries.items ++ c.entry_of-entry.result ∷ [] else c.loop-line.entries.items) c.expect.ensures)
