@@ -11,7 +11,7 @@ use pm_plan::{PhaseEnd, Plan};
 use pm_scene::read_scene;
 use pm_tree::NodeId;
 use std::alloc::Global;
-use std::test::Fail;
+use std::process::Abort;
 
 /// A load of 100 watts under the auctioneer, which joins in the only phase; prices 0 to 9 in 10 steps.
 const LONE_LOAD: &[u8] = b"{\"version\":1,\"basis\":{\"min\":0,\"max\":9,\"steps\":10},\"nodes\":[
@@ -35,6 +35,14 @@ enum Row {
 const JOIN: Move = Move::Change {
     device: 1,
     number: 1,
+};
+
+/// The load's first change.
+const JOINS: Next = Next {
+    device: 1,
+    number: 1,
+    member: true,
+    state: DeviceState(100),
 };
 
 const LEARN: Line = Line {
@@ -61,7 +69,7 @@ const CLOSE: Line = Line {
 };
 
 /// The only run of the lone load: before its change nothing can be done, and the phase is closed once the load holds the price.
-const ONLY_RUN: [Row; 15] = [
+const ONLY_RUN: &[Row] = &[
     Row::Stands(true, false),
     Row::Turns(0, None),
     Row::Closes(false),
@@ -79,38 +87,18 @@ const ONLY_RUN: [Row; 15] = [
     Row::Keeps(5, 1),
 ];
 
-fn open(alloc: Global, plan: &Plan) -> Result<Board<'_>, Fail> {
-    Ok(Board::open(alloc, plan)?)
-}
-
 #[tactic(auto, using(pm_cluster::proofs::Parents::nodes_are))]
-fn turns(board: &mut Board, node: u32, due: Option<Line>) -> Result<bool, Fail> {
-    if board.plan().tree().len() < node {
-        return Err(Fail::from("no node"));
-    }
-    Ok(board.turn(NodeId(node))? == due)
+fn turn<R: Abort>(rt: &R, board: &mut Board, node: u32) -> Option<Line> {
+    assert!(rt; node <= board.plan().tree().len());
+    board.turn(NodeId(node)).expect(rt, "memory")
 }
 
 /// Posts the join of the load by an agent of it.
-fn posts(alloc: Global, board: &mut Board, due: Option<Move>) -> Result<bool, Fail> {
-    let mut agent = DeviceAgent::new(alloc, Kind::Load, 1, 10)?;
-    let made = agent.work(
-        Next {
-            device: 1,
-            number: 1,
-            member: true,
-            state: DeviceState(100),
-        },
-        &[],
-    );
-    if made.demand().steps() != board.plan().basis().steps() {
-        return Err(Fail::from("another basis"));
-    }
-    Ok(board.post(made).ok() == due)
-}
-
-fn closes(board: &mut Board, due: bool) -> Result<bool, Fail> {
-    Ok(board.close()? == due)
+fn post<R: Abort>(rt: &R, alloc: Global, board: &mut Board) -> Option<Move> {
+    let mut agent = DeviceAgent::new(alloc, Kind::Load, 1, 10).expect(rt, "memory");
+    let made = agent.work(JOINS, &[]);
+    assert!(rt; made.demand().steps() == board.plan().basis().steps());
+    board.post(made).ok()
 }
 
 fn standing(board: &Board) -> (bool, bool) {
@@ -121,28 +109,19 @@ fn kept(board: &Board) -> (usize, usize) {
     (board.journal().len(), board.ends().len())
 }
 
-fn is_right(alloc: Global, board: &mut Board, row: Row) -> Result<bool, Fail> {
+/// A call answers as its row says.
+fn answers<R: Abort>(rt: &R, alloc: Global, board: &mut Board, place: usize, row: Row) {
     match row {
-        Row::Turns(node, line) => turns(board, node, line),
-        Row::Posts(what) => posts(alloc, board, what),
-        Row::Closes(due) => closes(board, due),
-        Row::Stands(quiet, done) => Ok(standing(board) == (quiet, done)),
-        Row::Keeps(lines, ends) => Ok(kept(board) == (lines, ends)),
+        Row::Turns(node, line) => same(rt, place, turn(rt, board, node), line),
+        Row::Posts(what) => same(rt, place, post(rt, alloc, board), what),
+        Row::Closes(due) => same(rt, place, board.close().expect(rt, "memory"), due),
+        Row::Stands(quiet, done) => same(rt, place, standing(board), (quiet, done)),
+        Row::Keeps(lines, ends) => same(rt, place, kept(board), (lines, ends)),
     }
-}
-
-/// The place of the first row that is wrong.
-fn first_wrong(alloc: Global, board: &mut Board, rows: &[Row]) -> Result<Option<usize>, Fail> {
-    for (place, row) in rows.iter().enumerate() {
-        if !is_right(alloc, board, *row)? {
-            return Ok(Some(place));
-        }
-    }
-    Ok(None)
 }
 
 /// The lines of the only run.
-const LINES: [Line; 5] = [
+const LINES: &[Line] = &[
     Line {
         what: JOIN,
         held: None,
@@ -174,24 +153,25 @@ fn are_ends(ends: &[PhaseEnd]) -> bool {
     (end.step(), end.price(), end.total(), member.power) == (9, 9, 100, 100)
 }
 
-/// Whether a board hands on the lines of the only run, and its end.
-fn hands_on(board: Board) -> bool {
+/// A board hands on the lines of the only run, and its end.
+fn hands_on<R: Abort>(rt: &R, board: Board) {
     let (journal, ends) = board.into_parts();
-    are_lines(&journal) && are_ends(&ends)
+    same(rt, "lines", are_lines(&journal), true);
+    same(rt, "ends", are_ends(&ends), true);
 }
 
-/// The place of the first wrong row of the only run, and whether the board then hands on what it should.
-fn only_run(alloc: Global, plan: &Plan) -> Result<(Option<usize>, bool), Fail> {
-    let mut board = open(alloc, plan)?;
-    let wrong = first_wrong(alloc, &mut board, &ONLY_RUN)?;
-    Ok((wrong, hands_on(board)))
+fn has_one_run<R: Abort>(rt: &R, alloc: Global, plan: &Plan) {
+    let mut board = Board::open(alloc, plan).expect(rt, "memory");
+    for (place, row) in ONLY_RUN.iter().enumerate() {
+        answers(rt, alloc, &mut board, place, *row);
+    }
+    hands_on(rt, board);
 }
 
 #[test]
-fn a_lone_load_has_one_run(rt: HostRuntime) -> Result<(), Fail> {
-    let plan = read_scene(rt.alloc(), LONE_LOAD)?;
-    same(&rt, "run", only_run(rt.alloc(), &plan)?, (None, true));
-    Ok(())
+fn a_lone_load_has_one_run(rt: HostRuntime) {
+    let plan = read_scene(rt.alloc(), LONE_LOAD).expect(&rt, "a plan");
+    has_one_run(&rt, rt.alloc(), &plan);
 }
 
 /// Boards may be sent to threads and shared by them: that is proved here.

@@ -5,7 +5,6 @@ use crate::shared::may_be_shared;
 use pm_market::{Act, Journal, Line, Market, Move};
 use std::alloc::Global;
 use std::process::Abort;
-use std::test::Fail;
 
 mod plays;
 mod walk;
@@ -131,19 +130,18 @@ const FOUR_CUTS: [Move; 12] = [
 ];
 
 #[test]
-fn a_journal_is_its_lines(rt: HostRuntime) -> Result<(), Fail> {
+fn a_journal_is_its_lines(rt: HostRuntime) {
     let line = Line {
         what: Move::Clear { index: 1 },
         held: None,
     };
     let mut journal = Journal::new(rt.alloc());
     assert!(rt; journal.is_empty());
-    journal.reserve(1)?;
-    journal.push(line)?;
+    journal.reserve(1).expect(&rt, "memory");
+    journal.push(line).expect(&rt, "memory");
     same(&rt, "length", journal.len(), 1);
     same(&rt, 0, journal.get(0), Some(line));
     same(&rt, 1, journal.get(1), None);
-    Ok(())
 }
 
 /// Markets, journals, lines and acts may be sent to threads and shared by them: it is proved here.
@@ -154,54 +152,46 @@ fn markets_may_be_shared() {
 
 /// The price of number 1 is not held after the join of number 3. Closing is not legal before the device holds one.
 #[test]
-fn a_price_of_a_former_membership_is_not_held(rt: HostRuntime) -> Result<(), Fail> {
-    let mut market = market_of(rt.alloc(), &[(0, true, &[true, false, true])])?;
-    last_price_is_held(&rt, &mut market)
+fn a_price_of_a_former_membership_is_not_held(rt: HostRuntime) {
+    let mut market = market_of(&rt, rt.alloc(), &[(0, true, &[true, false, true])]);
+    last_price_is_held(&rt, &mut market);
 }
 
-fn last_price_is_held(rt: &impl Abort, market: &mut Market) -> Result<(), Fail> {
-    same(rt, "rejoins", play(market, &REJOINS)?, 6);
+fn last_price_is_held<R: Abort>(rt: &R, market: &mut Market) {
+    same(rt, "rejoins", play(rt, market, &REJOINS), 6);
     let cleared = market.cleared(1).get(1).copied();
     let have = (market.last_passed(1), cleared, market.holds_price(1));
     same(rt, "passed, cleared and held", have, (1, Some(1), false));
-    same(rt, "ends", play(market, &ENDS)?, 4);
+    same(rt, "ends", play(rt, market, &ENDS), 4);
     let have = (market.holds_price(1), market.is_complete());
     same(rt, "held and complete", have, (true, true));
-    Ok(())
 }
 
 /// Eight rounds of three moves are legal, then a change and a learning. The ninth publishing is not: place 26, with one
 /// device of nine changes and with nine devices of one. A price of number 8 opens the window.
 #[test]
-fn a_window_holds_eight_numbers(rt: HostRuntime) -> Result<(), Fail> {
-    window_holds_eight(&rt, rt.alloc(), 1, ONE_DEVICE)?;
-    window_holds_eight(&rt, rt.alloc(), 9, NINE_DEVICES)
+fn a_window_holds_eight_numbers(rt: HostRuntime) {
+    window_holds_eight(&rt, rt.alloc(), 1, ONE_DEVICE);
+    window_holds_eight(&rt, rt.alloc(), 9, NINE_DEVICES);
 }
 
-fn window_holds_eight(
-    rt: &impl Abort,
-    alloc: Global,
-    devices: u32,
-    nodes: &[Node<'_>],
-) -> Result<(), Fail> {
-    let moves = nine_rounds(alloc, devices)?;
-    let mut market = market_of(alloc, nodes)?;
-    let made = (play(&mut market, &moves)?, play(&mut market, &OPENS)?);
-    same(rt, devices, made, (26, 4));
-    Ok(())
+fn window_holds_eight<R: Abort>(rt: &R, alloc: Global, devices: u32, nodes: &[Node<'_>]) {
+    let moves = nine_rounds(rt, alloc, devices);
+    let mut market = market_of(rt, alloc, nodes);
+    same(rt, devices, play(rt, &mut market, &moves), 26);
+    same(rt, devices, play(rt, &mut market, &OPENS), 4);
 }
 
 /// Of two levels, 44 moves fill both windows (8 rounds of 5, and two rounds of 2), and then the auctioneer alone moves.
 #[test]
-fn two_windows_hold_eight_numbers_each(rt: HostRuntime) -> Result<(), Fail> {
-    let moves = two_windows(rt.alloc())?;
-    let mut market = market_of(rt.alloc(), TWO_LEVELS)?;
-    same(&rt, "fill", play(&mut market, &moves)?, 44);
+fn two_windows_hold_eight_numbers_each(rt: HostRuntime) {
+    let moves = two_windows(&rt, rt.alloc());
+    let mut market = market_of(&rt, rt.alloc(), TWO_LEVELS);
+    same(&rt, "fill", play(&rt, &mut market, &moves), 44);
     auctioneer_alone_moves(&rt, &market);
-    Ok(())
 }
 
-fn auctioneer_alone_moves(rt: &impl Abort, market: &Market) {
+fn auctioneer_alone_moves<R: Abort>(rt: &R, market: &Market) {
     let lower = market.is_legal(Move::Publish { node: 2, number: 9 });
     let upper = market.is_legal(Move::Publish { node: 1, number: 9 });
     let (child, number) = (1, 8);
@@ -232,12 +222,11 @@ const TWO_CHANGES: &[Node] = &[
 /// has 4 places: 5 + 3 * 4 = 17. So 8 + 13 + 17 = 38 for a, 38 for b, and 12: 88. The bound is changes * (nodes + 15) +
 /// phases: 2 * 17 + 1 = 35, and 2 * 18 + 1 = 37 with a concentrator.
 #[test]
-fn every_journal_ends_complete_within_the_bound(rt: HostRuntime) -> Result<(), Fail> {
-    let flat = count_journals(rt.alloc(), FLAT, 35)?;
+fn every_journal_ends_complete_within_the_bound(rt: HostRuntime) {
+    let flat = count_journals(&rt, rt.alloc(), FLAT, 35);
     same(&rt, "flat", flat, Some(88));
-    let gathered = count_journals(rt.alloc(), GATHERED, 37)?;
+    let gathered = count_journals(&rt, rt.alloc(), GATHERED, 37);
     same(&rt, "gathered", gathered.is_some(), true);
-    Ok(())
 }
 
 /// Every journal of two devices under a concentrator with two changes each ends complete and within the bound, 4 * (3
@@ -249,11 +238,7 @@ fn every_journal_ends_complete_within_the_bound(rt: HostRuntime) -> Result<(), F
 /// other is passed those from its join to before its leaving: 2 at most, and 3 if its join is the first change. This is
 /// 6 either way, and fewer clearings bring no more. The closing is the last.
 #[test]
-fn every_journal_of_four_changes_ends_complete_within_the_bound(
-    rt: HostRuntime,
-) -> Result<(), Fail> {
-    let paths = [ONE_CUT.as_slice(), FOUR_CUTS.as_slice()];
-    let longest = longest_journal(rt.alloc(), TWO_CHANGES, 73, &paths)?;
+fn every_journal_of_four_changes_ends_complete_within_the_bound(rt: HostRuntime) {
+    let longest = longest_journal(&rt, rt.alloc(), TWO_CHANGES, 73, &[&ONE_CUT, &FOUR_CUTS]);
     same(&rt, "longest", longest, Some((31, 2)));
-    Ok(())
 }

@@ -1,13 +1,14 @@
 //! Clusters that are driven by drawn acts, against the plain program.
 
 use super::hand::{act_at, act_count, make, open};
+use crate::same::same;
 use pm_cluster::Cluster;
 use pm_gen::make_plan;
 use pm_market::Act;
 use pm_plan::{PhaseEnd, Plan};
 use pm_walk::all_ends;
 use std::alloc::Global;
-use std::test::Fail;
+use std::process::Abort;
 
 /// A linear congruential generator.
 #[derive(Drop)]
@@ -27,34 +28,34 @@ impl Draws {
 }
 
 /// Makes the first of many drawn acts that is legal; whether one was.
-fn make_drawn(cluster: &mut Cluster, draws: &mut Draws) -> Result<bool, Fail> {
+fn make_drawn<R: Abort>(rt: &R, cluster: &mut Cluster, draws: &mut Draws) -> bool {
     let many = act_count(cluster);
     for _try in 0..many {
-        if make(cluster, act_at(draws.below(many)))?.is_some() {
-            return Ok(true);
+        if make(rt, cluster, act_at(draws.below(many))).is_some() {
+            return true;
         }
     }
-    Ok(false)
+    false
 }
 
 /// Makes the first of all acts that is legal; whether one was.
-fn make_any(cluster: &mut Cluster) -> Result<bool, Fail> {
+fn make_any<R: Abort>(rt: &R, cluster: &mut Cluster) -> bool {
     for place in 0..act_count(cluster) {
-        if make(cluster, act_at(place))?.is_some() {
-            return Ok(true);
+        if make(rt, cluster, act_at(place)).is_some() {
+            return true;
         }
     }
-    Ok(false)
+    false
 }
 
 /// Makes acts until no act is legal.
-fn settle(cluster: &mut Cluster, draws: &mut Draws) -> Result<(), Fail> {
+fn settle<R: Abort>(rt: &R, cluster: &mut Cluster, draws: &mut Draws) {
     for _act in 0..1_000_000u32 {
-        if !make_drawn(cluster, draws)? && !make_any(cluster)? {
-            return Ok(());
+        if !make_drawn(rt, cluster, draws) && !make_any(rt, cluster) {
+            return;
         }
     }
-    Err(Fail::from("there is always an act"))
+    panic!(rt; "there is always an act");
 }
 
 fn are_alike(one: &PhaseEnd, other: &PhaseEnd) -> bool {
@@ -66,58 +67,54 @@ fn are_alike(one: &PhaseEnd, other: &PhaseEnd) -> bool {
 }
 
 /// Whether the cluster is idle and its end is this.
-fn rests_at(alloc: Global, cluster: &Cluster, due: &PhaseEnd) -> Result<bool, Fail> {
-    if !cluster.idle() {
-        return Ok(false);
-    }
-    Ok(are_alike(&cluster.phase_end(alloc)?, due))
+fn rests_at<R: Abort>(rt: &R, alloc: Global, cluster: &Cluster, due: &PhaseEnd) -> bool {
+    cluster.idle() && are_alike(&cluster.phase_end(alloc).expect(rt, "memory"), due)
 }
 
 /// Whether a phase settles to this end, and can then be closed.
-fn ends_so(
+fn ends_so<R: Abort>(
+    rt: &R,
     alloc: Global,
     cluster: &mut Cluster,
     due: &PhaseEnd,
     draws: &mut Draws,
-) -> Result<bool, Fail> {
-    settle(cluster, draws)?;
-    Ok(rests_at(alloc, cluster, due)? && make(cluster, Act::Close)?.is_some())
+) -> bool {
+    settle(rt, cluster, draws);
+    rests_at(rt, alloc, cluster, due) && make(rt, cluster, Act::Close).is_some()
 }
 
 /// How many phases end as they should, up to the first that does not.
-fn count_right(
-    alloc: Global,
-    plan: &Plan,
-    ends: &[PhaseEnd],
-    draws: &mut Draws,
-) -> Result<usize, Fail> {
-    let mut cluster = open(alloc, plan)?;
-    count_on(alloc, &mut cluster, ends, draws)
-}
-
-fn count_on(
+fn count_right<R: Abort>(
+    rt: &R,
     alloc: Global,
     cluster: &mut Cluster,
     ends: &[PhaseEnd],
     draws: &mut Draws,
-) -> Result<usize, Fail> {
+) -> usize {
     for (place, due) in ends.iter().enumerate() {
-        if !ends_so(alloc, cluster, due, draws)? {
-            return Ok(place);
+        if !ends_so(rt, alloc, cluster, due, draws) {
+            return place;
         }
     }
-    Ok(ends.len())
+    ends.len()
 }
 
-/// How many phases of a demo cluster end as those of the plain program, up to the first that does not.
-fn count_alike(alloc: Global, size: u32, number: u32) -> Result<usize, Fail> {
-    let plan = make_plan(alloc, size, number)?;
-    count_drawn(alloc, &plan, number)
+/// How many phases of a plan end as those of the plain program, up to the first that does not.
+fn count_alike<R: Abort>(rt: &R, alloc: Global, plan: &Plan, state: u32) -> usize {
+    let ends = all_ends(alloc, plan).expect(rt, "ends");
+    count_right(
+        rt,
+        alloc,
+        &mut open(rt, alloc, plan),
+        &ends,
+        &mut Draws { state },
+    )
 }
 
-fn count_drawn(alloc: Global, plan: &Plan, number: u32) -> Result<usize, Fail> {
-    let ends = all_ends(alloc, plan)?;
-    count_right(alloc, plan, &ends, &mut Draws { state: number })
+/// All phases of a demo cluster end as those of the plain program.
+fn demo_is_alike<R: Abort>(rt: &R, alloc: Global, demo: (u32, u32)) {
+    let plan = make_plan(alloc, demo.0, demo.1).expect(rt, "a plan");
+    same(rt, demo, count_alike(rt, alloc, &plan, demo.1), 21);
 }
 
 /// Sizes and numbers of demo clusters, each of which has 21 phases.
@@ -134,10 +131,8 @@ const DEMOS: &[(u32, u32)] = &[
 ];
 
 #[test]
-fn drawn_acts_come_to_the_plain_ends(rt: HostRuntime) -> Result<(), Fail> {
-    for (size, number) in DEMOS {
-        let alike = count_alike(rt.alloc(), *size, *number)?;
-        assert_eq!(rt; alike, 21, "size {size}, number {number}");
+fn drawn_acts_come_to_the_plain_ends(rt: HostRuntime) {
+    for demo in DEMOS {
+        demo_is_alike(&rt, rt.alloc(), *demo);
     }
-    Ok(())
 }

@@ -3,11 +3,11 @@
 use pm_plan::Plan;
 use pm_scene::read_scene;
 use std::alloc::Global;
-use std::test::Fail;
+use std::process::Abort;
 
 /// The plan of a file.
-pub fn plan_of(alloc: Global, file: &str) -> Result<Plan, Fail> {
-    Ok(read_scene(alloc, file.as_bytes())?)
+pub fn plan_of<R: Abort>(rt: &R, alloc: Global, file: &str) -> Plan {
+    read_scene(alloc, file.as_bytes()).expect(rt, "a plan")
 }
 
 /// A load of 100 watts.

@@ -12,7 +12,7 @@ use pm_plan::{LimitedLine, MemberLine, PhaseEnd, Plan};
 use pm_session::Held;
 use pm_tree::NodeId;
 use std::alloc::Global;
-use std::test::Fail;
+use std::process::Abort;
 
 /// A phase's end: price, step and total; the members and the limited concentrators.
 #[derive(Clone, Copy)]
@@ -22,16 +22,16 @@ pub struct End {
     pub limited: &'static [LimitedLine],
 }
 
-pub fn open(alloc: Global, plan: &Plan) -> Result<Cluster<'_>, Fail> {
-    Ok(Cluster::open(alloc, plan)?)
+pub fn open<'p, R: Abort>(rt: &R, alloc: Global, plan: &'p Plan) -> Cluster<'p> {
+    Cluster::open(alloc, plan).expect(rt, "memory")
 }
 
 /// Makes an act, if it is legal.
-pub fn make(cluster: &mut Cluster, act: Act) -> Result<Option<Line>, Fail> {
+pub fn make<R: Abort>(rt: &R, cluster: &mut Cluster, act: Act) -> Option<Line> {
     match cluster.act(act) {
-        Ok(line) => Ok(Some(line)),
-        Err(ActFault::Illegal) => Ok(None),
-        Err(ActFault::NoMemory) => Err(Fail::from("no memory")),
+        Ok(line) => Some(line),
+        Err(ActFault::Illegal) => None,
+        Err(ActFault::NoMemory) => panic!(rt; "no memory"),
     }
 }
 
@@ -75,24 +75,21 @@ pub fn next_node(cluster: &Cluster) -> Option<u32> {
 
 /// One node move of a node, if it has one.
 #[tactic(auto, using(pm_cluster::proofs::Parents::nodes_are))]
-pub fn step(cluster: &mut Cluster, node: u32) -> Result<Option<Line>, Fail> {
-    if cluster.plan().tree().len() < node {
-        return Err(Fail::from("no node"));
-    }
-    Ok(cluster.step(NodeId(node))?)
+pub fn step<R: Abort>(rt: &R, cluster: &mut Cluster, node: u32) -> Option<Line> {
+    assert!(rt; node <= cluster.plan().tree().len());
+    cluster.step(NodeId(node)).expect(rt, "memory")
 }
 
 /// Steps of the lowest node that has one, until no node has one. False if that node has no move, or some node always has one.
-pub fn rest(cluster: &mut Cluster) -> Result<bool, Fail> {
+pub fn rest<R: Abort>(rt: &R, cluster: &mut Cluster) -> bool {
     for _move in 0..1000u32 {
-        let Some(node) = next_node(cluster) else {
-            return Ok(true);
-        };
-        if step(cluster, node)?.is_none() {
-            return Ok(false);
+        match next_node(cluster) {
+            None => return true,
+            Some(node) if step(rt, cluster, node).is_some() => {}
+            Some(_) => return false,
         }
     }
-    Ok(false)
+    false
 }
 
 pub fn close(cluster: &mut Cluster) -> bool {
@@ -107,19 +104,15 @@ fn is_leaf(plan: &Plan, node: u32) -> bool
     node <= plan.tree().len() && plan.tree().is_leaf(NodeId(node))
 }
 
-pub fn held(cluster: &Cluster, device: u32) -> Result<Option<Held>, Fail> {
-    if !is_leaf(cluster.plan(), device) {
-        return Err(Fail::from("no device"));
-    }
-    Ok(cluster.held(NodeId(device)))
+pub fn held<R: Abort>(rt: &R, cluster: &Cluster, device: u32) -> Option<Held> {
+    assert!(rt; is_leaf(cluster.plan(), device));
+    cluster.held(NodeId(device))
 }
 
 /// How many changes a device made, and the next.
-pub fn changes(cluster: &Cluster, device: u32) -> Result<(u32, Option<Next>), Fail> {
-    if !is_leaf(cluster.plan(), device) {
-        return Err(Fail::from("no device"));
-    }
-    Ok((cluster.count(NodeId(device)), cluster.next(NodeId(device))))
+pub fn changes<R: Abort>(rt: &R, cluster: &Cluster, device: u32) -> (u32, Option<Next>) {
+    assert!(rt; is_leaf(cluster.plan(), device));
+    (cluster.count(NodeId(device)), cluster.next(NodeId(device)))
 }
 
 fn is_end(end: &PhaseEnd, due: End) -> bool {
@@ -129,25 +122,20 @@ fn is_end(end: &PhaseEnd, due: End) -> bool {
 }
 
 /// Whether the cluster is idle, and its end is this.
-fn tells(alloc: Global, cluster: &Cluster, due: End) -> Result<bool, Fail> {
-    if !cluster.idle() {
-        return Ok(false);
-    }
-    Ok(is_end(&cluster.phase_end(alloc)?, due))
+fn tells<R: Abort>(rt: &R, alloc: Global, cluster: &Cluster, due: End) -> bool {
+    cluster.idle() && is_end(&cluster.phase_end(alloc).expect(rt, "memory"), due)
 }
 
 /// Whether the cluster is idle, and writes this end into a given one.
 #[tactic(auto, using(pm_cluster::proofs::Parents::nodes_are))]
-fn writes(alloc: Global, cluster: &Cluster, due: End) -> Result<bool, Fail> {
-    if !cluster.idle() {
-        return Ok(false);
-    }
-    let mut end = PhaseEnd::vacant(alloc, cluster.plan())?;
+fn writes<R: Abort>(rt: &R, alloc: Global, cluster: &Cluster, due: End) -> bool {
+    assert!(rt; cluster.idle());
+    let mut end = PhaseEnd::vacant(alloc, cluster.plan()).expect(rt, "memory");
     cluster.phase_end_into(&mut end);
-    Ok(is_end(&end, due))
+    is_end(&end, due)
 }
 
 /// Whether both calls give this end of an idle cluster.
-pub fn ends_so(alloc: Global, cluster: &Cluster, due: End) -> Result<bool, Fail> {
-    Ok(tells(alloc, cluster, due)? && writes(alloc, cluster, due)?)
+pub fn ends_so<R: Abort>(rt: &R, alloc: Global, cluster: &Cluster, due: End) -> bool {
+    tells(rt, alloc, cluster, due) && writes(rt, alloc, cluster, due)
 }

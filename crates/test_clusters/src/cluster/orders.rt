@@ -8,7 +8,7 @@ use pm_market::Act;
 use pm_plan::Plan;
 use std::alloc::Global;
 use std::process::Abort;
-use std::test::Fail;
+use std::slice::from_ref;
 
 /// Whose acts are made first: those of the lowest node that has one, of the highest, or of each node in turn.
 #[derive(Clone, Copy, Debug, PartialEq, Eq)]
@@ -18,79 +18,84 @@ enum Order {
     RoundRobin,
 }
 
+/// The place of the act that is tried at this turn.
+fn place_of(order: Order, turn: u32, many: u32) -> u32 {
+    if order == Order::HighestFirst {
+        many.saturating_sub(1).saturating_sub(turn)
+    } else {
+        turn
+    }
+}
+
 /// Tries each act once, but of the turns of all nodes only up to the first that is legal; whether one was.
-fn try_acts(cluster: &mut Cluster, order: Order) -> Result<bool, Fail> {
+fn try_acts<R: Abort>(rt: &R, cluster: &mut Cluster, order: Order) -> bool {
     let many = act_count(cluster);
     let mut moved = false;
-    for place in 0..many {
-        let place = if order == Order::HighestFirst {
-            many - 1 - place
-        } else {
-            place
-        };
-        if make(cluster, act_at(place))?.is_some() {
+    for turn in 0..many {
+        if make(rt, cluster, act_at(place_of(order, turn, many))).is_some() {
             moved = true;
             if order != Order::RoundRobin {
-                return Ok(true);
+                return true;
             }
         }
     }
-    Ok(moved)
+    moved
 }
 
 /// Makes acts until no act is legal.
-fn settle(cluster: &mut Cluster, order: Order) -> Result<(), Fail> {
+fn settle<R: Abort>(rt: &R, cluster: &mut Cluster, order: Order) {
     for _turn in 0..10_000u32 {
-        if !try_acts(cluster, order)? {
-            return Ok(());
+        if !try_acts(rt, cluster, order) {
+            return;
         }
     }
-    Err(Fail::from("there is always an act"))
+    panic!(rt; "there is always an act");
 }
 
-/// Whether a phase cannot be closed before its changes are made, ends so, and can then be closed, by the call or an act.
-fn runs_phase(alloc: Global, cluster: &mut Cluster, order: Order, due: End) -> Result<bool, Fail> {
-    let early = close(cluster);
-    settle(cluster, order)?;
-    let right = ends_so(alloc, cluster, due)?;
-    let closed = if order == Order::RoundRobin {
-        make(cluster, Act::Close)?.is_some()
+/// Closes a phase, by an act or the call; whether it could be closed.
+fn closes<R: Abort>(rt: &R, cluster: &mut Cluster, order: Order) -> bool {
+    if order == Order::RoundRobin {
+        make(rt, cluster, Act::Close).is_some()
     } else {
         close(cluster)
-    };
-    Ok(!early && right && closed)
+    }
+}
+
+/// Whether a phase cannot be closed before its changes are made, ends so, and can then be closed.
+fn runs_phase<R: Abort>(
+    rt: &R,
+    alloc: Global,
+    cluster: &mut Cluster,
+    order: Order,
+    due: End,
+) -> bool {
+    let early = close(cluster);
+    settle(rt, cluster, order);
+    !early && ends_so(rt, alloc, cluster, due) && closes(rt, cluster, order)
 }
 
 /// The place of the first phase that ends otherwise.
-fn first_wrong(
-    alloc: Global,
-    plan: &Plan,
-    order: Order,
-    ends: &[End],
-) -> Result<Option<usize>, Fail> {
-    let mut cluster = open(alloc, plan)?;
-    first_wrong_of(alloc, &mut cluster, order, ends)
-}
-
-fn first_wrong_of(
+fn first_wrong<R: Abort>(
+    rt: &R,
     alloc: Global,
     cluster: &mut Cluster,
     order: Order,
     ends: &[End],
-) -> Result<Option<usize>, Fail> {
+) -> Option<usize> {
     for (place, due) in ends.iter().enumerate() {
-        if !runs_phase(alloc, cluster, order, *due)? {
-            return Ok(Some(place));
+        if !runs_phase(rt, alloc, cluster, order, *due) {
+            return Some(place);
         }
     }
-    Ok(None)
+    None
 }
 
 const ORDERS: &[Order] = &[Order::LowestFirst, Order::HighestFirst, Order::RoundRobin];
 
 /// The two loads rest from step 6 on; the device would take 300 watts where the whole balances; it would deliver 150 there.
-const PARTS: [(&str, End); 3] = [
+const PARTS: &[(&str, &str, End)] = &[
     (
+        "ceiling",
         CEILING,
         End {
             at: (0, 0, 0),
@@ -99,6 +104,7 @@ const PARTS: [(&str, End); 3] = [
         },
     ),
     (
+        "floor",
         FLOOR,
         End {
             at: (0, 0, 0),
@@ -107,6 +113,7 @@ const PARTS: [(&str, End); 3] = [
         },
     ),
     (
+        "both sides",
         BOTH_SIDES,
         End {
             at: (9, 9, 300),
@@ -116,38 +123,35 @@ const PARTS: [(&str, End); 3] = [
     ),
 ];
 
-/// The phases of a plan have these ends in each order; the part is named if one has not.
-fn ends_are<R: Abort>(
+/// The phases of a plan have these ends in an order.
+fn ends_in_order_are<R: Abort>(
     rt: &R,
     alloc: Global,
-    part: usize,
+    name: &str,
     plan: &Plan,
+    order: Order,
     ends: &[End],
-) -> Result<(), Fail> {
-    for order in ORDERS {
-        let wrong = first_wrong(alloc, plan, *order, ends)?;
-        same(rt, (part, *order), wrong, None);
-    }
-    Ok(())
+) {
+    let wrong = first_wrong(rt, alloc, &mut open(rt, alloc, plan), order, ends);
+    same(rt, (name, order), wrong, None);
 }
 
-fn ends_of_file_are<R: Abort>(
-    rt: &R,
-    alloc: Global,
-    part: usize,
-    file: &str,
-    ends: &[End],
-) -> Result<(), Fail> {
-    let plan = plan_of(alloc, file)?;
-    ends_are(rt, alloc, part, &plan, ends)
+/// The phases of a plan have these ends in each order.
+fn ends_are<R: Abort>(rt: &R, alloc: Global, name: &str, plan: &Plan, ends: &[End]) {
+    for order in ORDERS {
+        ends_in_order_are(rt, alloc, name, plan, *order, ends);
+    }
+}
+
+fn ends_of_file_are<R: Abort>(rt: &R, alloc: Global, name: &str, file: &str, ends: &[End]) {
+    ends_are(rt, alloc, name, &plan_of(rt, alloc, file), ends);
 }
 
 #[test]
-fn a_limited_part_keeps_to_its_limits_in_each_order(rt: HostRuntime) -> Result<(), Fail> {
-    for (part, (file, end)) in PARTS.iter().enumerate() {
-        ends_of_file_are(&rt, rt.alloc(), part, *file, &[*end])?;
+fn a_limited_part_keeps_to_its_limits_in_each_order(rt: HostRuntime) {
+    for part in PARTS {
+        ends_of_file_are(&rt, rt.alloc(), part.0, part.1, from_ref(&part.2));
     }
-    Ok(())
 }
 
 const VILLAGE_ENDS: [End; 5] = [
@@ -220,6 +224,6 @@ const VILLAGE_ENDS: [End; 5] = [
 ];
 
 #[test]
-fn a_village_comes_to_its_ends_in_each_order(rt: HostRuntime) -> Result<(), Fail> {
-    ends_of_file_are(&rt, rt.alloc(), 0, VILLAGE, &VILLAGE_ENDS)
+fn a_village_comes_to_its_ends_in_each_order(rt: HostRuntime) {
+    ends_of_file_are(&rt, rt.alloc(), "village", VILLAGE, &VILLAGE_ENDS);
 }

@@ -9,7 +9,6 @@ use pm_market::{Act, Journal, Line};
 use pm_plan::Plan;
 use std::alloc::Global;
 use std::process::Abort;
-use std::test::Fail;
 
 /// A row of a script.
 #[derive(Clone, Copy)]
@@ -35,22 +34,22 @@ enum Row {
 }
 
 /// Step, number and index of the price that a device holds.
-fn price_of(cluster: &Cluster, device: u32) -> Result<Option<(u32, u32, u32)>, Fail> {
-    Ok(match held(cluster, device)? {
+fn price_of<R: Abort>(rt: &R, cluster: &Cluster, device: u32) -> Option<(u32, u32, u32)> {
+    match held(rt, cluster, device) {
         None => None,
         Some(price) => Some((price.step, price.number, price.index)),
-    })
+    }
 }
 
 /// Whether each of these devices holds a price of this step and number.
-fn all_hold(cluster: &Cluster, first: u32, last: u32, due: (u32, u32)) -> Result<bool, Fail> {
+fn all_hold<R: Abort>(rt: &R, cluster: &Cluster, first: u32, last: u32, due: (u32, u32)) -> bool {
     for device in first..last {
-        match price_of(cluster, device)? {
+        match price_of(rt, cluster, device) {
             Some((step, number, _)) if (step, number) == due => {}
-            _ => return Ok(false),
+            _ => return false,
         }
     }
-    Ok(true)
+    true
 }
 
 /// The auctioneer's price, and the first step at which its sum is not positive.
@@ -60,44 +59,43 @@ fn standing(cluster: &Cluster) -> (i64, usize) {
     (cluster.price(), step)
 }
 
-/// Whether an act makes the move of this line, or no move if it is illegal.
-fn makes(cluster: &mut Cluster, act: Act, due: Option<Line>) -> Result<bool, Fail> {
-    Ok(make(cluster, act)? == due)
-}
-
 /// Whether the lowest node that has a move is this one, and its step makes the move of this line.
-fn steps_so(cluster: &mut Cluster, node: u32, due: Line) -> Result<bool, Fail> {
-    Ok(next_node(cluster) == Some(node) && step(cluster, node)? == Some(due))
+fn steps_so<R: Abort>(rt: &R, cluster: &mut Cluster, node: u32, due: Line) -> bool {
+    next_node(cluster) == Some(node) && step(rt, cluster, node) == Some(due)
 }
 
-/// Whether a device holds this price.
-fn holds(cluster: &Cluster, device: u32, due: Option<(u32, u32, u32)>) -> Result<bool, Fail> {
-    Ok(price_of(cluster, device)? == due)
-}
-
-fn is_right(alloc: Global, cluster: &mut Cluster, row: Row) -> Result<bool, Fail> {
+fn is_right<R: Abort>(rt: &R, alloc: Global, cluster: &mut Cluster, row: Row) -> bool {
     match row {
-        Row::Makes(act, number, held) => { makes(cluster, act, Some(line_of(act, number, held))) }
-        Row::Steps(node, act, number, held) => steps_so(cluster, node, line_of(act, number, held)),
-        Row::Illegal(act) => makes(cluster, act, None),
-        Row::Next(node) => Ok(next_node(cluster) == Some(node)),
-        Row::Rest => rest(cluster),
-        Row::Holds(device, price) => holds(cluster, device, price),
-        Row::AllHold(first, last, price) => all_hold(cluster, first, last, price),
-        Row::Stands(price, step) => Ok(standing(cluster) == (price, step)),
-        Row::Ends(end) => ends_so(alloc, cluster, end),
-        Row::Closes(closes) => Ok(close(cluster) == closes),
+        Row::Makes(act, number, held) => {
+            make(rt, cluster, act) == Some(line_of(act, number, held))
+        }
+        Row::Steps(node, act, number, held) => {
+            steps_so(rt, cluster, node, line_of(act, number, held))
+        }
+        Row::Illegal(act) => make(rt, cluster, act).is_none(),
+        Row::Next(node) => next_node(cluster) == Some(node),
+        Row::Rest => rest(rt, cluster),
+        Row::Holds(device, price) => price_of(rt, cluster, device) == price,
+        Row::AllHold(first, last, price) => all_hold(rt, cluster, first, last, price),
+        Row::Stands(price, step) => standing(cluster) == (price, step),
+        Row::Ends(end) => ends_so(rt, alloc, cluster, end),
+        Row::Closes(closes) => close(cluster) == closes,
     }
 }
 
 /// The place of the first row that is wrong.
-fn first_wrong(alloc: Global, cluster: &mut Cluster, rows: &[Row]) -> Result<Option<usize>, Fail> {
+fn first_wrong<R: Abort>(
+    rt: &R,
+    alloc: Global,
+    cluster: &mut Cluster,
+    rows: &[Row],
+) -> Option<usize> {
     for (place, row) in rows.iter().enumerate() {
-        if !is_right(alloc, cluster, *row)? {
-            return Ok(Some(place));
+        if !is_right(rt, alloc, cluster, *row) {
+            return Some(place);
         }
     }
-    Ok(None)
+    None
 }
 
 const JOIN_1: Row = Row::Makes(Act::Change { device: 1 }, 1, None);
@@ -190,7 +188,7 @@ const OLD_NUMBERS: [Row; 13] = [
 ];
 
 /// What each script shows, its file and its rows.
-const SCRIPTS: [(&str, &str, &[Row]); 6] = [
+const SCRIPTS: &[(&str, &str, &[Row])] = &[
     ("a lone load", LONE, &LONE_LOAD),
     ("two clearings", TWO_BIDS, &TWO_CLEARINGS),
     ("a price of a former membership", REJOINS, &FORMER_PRICE),
@@ -200,68 +198,73 @@ const SCRIPTS: [(&str, &str, &[Row]); 6] = [
 ];
 
 /// A new cluster after these acts, and its journal.
-fn apply<'p>(alloc: Global, plan: &'p Plan, acts: &[Act]) -> Result<(Cluster<'p>, Journal), Fail> {
-    Ok(Cluster::apply(alloc, plan, acts)?)
+fn apply<'p, R: Abort>(
+    rt: &R,
+    alloc: Global,
+    plan: &'p Plan,
+    acts: &[Act],
+) -> (Cluster<'p>, Journal) {
+    Cluster::apply(alloc, plan, acts).expect(rt, "acts that are legal")
 }
 
 /// How many lines the journal of these acts on a new cluster has, and the one in this place.
-fn journal_of(
+fn journal_of<R: Abort>(
+    rt: &R,
     alloc: Global,
     plan: &Plan,
     acts: &[Act],
     place: usize,
-) -> Result<(usize, Option<Line>), Fail> {
-    let (_cluster, journal) = apply(alloc, plan, acts)?;
-    Ok((journal.len(), journal.get(place)))
+) -> (usize, Option<Line>) {
+    let (_cluster, journal) = apply(rt, alloc, plan, acts);
+    (journal.len(), journal.get(place))
 }
 
 /// The place of the first row that is wrong on a new cluster after these acts.
-fn first_wrong_after(
+fn first_wrong_after<R: Abort>(
+    rt: &R,
     alloc: Global,
     plan: &Plan,
     acts: &[Act],
     rows: &[Row],
-) -> Result<Option<usize>, Fail> {
-    let (mut cluster, _journal) = apply(alloc, plan, acts)?;
-    first_wrong(alloc, &mut cluster, rows)
+) -> Option<usize> {
+    let (mut cluster, _journal) = apply(rt, alloc, plan, acts);
+    first_wrong(rt, alloc, &mut cluster, rows)
 }
 
-/// The place of the first row that is wrong on a new cluster of this file.
-fn first_wrong_in(alloc: Global, file: &str, rows: &[Row]) -> Result<Option<usize>, Fail> {
-    let plan = plan_of(alloc, file)?;
-    first_wrong_after(alloc, &plan, &[], rows)
+/// The rows of a script are right on a new cluster of its file.
+fn script_is_right<R: Abort>(rt: &R, alloc: Global, script: &(&str, &str, &[Row])) {
+    let plan = plan_of(rt, alloc, script.1);
+    let wrong = first_wrong_after(rt, alloc, &plan, &[], script.2);
+    same(rt, script.0, wrong, None);
 }
 
 #[test]
-fn scripts_have_their_answers(rt: HostRuntime) -> Result<(), Fail> {
-    for (name, file, rows) in SCRIPTS.iter() {
-        let wrong = first_wrong_in(rt.alloc(), *file, *rows)?;
-        same(&rt, *name, wrong, None);
+fn scripts_have_their_answers(rt: HostRuntime) {
+    for script in SCRIPTS {
+        script_is_right(&rt, rt.alloc(), script);
     }
-    Ok(())
 }
 
 /// The place of the first of these acts that is illegal on a new cluster.
-fn refused_at(alloc: Global, plan: &Plan, acts: &[Act]) -> Result<Option<usize>, Fail> {
+fn refused_at<R: Abort>(rt: &R, alloc: Global, plan: &Plan, acts: &[Act]) -> Option<usize> {
     match Cluster::apply(alloc, plan, acts) {
-        Ok(_) => Ok(None),
-        Err(ApplyFault::Illegal { at }) => Ok(Some(at)),
-        Err(ApplyFault::NoMemory) => Err(Fail::from("no memory")),
+        Ok(_) => None,
+        Err(ApplyFault::Illegal { at }) => Some(at),
+        Err(ApplyFault::NoMemory) => panic!(rt; "no memory"),
     }
 }
 
 /// What a change of each of these devices brings about at concentrator 1, which is their parent.
-fn rounds(alloc: Global, devices: &[u32]) -> Result<Vec<Act>, Fail> {
+fn rounds<R: Abort>(rt: &R, alloc: Global, devices: &[u32]) -> Vec<Act> {
     let mut acts = Vec::new(alloc);
     for device in devices {
-        let (device, child) = (*device, *device);
-        acts.extend_from_slice(&[
-            Act::Change { device },
-            Act::Learn { child },
-            Act::Publish { node: 1 },
-        ])?;
+        acts.push(Act::Change { device: *device })
+            .expect(rt, "memory");
+        acts.push(Act::Learn { child: *device })
+            .expect(rt, "memory");
+        acts.push(Act::Publish { node: 1 }).expect(rt, "memory");
     }
-    Ok(acts)
+    acts
 }
 
 /// The price for number 8 opens the window again.
@@ -276,58 +279,68 @@ const OPENS: [Row; 6] = [
 
 /// After eight numbers that no price answered the ninth waits for a price.
 #[test]
-fn a_full_window_waits_for_a_price(rt: HostRuntime) -> Result<(), Fail> {
-    let plan = plan_of(rt.alloc(), NINE_CHANGES)?;
-    window_waits(&rt, rt.alloc(), &plan)
+fn a_full_window_waits_for_a_price(rt: HostRuntime) {
+    window_waits(&rt, rt.alloc(), &plan_of(&rt, rt.alloc(), NINE_CHANGES));
 }
 
-fn window_waits<R: Abort>(rt: &R, alloc: Global, plan: &Plan) -> Result<(), Fail> {
-    let mut acts = rounds(alloc, &[2; 9])?;
-    let refused = refused_at(alloc, plan, &acts)?;
-    same(rt, "act", refused, Some(26));
+fn window_waits<R: Abort>(rt: &R, alloc: Global, plan: &Plan) {
+    let mut acts = rounds(rt, alloc, &[2; 9]);
+    same(rt, "act", refused_at(rt, alloc, plan, &acts), Some(26));
     acts.pop();
-    window_is_full(rt, alloc, plan, &acts)
+    window_is_full(rt, alloc, plan, &acts);
 }
 
-fn window_is_full<R: Abort>(rt: &R, alloc: Global, plan: &Plan, acts: &[Act]) -> Result<(), Fail> {
-    let wrong = first_wrong_after(alloc, plan, acts, &OPENS)?;
-    same(rt, "row", wrong, None);
+fn window_is_full<R: Abort>(rt: &R, alloc: Global, plan: &Plan, acts: &[Act]) {
+    let have = first_wrong_after(rt, alloc, plan, acts, &OPENS);
+    same(rt, "row", have, None);
     let last = line_of(Act::Learn { child: 2 }, 9, None);
-    let journal = journal_of(alloc, plan, acts, 25)?;
+    let journal = journal_of(rt, alloc, plan, acts, 25);
     same(rt, "length and last", journal, (26, Some(last)));
-    Ok(())
 }
 
 /// The window counts the concentrator's numbers, and not those of each child.
 #[test]
-fn nine_devices_share_one_window(rt: HostRuntime) -> Result<(), Fail> {
-    let plan = plan_of(rt.alloc(), NINE)?;
-    let refused = refused_of_nine(rt.alloc(), &plan)?;
-    same(&rt, "act", refused, Some(26));
-    Ok(())
+fn nine_devices_share_one_window(rt: HostRuntime) {
+    let plan = plan_of(&rt, rt.alloc(), NINE);
+    let have = refused_of_nine(&rt, rt.alloc(), &plan);
+    same(&rt, "act", have, Some(26));
 }
 
 /// The place of the first act that is illegal, if each of nine devices is heard of in turn.
-fn refused_of_nine(alloc: Global, plan: &Plan) -> Result<Option<usize>, Fail> {
-    let acts = rounds(alloc, &[2, 3, 4, 5, 6, 7, 8, 9, 10])?;
-    refused_at(alloc, plan, &acts)
+fn refused_of_nine<R: Abort>(rt: &R, alloc: Global, plan: &Plan) -> Option<usize> {
+    let acts = rounds(rt, alloc, &[2, 3, 4, 5, 6, 7, 8, 9, 10]);
+    refused_at(rt, alloc, plan, &acts)
+}
+
+/// A change of a device that both concentrators publish.
+fn published(device: u32) -> [Act; 5] {
+    [
+        Act::Change { device },
+        Act::Learn { child: device },
+        Act::Publish { node: 2 },
+        Act::Learn { child: 2 },
+        Act::Publish { node: 1 },
+    ]
 }
 
 /// Fills both windows, and lets each concentrator learn one bid more.
-fn filling(alloc: Global) -> Result<Vec<Act>, Fail> {
+fn filling<R: Abort>(rt: &R, alloc: Global) -> Vec<Act> {
     let mut acts = Vec::new(alloc);
-    for device in 3..13 {
-        acts.extend_from_slice(&[Act::Change { device }, Act::Learn { child: device }])?;
-        if device < 11 {
-            acts.extend_from_slice(&[
-                Act::Publish { node: 2 },
-                Act::Learn { child: 2 },
-                Act::Publish { node: 1 },
-            ])?;
-        }
+    for device in 3..11 {
+        acts.extend_from_slice(&published(device))
+            .expect(rt, "memory");
     }
-    Ok(acts)
+    acts.extend_from_slice(ONE_MORE_EACH).expect(rt, "memory");
+    acts
 }
+
+/// Changes of the last two devices, each learnt by its own parent.
+const ONE_MORE_EACH: &[Act] = &[
+    Act::Change { device: 11 },
+    Act::Learn { child: 11 },
+    Act::Change { device: 12 },
+    Act::Learn { child: 12 },
+];
 
 const COMES_TO_REST: [Row; 7] = [
     Row::Illegal(Act::Publish { node: 2 }),
@@ -356,14 +369,13 @@ const COMES_TO_REST: [Row; 7] = [
 
 /// The auctioneer has a move, and from it on all comes to rest.
 #[test]
-fn two_full_windows_come_to_rest(rt: HostRuntime) -> Result<(), Fail> {
-    let plan = plan_of(rt.alloc(), TWO_LEVELS)?;
-    let wrong = first_wrong_when_full(rt.alloc(), &plan)?;
-    same(&rt, "row", wrong, None);
-    Ok(())
+fn two_full_windows_come_to_rest(rt: HostRuntime) {
+    let plan = plan_of(&rt, rt.alloc(), TWO_LEVELS);
+    let have = first_wrong_when_full(&rt, rt.alloc(), &plan);
+    same(&rt, "row", have, None);
 }
 
-fn first_wrong_when_full(alloc: Global, plan: &Plan) -> Result<Option<usize>, Fail> {
-    let acts = filling(alloc)?;
-    first_wrong_after(alloc, plan, &acts, &COMES_TO_REST)
+fn first_wrong_when_full<R: Abort>(rt: &R, alloc: Global, plan: &Plan) -> Option<usize> {
+    let acts = filling(rt, alloc);
+    first_wrong_after(rt, alloc, plan, &acts, &COMES_TO_REST)
 }

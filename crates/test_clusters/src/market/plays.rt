@@ -1,37 +1,41 @@
 //! Small markets for tests, the moves that play them, and the moves that may be tried.
 
 use pm_market::{Market, Move};
-use std::alloc::{AllocError, Global};
+use std::alloc::Global;
+use std::process::Abort;
 
 /// A node: its parent, whether it is a device, and after which of its changes it is a member.
 pub type Node<'a> = (u32, bool, &'a [bool]);
 
 /// A market of nodes. It has one phase of all changes.
-pub fn market_of(alloc: Global, nodes: &[Node<'_>]) -> Result<Market, AllocError> {
+pub fn market_of<R: Abort>(rt: &R, alloc: Global, nodes: &[Node<'_>]) -> Market {
     let mut parents = Vec::new(alloc);
     let mut leaves = Vec::new(alloc);
     let mut members = Vec::new(alloc);
     let mut end = Vec::new(alloc);
-    for (parent, leaf, changes) in nodes {
-        parents.push(*parent)?;
-        leaves.push(*leaf)?;
-        end.push(u32::try_from(changes.len()).unwrap_or(0))?;
-        members.push(changes.to_vec(alloc)?)?;
+    for node in nodes {
+        parents.push(node.0).expect(rt, "memory");
+        leaves.push(node.1).expect(rt, "memory");
+        end.push(u32::try_from(node.2.len()).unwrap_or(0))
+            .expect(rt, "memory");
+        members
+            .push(node.2.to_vec(alloc).expect(rt, "memory"))
+            .expect(rt, "memory");
     }
     let mut ends = Vec::new(alloc);
-    ends.push(end)?;
-    Market::new(alloc, parents, leaves, members, ends)
+    ends.push(end).expect(rt, "memory");
+    Market::new(alloc, parents, leaves, members, ends).expect(rt, "memory")
 }
 
 /// Makes the moves up to the first that is not legal, and says its place; their number if all are legal.
-pub fn play(market: &mut Market, moves: &[Move]) -> Result<usize, AllocError> {
+pub fn play<R: Abort>(rt: &R, market: &mut Market, moves: &[Move]) -> usize {
     for (place, what) in moves.iter().enumerate() {
         if !market.is_legal(*what) {
-            return Ok(place);
+            return place;
         }
-        market.apply(*what)?;
+        market.apply(*what).expect(rt, "memory");
     }
-    Ok(moves.len())
+    moves.len()
 }
 
 /// Concentrator 1.
@@ -48,23 +52,36 @@ pub const NINE_DEVICES: &[Node] = &[
     GATHERS, DEVICE, DEVICE, DEVICE, DEVICE, DEVICE, DEVICE, DEVICE, DEVICE, DEVICE,
 ];
 
-/// Nine rounds of a change, a learning and a publishing: of the one device, else each of another.
-pub fn nine_rounds(alloc: Global, devices: u32) -> Result<Vec<Move>, AllocError> {
-    let mut moves = Vec::new(alloc);
-    for round in 1..10 {
-        let device = if devices == 1 { 2 } else { round + 1 };
-        let number = if devices == 1 { round } else { 1 };
-        let (child, node) = (device, 1);
-        moves.extend_from_slice(&[
-            Move::Change { device, number },
-            Move::Learn { child, number },
-            Move::Publish {
-                node,
-                number: round,
-            },
-        ])?;
+/// A change under this number, and its learning.
+fn learnt(device: u32, number: u32) -> [Move; 2] {
+    let child = device;
+    [
+        Move::Change { device, number },
+        Move::Learn { child, number },
+    ]
+}
+
+/// The change and the learning of a round: of the one device, else each of another.
+fn round_of(devices: u32, round: u32) -> [Move; 2] {
+    if devices == 1 {
+        learnt(2, round)
+    } else {
+        learnt(round.saturating_add(1), 1)
     }
-    Ok(moves)
+}
+
+/// Nine rounds of a change, a learning and a publishing.
+pub fn nine_rounds<R: Abort>(rt: &R, alloc: Global, devices: u32) -> Vec<Move> {
+    let mut moves = Vec::new(alloc);
+    for number in 1..10 {
+        moves
+            .extend_from_slice(&round_of(devices, number))
+            .expect(rt, "memory");
+        moves
+            .push(Move::Publish { node: 1, number })
+            .expect(rt, "memory");
+    }
+    moves
 }
 
 /// A device of one change under concentrator 2.
@@ -87,24 +104,28 @@ pub const TWO_LEVELS: &[Node] = &[
 ];
 
 /// The moves that fill both windows there.
-pub fn two_windows(alloc: Global) -> Result<Vec<Move>, AllocError> {
+pub fn two_windows<R: Abort>(rt: &R, alloc: Global) -> Vec<Move> {
     let mut moves = Vec::new(alloc);
-    for device in 3..13 {
-        let (child, number) = (device, 1);
-        moves.extend_from_slice(&[
-            Move::Change { device, number },
-            Move::Learn { child, number },
-        ])?;
-        if device < 11 {
-            let (child, number) = (2, device - 2);
-            moves.extend_from_slice(&[
-                Move::Publish { node: 2, number },
-                Move::Learn { child, number },
-                Move::Publish { node: 1, number },
-            ])?;
-        }
+    for number in 1..9 {
+        moves
+            .extend_from_slice(&learnt(number + 2, 1))
+            .expect(rt, "memory");
+        moves
+            .extend_from_slice(&published(number))
+            .expect(rt, "memory");
     }
-    Ok(moves)
+    moves.extend_from_slice(&learnt(11, 1)).expect(rt, "memory");
+    moves.extend_from_slice(&learnt(12, 1)).expect(rt, "memory");
+    moves
+}
+
+/// What both concentrators then do under a number.
+fn published(number: u32) -> [Move; 3] {
+    [
+        Move::Publish { node: 2, number },
+        Move::Learn { child: 2, number },
+        Move::Publish { node: 1, number },
+    ]
 }
 
 /// The greatest number that a candidate has.
@@ -152,32 +173,58 @@ fn leave_one(path: &mut Vec<Move>) -> Option<usize> {
 
 /// How many journals to which no legal move can be added there are, by a walk over all of them. None if one of
 /// them is not complete, or is longer than the bound.
-pub fn count_journals(
+pub fn count_journals<R: Abort>(
+    rt: &R,
     alloc: Global,
     nodes: &[Node<'_>],
     bound: usize,
-) -> Result<Option<usize>, AllocError> {
+) -> Option<usize> {
     let mut path = Vec::new(alloc);
     let mut from = 0;
     let mut journals = 0usize;
     for _turn in 0..1_000_000u32 {
-        let mut market = market_of(alloc, nodes)?;
-        let made = play(&mut market, &path)?;
-        if let Some(what) = first_legal(&market, from) {
-            path.push(what)?;
-            from = 0;
-            continue;
-        }
-        if from == 0 {
-            if made != path.len() || made > bound || !market.is_complete() {
-                return Ok(None);
+        match next_of(rt, alloc, nodes, &path, from) {
+            Next::Longer(what) => {
+                path.push(what).expect(rt, "memory");
+                from = 0;
+                continue;
             }
-            journals = journals.saturating_add(1);
+            Next::Ends(made) if from == 0 && made > bound => return None,
+            Next::Ends(_) if from == 0 => journals = journals.saturating_add(1),
+            Next::Stuck if from == 0 => return None,
+            _ => {}
         }
         match leave_one(&mut path) {
             Some(next) => from = next,
-            None => return Ok(Some(journals)),
+            None => return Some(journals),
         }
     }
-    Ok(None)
+    None
+}
+
+/// What there is behind a path.
+#[derive(Clone, Copy)]
+enum Next {
+    /// The first candidate, at the place that is asked for or after it, is this one.
+    Longer(Move),
+    /// No candidate is left, and the path is complete, of so many moves.
+    Ends(usize),
+    /// No candidate is left, and the path is not complete, or not all of its moves are legal.
+    Stuck,
+}
+
+fn next_of<R: Abort>(
+    rt: &R,
+    alloc: Global,
+    nodes: &[Node<'_>],
+    path: &[Move],
+    from: usize,
+) -> Next {
+    let mut market = market_of(rt, alloc, nodes);
+    let made = play(rt, &mut market, path);
+    match first_legal(&market, from) {
+        Some(what) => Next::Longer(what),
+        None if made == path.len() && market.is_complete() => Next::Ends(made),
+        None => Next::Stuck,
+    }
 }

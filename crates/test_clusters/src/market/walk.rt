@@ -2,8 +2,9 @@
 
 use super::plays::{CANDIDATES, Node, candidate, market_of, play};
 use pm_market::{Market, Move};
-use std::alloc::{AllocError, Global};
+use std::alloc::Global;
 use std::collections::BTreeMap;
+use std::process::Abort;
 
 /// The greatest number that four changes can bring about of a node. A cut that is published or cleared contains at
 /// least one change more than the one before it. The candidates go up to the number above it.
@@ -80,23 +81,23 @@ fn note_move(tables: &mut [u32], what: Move) {
 }
 
 /// The tables of the state after the moves of a path. Two paths with the same tables lead to the same state.
-fn tables_of(alloc: Global, path: &[Move]) -> Result<Vec<u32>, AllocError> {
-    let mut tables = vec![in alloc; 0; place(ROWS, 0)]?;
+fn tables_of<R: Abort>(rt: &R, alloc: Global, path: &[Move]) -> Vec<u32> {
+    let mut tables = vec![in alloc; 0; place(ROWS, 0)].expect(rt, "memory");
     for what in path {
         note_move(&mut tables, *what);
     }
-    Ok(tables)
+    tables
 }
 
 /// The candidates that are legal.
-fn legal_moves(alloc: Global, market: &Market) -> Result<Vec<Move>, AllocError> {
+fn legal_moves<R: Abort>(rt: &R, alloc: Global, market: &Market) -> Vec<Move> {
     let mut legal = Vec::new(alloc);
     for at in 0..CANDIDATES {
         if market.is_legal(candidate(at)) {
-            legal.push(candidate(at))?;
+            legal.push(candidate(at)).expect(rt, "memory");
         }
     }
-    Ok(legal)
+    legal
 }
 
 /// The number of a move.
@@ -122,66 +123,83 @@ fn are_sound(legal: &[Move]) -> bool {
 
 /// The candidates that are legal after the moves of a path. None if a move of the path is not legal, or if they are not
 /// as `are_sound` says. None also if no move is legal in a state that is not complete, or some move is in a complete one.
-fn moves_after(
+fn moves_after<R: Abort>(
+    rt: &R,
     alloc: Global,
     nodes: &[Node<'_>],
     path: &[Move],
-) -> Result<Option<Vec<Move>>, AllocError> {
-    let mut market = market_of(alloc, nodes)?;
-    let made = play(&mut market, path)?;
-    let legal = legal_moves(alloc, &market)?;
+) -> Option<Vec<Move>> {
+    let mut market = market_of(rt, alloc, nodes);
+    let made = play(rt, &mut market, path);
+    let legal = legal_moves(rt, alloc, &market);
     let is_sound = made == path.len()
         && are_sound(&legal)
         && legal.is_empty() == market.is_complete();
-    Ok(if is_sound { Some(legal) } else { None })
+    if is_sound { Some(legal) } else { None }
 }
 
-/// Adds the states to which a legal move leads from the end of a path.
-fn add_next(
+/// Adds a state with a path to it.
+fn put<R: Abort>(rt: &R, level: &mut Level, tables: Vec<u32>, path: Vec<Move>) {
+    let put: Result<_, _> = level.insert(tables, path);
+    put.expect(rt, "memory");
+}
+
+/// A path with one more move.
+fn longer_by<R: Abort>(rt: &R, alloc: Global, path: &[Move], what: Move) -> Vec<Move> {
+    let mut longer = path.to_vec(alloc).expect(rt, "memory");
+    longer.push(what).expect(rt, "memory");
+    longer
+}
+
+/// Adds the states to which a legal move leads from the end of a path; whether `moves_after` gives the moves.
+fn add_next<R: Abort>(
+    rt: &R,
     alloc: Global,
     next: &mut Level,
+    nodes: &[Node<'_>],
     path: &[Move],
-    legal: &[Move],
-) -> Result<(), AllocError> {
-    for what in legal {
-        let mut longer = path.to_vec(alloc)?;
-        longer.push(*what)?;
-        next.insert(tables_of(alloc, &longer)?, longer)?;
+) -> bool {
+    let Some(legal) = moves_after(rt, alloc, nodes, path) else {
+        return false;
+    };
+    for what in &legal {
+        let longer = longer_by(rt, alloc, path, *what);
+        put(rt, next, tables_of(rt, alloc, &longer), longer);
     }
-    Ok(())
+    true
 }
 
 /// The states to which one more move leads; None if `moves_after` gives None for a state of this level.
-fn next_level(
-    alloc: Global,
-    nodes: &[Node<'_>],
-    level: Level,
-) -> Result<Option<Level>, AllocError> {
+fn next_level<R: Abort>(rt: &R, alloc: Global, nodes: &[Node<'_>], level: &Level) -> Option<Level> {
     let mut next = BTreeMap::new(alloc);
-    for path in level.into_values() {
-        match moves_after(alloc, nodes, &path)? {
-            Some(legal) => add_next(alloc, &mut next, &path, &legal)?,
-            None => return Ok(None),
+    for path in level.values() {
+        if !add_next(rt, alloc, &mut next, nodes, path) {
+            return None;
         }
     }
-    Ok(Some(next))
+    Some(next)
+}
+
+/// Whether a path leads to a state of the level, by as many moves.
+fn is_met<R: Abort>(rt: &R, alloc: Global, level: &Level, made: usize, path: &[Move]) -> bool {
+    path.len() == made && level.contains_key(&tables_of(rt, alloc, path))
 }
 
 /// How many of the paths lead to a state of the level, by as many moves.
-fn count_met(
+fn count_met<R: Abort>(
+    rt: &R,
     alloc: Global,
     level: &Level,
     made: usize,
     paths: &[&[Move]],
-) -> Result<usize, AllocError> {
+) -> usize {
     let mut met = 0usize;
     for path in paths {
-        let tables = tables_of(alloc, path)?;
-        if path.len() == made && level.contains_key(&tables) {
+        if is_met(rt, alloc, level, made, path) {
             met = met.saturating_add(1);
         }
     }
-    Ok(met)
+    met
 }
 
 /// The number of moves of the longest journal of concentrator 1 over the devices 2 and 3, with two changes each in one
@@ -191,22 +209,23 @@ fn count_met(
 /// after so many moves to those after one more, by every legal move of each. So it meets every state that a journal
 /// reaches, once for each number of moves that leads to it. Every journal ends in the level of its length. None if
 /// `moves_after` gives None for a state, or a journal has more moves than the bound.
-pub fn longest_journal(
+pub fn longest_journal<R: Abort>(
+    rt: &R,
     alloc: Global,
     nodes: &[Node<'_>],
     bound: usize,
     paths: &[&[Move]],
-) -> Result<Option<(usize, usize)>, AllocError> {
+) -> Option<(usize, usize)> {
     let mut level = BTreeMap::new(alloc);
-    level.insert(tables_of(alloc, &[])?, Vec::new(alloc))?;
+    put(rt, &mut level, tables_of(rt, alloc, &[]), Vec::new(alloc));
     let mut met = 0usize;
     for made in 0..=bound {
-        met = met.saturating_add(count_met(alloc, &level, made, paths)?);
-        match next_level(alloc, nodes, level)? {
-            Some(next) if next.is_empty() => return Ok(Some((made, met))),
+        met = met.saturating_add(count_met(rt, alloc, &level, made, paths));
+        match next_level(rt, alloc, nodes, &level) {
+            Some(next) if next.is_empty() => return Some((made, met)),
             Some(next) => level = next,
-            None => return Ok(None),
+            None => return None,
         }
     }
-    Ok(None)
+    None
 }
