@@ -4,6 +4,8 @@
 #![tactic(auto)]
 
 #[cfg(test)]
+mod holds;
+#[cfg(test)]
 mod live;
 #[cfg(test)]
 mod top;

@@ -2,12 +2,12 @@
 
 ghost use Rattle.std.specs.Prelude.{◌≤◌};
 
+use crate::holds::holds;
 use pm_io::{MemSink, MemSource, SystemMemory};
 use pm_live::{Ending, live};
 use pm_wire::Served;
-use std::alloc::{AllocError, Global};
+use std::alloc::Global;
 use std::process::Abort;
-use std::test::Fail;
 
 const DONE: Ending = Ending::Served(Served::Done);
 
@@ -245,88 +245,66 @@ const ROWS: &[Row] = &[
 ];
 
 /// The bytes of the parts.
-fn joined(alloc: Global, parts: &[&[u8]]) -> Result<Vec<u8>, AllocError> {
+fn joined<R: Abort>(rt: &R, alloc: Global, parts: &[&[u8]]) -> Vec<u8> {
     let mut bytes = Vec::new(alloc);
     for part in parts {
-        bytes.extend_from_slice(part)?;
+        bytes.extend_from_slice(part).expect(rt, "memory");
     }
-    Ok(bytes)
+    bytes
 }
 
 /// The words of a line, as arguments.
-fn words_of(alloc: Global, line: &str) -> Result<Vec<String>, AllocError> {
+fn words_of<R: Abort>(rt: &R, alloc: Global, line: &str) -> Vec<String> {
     let mut words = Vec::new(alloc);
     for word in line.split_whitespace() {
-        words.push(String::from_str(alloc, word)?)?;
+        let word = String::from_str(alloc, word).expect(rt, "memory");
+        words.push(word).expect(rt, "memory");
     }
-    Ok(words)
+    words
 }
 
 /// How a call of this line ends.
-fn ended_on(
+fn ended_on<R: Abort>(
+    rt: &R,
     alloc: Global,
     line: &str,
     source: &mut MemSource,
     sink: &mut MemSink,
-) -> Result<Ending, AllocError> {
-    let words = words_of(alloc, line)?;
-    let mut memory = SystemMemory::new(alloc);
-    Ok(live(alloc, &mut memory, &words, source, sink))
+) -> Ending {
+    let words = words_of(rt, alloc, line);
+    live(alloc, &mut SystemMemory::new(alloc), &words, source, sink)
 }
 
-/// How a call of this line on an input in pieces of so many bytes ends.
-fn ended(
-    alloc: Global,
-    line: &str,
-    input: &[&[u8]],
-    piece: usize,
-    sink: &mut MemSink,
-) -> Result<Ending, AllocError>
+/// How the call of a row on its input in pieces of so many bytes ends.
+fn ended<R: Abort>(rt: &R, alloc: Global, row: &Row, piece: usize, sink: &mut MemSink) -> Ending
     requires { 1 ≤ piece }
 {
-    let mut source = MemSource::new(joined(alloc, input)?, piece, Vec::new(alloc));
-    ended_on(alloc, line, &mut source, sink)
-}
-
-/// Whether the bytes are those of the parts.
-fn are_joined(alloc: Global, bytes: &[u8], parts: &[&[u8]]) -> Result<bool, AllocError> {
-    Ok(joined(alloc, parts)?.as_slice() == bytes)
+    let mut source = MemSource::new(joined(rt, alloc, row.1), piece, Vec::new(alloc));
+    ended_on(rt, alloc, row.0, &mut source, sink)
 }
 
 /// A call on an input in pieces of so many bytes ends as its row says, and has written what is due.
-fn must_serve_into<R: Abort>(
-    rt: &R,
-    alloc: Global,
-    row: &Row,
-    piece: usize,
-    sink: &mut MemSink,
-) -> Result<(), Fail>
+fn must_serve<R: Abort>(rt: &R, alloc: Global, row: &Row, piece: usize)
     requires { 1 ≤ piece }
 {
-    let (line, input, ending, due) = *row;
-    let ended = ended(alloc, line, input, piece, sink)?;
-    let written = are_joined(alloc, sink.bytes(), due)?;
-    assert_eq!(rt;
-        (ended, written),
-        (ending, true),
-        "at {line}, in pieces of {piece}"
-    );
-    Ok(())
+    let room = 1_048_576;
+    let mut sink = MemSink::new(alloc, room, piece, Vec::new(alloc)).expect(rt, "memory");
+    let ended = ended(rt, alloc, row, piece, &mut sink);
+    holds(rt, (row.0, piece, ended), ended == row.2);
+    let due = joined(rt, alloc, row.3);
+    let right = sink.bytes() == due.as_slice();
+    holds(rt, (row.0, piece, "written"), right);
 }
 
-fn must_serve<R: Abort>(rt: &R, alloc: Global, row: &Row, piece: usize) -> Result<(), Fail>
-    requires { 1 ≤ piece }
-{
-    let mut sink = MemSink::new(alloc, 1_048_576, piece, Vec::new(alloc))?;
-    must_serve_into(rt, alloc, row, piece, &mut sink)
+fn must_serve_in_pieces<R: Abort>(rt: &R, alloc: Global, row: &Row) {
+    must_serve(rt, alloc, row, 1);
+    must_serve(rt, alloc, row, 7);
+    must_serve(rt, alloc, row, 100);
 }
 
 #[test]
-fn each_node_answers_its_stream(rt: HostRuntime) -> Result<(), Fail> {
+fn each_node_answers_its_stream(rt: HostRuntime) {
     for row in ROWS {
-        must_serve(&rt, rt.alloc(), row, 1)?;
-        must_serve(&rt, rt.alloc(), row, 7)?;
-        must_serve(&rt, rt.alloc(), row, 100)?;
+        must_serve_in_pieces(&rt, rt.alloc(), row);
     }
-    Ok(())
 }

@@ -1,14 +1,14 @@
 //! Tests of the whole program: each command, a fault at each read and write, and threads that gates hold back.
 
+use crate::holds::holds;
 use counted::Counted;
 use pm_io::{MemSink, MemSource};
 use pm_nodes::{Gate, OpenGate};
 use pm_top::{Status, market};
-use std::alloc::{AllocError, Global};
+use std::alloc::Global;
 use std::process::Abort;
 use std::str::from_utf8;
 use std::sync::Wait;
-use std::test::Fail;
 use std::thread::Threads;
 
 mod counted;
@@ -55,17 +55,18 @@ const PRICE: &str = "\x05\0\x01\0\0\0\x01\0\0\0\x01\0\x01";
 const FAULT: &str = "\x08\0\0\0\0\0\0\0\0";
 
 /// The words of a line, as arguments.
-fn arguments_of(alloc: Global, line: &str) -> Result<Vec<String>, AllocError> {
+fn arguments_of<R: Abort>(rt: &R, alloc: Global, line: &str) -> Vec<String> {
     let mut arguments = Vec::new(alloc);
     for argument in line.split_whitespace() {
-        arguments.push(String::from_str(alloc, argument)?)?;
+        let argument = String::from_str(alloc, argument).expect(rt, "memory");
+        arguments.push(argument).expect(rt, "memory");
     }
-    Ok(arguments)
+    arguments
 }
 
 /// What surrounds a call: how many bytes a read gives and a write takes at most, and the read and the write that fail, by their
 /// numbers; 0 if none does.
-#[derive(Clone, Copy)]
+#[derive(Clone, Copy, Debug)]
 struct Around {
     read: usize,
     write: usize,
@@ -113,73 +114,88 @@ struct Outcome {
 }
 
 /// A source of these bytes.
-fn source_of(
-    alloc: Global,
-    input: &[u8],
-    around: Around,
-) -> Result<Counted<MemSource>, AllocError> {
-    let fails = Vec::from_array(alloc, [around.bad_read])?;
-    Ok(Counted::new(MemSource::new(input.to_vec(alloc)?, around.read.max(1), fails)))
+fn source_of<R: Abort>(rt: &R, alloc: Global, input: &[u8], around: Around) -> Counted<MemSource> {
+    let fails = Vec::from_array(alloc, [around.bad_read]).expect(rt, "memory");
+    let input = input.to_vec(alloc).expect(rt, "memory");
+    Counted::new(MemSource::new(input, around.read.max(1), fails))
 }
 
 /// A sink that holds nothing so far.
-fn sink_of(alloc: Global, around: Around) -> Result<Counted<MemSink>, AllocError> {
-    let fails = Vec::from_array(alloc, [around.bad_write])?;
-    Ok(Counted::new(MemSink::new(alloc, 1_048_576, around.write.max(1), fails)?))
+fn sink_of<R: Abort>(rt: &R, alloc: Global, around: Around) -> Counted<MemSink> {
+    let fails = Vec::from_array(alloc, [around.bad_write]).expect(rt, "memory");
+    let sink = MemSink::new(alloc, 1_048_576, around.write.max(1), fails);
+    Counted::new(sink.expect(rt, "memory"))
 }
 
 /// The status of the call of these arguments.
-fn status_of<R: Threads + Wait + Sync, G: Gate>(
+fn status_of<R: Threads + Wait + Sync + Abort, G: Gate>(
     rt: &R,
     alloc: Global,
     line: &str,
     source: &mut Counted<MemSource>,
     sink: &mut Counted<MemSink>,
     gate: &G,
-) -> Result<Status, AllocError> {
-    let arguments = arguments_of(alloc, line)?;
-    Ok(market(rt, alloc, &arguments, source, sink, gate))
+) -> Status {
+    market(
+        rt,
+        alloc,
+        &arguments_of(rt, alloc, line),
+        source,
+        sink,
+        gate,
+    )
 }
 
 /// What the call of these arguments comes to.
-fn called<R: Threads + Wait + Sync, G: Gate>(
+fn called<R: Threads + Wait + Sync + Abort, G: Gate>(
     rt: &R,
     alloc: Global,
     line: &str,
     input: &[u8],
     around: Around,
     gate: &G,
-) -> Result<Outcome, Fail> {
-    let mut source = source_of(alloc, input, around)?;
-    let mut sink = sink_of(alloc, around)?;
-    let status = status_of(rt, alloc, line, &mut source, &mut sink, gate)?;
-    Ok(Outcome {
+) -> Outcome {
+    let mut source = source_of(rt, alloc, input, around);
+    let mut sink = sink_of(rt, alloc, around);
+    let status = status_of(rt, alloc, line, &mut source, &mut sink, gate);
+    Outcome {
         status,
-        text: sink.inner.bytes().to_vec(alloc)?,
+        text: sink.inner.bytes().to_vec(alloc).expect(rt, "memory"),
         reads: source.calls,
         writes: sink.calls,
-    })
+    }
 }
 
 /// A file in an envelope, with this behind it.
-fn envelope(alloc: Global, file: &str, rest: &str) -> Result<String, AllocError> {
+fn envelope<R: Abort>(rt: &R, alloc: Global, file: &str, rest: &str) -> String {
     let length = file.len();
-    Ok(format!(in alloc; "{length}\n{file}{rest}")?)
+    format!(in alloc; "{length}\n{file}{rest}").expect(rt, "memory")
 }
 
-/// Whether `check` finds a trace of a file valid, with the number of moves that its last line tells.
-fn is_legal<R: Threads + Wait + Sync>(
+/// A trace of a file in an envelope.
+fn envelope_of<R: Abort>(rt: &R, alloc: Global, file: &[u8], trace: &[u8]) -> String {
+    let file = from_utf8(file).expect(rt, "a text");
+    envelope(rt, alloc, file, from_utf8(trace).expect(rt, "a text"))
+}
+
+/// Whether an outcome of `check` is that a trace is valid, with the number of moves that its last line tells.
+fn is_valid(judged: &Outcome, trace: &[u8]) -> bool {
+    match judged.text.strip_prefix(b"valid ") {
+        Some(moves) => judged.status == Status::Done && trace.ends_with(moves),
+        None => false,
+    }
+}
+
+/// Whether `check` finds a trace of a file so.
+fn is_legal<R: Threads + Wait + Sync + Abort>(
     rt: &R,
     alloc: Global,
     file: &[u8],
     trace: &[u8],
-) -> Result<bool, Fail> {
-    let input = envelope(alloc, from_utf8(file)?, from_utf8(trace)?)?;
-    let judged = called(rt, alloc, "check", input.as_bytes(), PIECES, &OpenGate)?;
-    match judged.text.strip_prefix(b"valid ") {
-        Some(moves) => Ok(judged.status == Status::Done && trace.ends_with(moves)),
-        None => Ok(false),
-    }
+) -> bool {
+    let input = envelope_of(rt, alloc, file, trace);
+    let judged = called(rt, alloc, "check", input.as_bytes(), PIECES, &OpenGate);
+    is_valid(&judged, trace)
 }
 
 /// A call: its arguments, its input, the read and the write that fail, or 0 if none does, and what it answers and writes.
@@ -216,32 +232,24 @@ const ROWS: &[Row] = &[
 /// A call comes to the status of its row, and has written the text, or a part of it if a write failed.
 fn must_be_of<R: Abort>(rt: &R, outcome: &Outcome, row: &Row) {
     let (line, _, bad_read, bad_write, status, text) = *row;
+    let case = (line, bad_read, bad_write, outcome.status);
     let is_begun = text.as_bytes().starts_with(&outcome.text);
     let is_whole = outcome.text.len() == text.len();
-    assert_eq!(rt;
-        (outcome.status, is_begun, is_whole),
-        (status, true, status != Status::WriteFault),
-        "at {line}, read {bad_read}, write {bad_write}"
-    );
+    holds(rt, case, outcome.status == status && is_begun);
+    let right = is_whole == (status != Status::WriteFault);
+    holds(rt, (case, "whole"), right);
 }
 
 /// A call answers as its row says.
-fn must_answer<R: Threads + Wait + Sync + Abort>(
-    rt: &R,
-    alloc: Global,
-    row: &Row,
-) -> Result<(), Fail> {
-    let (line, input, bad_read, bad_write, _, _) = *row;
-    let around = PIECES.without_read(bad_read).without_write(bad_write);
-    let outcome = called(rt, alloc, line, input.as_bytes(), around, &OpenGate)?;
+fn must_answer<R: Threads + Wait + Sync + Abort>(rt: &R, alloc: Global, row: &Row) {
+    let around = PIECES.without_read(row.2).without_write(row.3);
+    let outcome = called(rt, alloc, row.0, row.1.as_bytes(), around, &OpenGate);
     must_be_of(rt, &outcome, row);
-    Ok(())
 }
 
 #[test]
-fn each_fault_has_its_answer(rt: HostRuntime) -> Result<(), Fail> {
+fn each_fault_has_its_answer(rt: HostRuntime) {
     for row in ROWS {
-        must_answer(&rt, rt.alloc(), row)?;
+        must_answer(&rt, rt.alloc(), row);
     }
-    Ok(())
 }

@@ -3,12 +3,12 @@
 //! No other program is asked what is due: the call that nothing disturbs says it.
 
 use super::{Around, FEEDER, Outcome, STREAM, TWO_BIDS, called, envelope, is_legal};
+use crate::holds::holds;
 use pm_nodes::OpenGate;
 use pm_top::Status;
 use std::alloc::Global;
 use std::process::Abort;
 use std::sync::Wait;
-use std::test::Fail;
 use std::thread::Threads;
 
 /// A call: its arguments, a file, and what stands behind the file if it is in an envelope.
@@ -122,22 +122,12 @@ fn must_be_right<R: Threads + Wait + Sync + Abort>(
     call: &Call<'_>,
     outcome: &Outcome,
     around: Around,
-) -> Result<(), Fail> {
-    let Around {
-        read,
-        bad_read,
-        bad_write,
-        ..
-    } = around;
-    let (line, length) = (call.line, call.input.len());
-    assert!(rt;
-        call.is_right(outcome, around),
-        "{line}, {length} bytes, pieces of {read}, read {bad_read}, write {bad_write}"
-    );
+) {
+    let case = (call.line, call.input.len(), around);
+    holds(rt, case, call.is_right(outcome, around));
     if call.has_moves() && outcome.status == Status::Done {
-        assert!(rt; is_legal(rt, alloc, call.input, &outcome.text)?);
+        holds(rt, case, is_legal(rt, alloc, call.input, &outcome.text));
     }
-    Ok(())
 }
 
 /// The command comes to what is right in these surroundings. Gives how often it read and wrote.
@@ -146,32 +136,61 @@ fn must_come_right<R: Threads + Wait + Sync + Abort>(
     alloc: Global,
     call: &Call<'_>,
     around: Around,
-) -> Result<(u64, u64), Fail> {
-    let outcome = called(rt, alloc, call.line, call.input, around, &OpenGate)?;
-    must_be_right(rt, alloc, call, &outcome, around)?;
-    Ok((outcome.reads, outcome.writes))
+) -> (u64, u64) {
+    let outcome = called(rt, alloc, call.line, call.input, around, &OpenGate);
+    must_be_right(rt, alloc, call, &outcome, around);
+    (outcome.reads, outcome.writes)
 }
 
-/// The command stands each read and each write that fails, and one more of each, which is not made.
+/// The command stands each of so many reads that fails, and one more, which is not made.
+fn must_stand_reads<R: Threads + Wait + Sync + Abort>(
+    rt: &R,
+    alloc: Global,
+    call: &Call<'_>,
+    whole: Around,
+    reads: u64,
+) {
+    for before in 0..reads.saturating_add(1) {
+        if is_tried(before, reads) {
+            must_come_right(rt, alloc, call, whole.without_read(before + 1));
+        }
+    }
+}
+
+/// The same for writes.
+fn must_stand_writes<R: Threads + Wait + Sync + Abort>(
+    rt: &R,
+    alloc: Global,
+    call: &Call<'_>,
+    whole: Around,
+    writes: u64,
+) {
+    for before in 0..writes.saturating_add(1) {
+        if is_tried(before, writes) {
+            must_come_right(rt, alloc, call, whole.without_write(before + 1));
+        }
+    }
+}
+
+/// The command stands each read and each write that fails, in pieces of one size.
 fn must_stand_faults<R: Threads + Wait + Sync + Abort>(
     rt: &R,
     alloc: Global,
     call: &Call<'_>,
     piece: usize,
-) -> Result<(), Fail> {
+) {
     let whole = Around::pieces(piece);
-    let (reads, writes) = must_come_right(rt, alloc, call, whole)?;
-    for before in 0..reads.saturating_add(1) {
-        if is_tried(before, reads) {
-            must_come_right(rt, alloc, call, whole.without_read(before + 1))?;
-        }
+    let (reads, writes) = must_come_right(rt, alloc, call, whole);
+    must_stand_reads(rt, alloc, call, whole, reads);
+    must_stand_writes(rt, alloc, call, whole, writes);
+}
+
+/// The command whose text says what is due of a command.
+fn line_due(line: &str) -> &str {
+    match line {
+        "trace" => "run",
+        _ => line,
     }
-    for before in 0..writes.saturating_add(1) {
-        if is_tried(before, writes) {
-            must_come_right(rt, alloc, call, whole.without_write(before + 1))?;
-        }
-    }
-    Ok(())
 }
 
 /// What a call that nothing disturbs comes to. It is no fault.
@@ -180,22 +199,15 @@ fn due_of<R: Threads + Wait + Sync + Abort>(
     alloc: Global,
     line: &str,
     input: &[u8],
-) -> Result<Outcome, Fail> {
-    let line = if line == "trace" { "run" } else { line };
-    let due = called(
-        rt,
-        alloc,
-        line,
-        input,
-        Around::pieces(usize::MAX),
-        &OpenGate,
-    )?;
+) -> Outcome {
+    let whole = Around::pieces(usize::MAX);
+    let due = called(rt, alloc, line_due(line), input, whole, &OpenGate);
     let is_fault = matches!(
         due.status,
         Status::ReadFault | Status::WriteFault | Status::NoMemory
     );
-    assert!(rt; !is_fault, "{line}");
-    Ok(due)
+    holds(rt, line, !is_fault);
+    due
 }
 
 /// The command comes to what is right in pieces of each size.
@@ -203,11 +215,10 @@ fn must_come_right_in_pieces<R: Threads + Wait + Sync + Abort>(
     rt: &R,
     alloc: Global,
     call: &Call<'_>,
-) -> Result<(), Fail> {
+) {
     for piece in PIECES {
-        must_come_right(rt, alloc, call, Around::pieces(*piece))?;
+        must_come_right(rt, alloc, call, Around::pieces(*piece));
     }
-    Ok(())
 }
 
 /// An input that is cut has one outcome in pieces of each size.
@@ -216,10 +227,9 @@ fn must_stand_cut<R: Threads + Wait + Sync + Abort>(
     alloc: Global,
     line: &str,
     input: &[u8],
-) -> Result<(), Fail> {
-    let due = due_of(rt, alloc, line, input)?;
-    let due = &due;
-    must_come_right_in_pieces(rt, alloc, &Call { line, input, due })
+) {
+    let due = &due_of(rt, alloc, line, input);
+    must_come_right_in_pieces(rt, alloc, &Call { line, input, due });
 }
 
 /// The command stands each fault in pieces of each size.
@@ -227,11 +237,10 @@ fn must_stand_faults_in_pieces<R: Threads + Wait + Sync + Abort>(
     rt: &R,
     alloc: Global,
     call: &Call<'_>,
-) -> Result<(), Fail> {
+) {
     for piece in PIECES {
-        must_stand_faults(rt, alloc, call, *piece)?;
+        must_stand_faults(rt, alloc, call, *piece);
     }
-    Ok(())
 }
 
 /// The command stands each fault on its whole input.
@@ -240,53 +249,43 @@ fn must_stand_whole<R: Threads + Wait + Sync + Abort>(
     alloc: Global,
     line: &str,
     input: &[u8],
-) -> Result<(), Fail> {
-    let due = due_of(rt, alloc, line, input)?;
-    let due = &due;
-    must_stand_faults_in_pieces(rt, alloc, &Call { line, input, due })
+) {
+    let due = &due_of(rt, alloc, line, input);
+    must_stand_faults_in_pieces(rt, alloc, &Call { line, input, due });
 }
 
 /// The command stands each fault, and each cut of its input.
-fn must_stand<R: Threads + Wait + Sync + Abort>(
-    rt: &R,
-    alloc: Global,
-    line: &str,
-    input: &[u8],
-) -> Result<(), Fail> {
-    must_stand_whole(rt, alloc, line, input)?;
+fn must_stand<R: Threads + Wait + Sync + Abort>(rt: &R, alloc: Global, line: &str, input: &[u8]) {
+    must_stand_whole(rt, alloc, line, input);
     let whole = input.len();
     for length in 0..whole {
         if is_tried(length as u64, whole as u64) {
-            must_stand_cut(rt, alloc, line, &input[..length])?;
+            must_stand_cut(rt, alloc, line, &input[..length]);
         }
     }
-    Ok(())
 }
 
-fn must_stand_all<R: Threads + Wait + Sync + Abort>(
-    rt: &R,
-    alloc: Global,
-    cases: &[Case],
-) -> Result<(), Fail> {
-    for case in cases {
-        let (line, file, rest) = *case;
-        match rest {
-            Some(rest) => {
-                let input = envelope(alloc, file, rest)?;
-                must_stand(rt, alloc, line, input.as_bytes())?;
-            }
-            None => must_stand(rt, alloc, line, file.as_bytes())?,
+/// A command stands all that on its file, which is in an envelope if something stands behind it.
+fn must_stand_case<R: Threads + Wait + Sync + Abort>(rt: &R, alloc: Global, case: &Case) {
+    match case.2 {
+        Some(rest) => {
+            let input = envelope(rt, alloc, case.1, rest);
+            must_stand(rt, alloc, case.0, input.as_bytes());
         }
+        None => must_stand(rt, alloc, case.0, case.1.as_bytes()),
     }
-    Ok(())
 }
 
 #[test]
-fn each_command_stands_each_fault(rt: HostRuntime) -> Result<(), Fail> {
-    must_stand_all(&rt, rt.alloc(), CASES)
+fn each_command_stands_each_fault(rt: HostRuntime) {
+    for case in CASES {
+        must_stand_case(&rt, rt.alloc(), case);
+    }
 }
 
 #[test]
-fn runs_below_a_limit_stand_each_fault(rt: HostRuntime) -> Result<(), Fail> {
-    must_stand_all(&rt, rt.alloc(), LIMITED)
+fn runs_below_a_limit_stand_each_fault(rt: HostRuntime) {
+    for case in LIMITED {
+        must_stand_case(&rt, rt.alloc(), case);
+    }
 }

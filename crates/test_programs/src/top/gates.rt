@@ -2,6 +2,7 @@
 
 use super::village::VILLAGE;
 use super::{FEEDER, Outcome, PIECES, TWO_BIDS, called, is_legal};
+use crate::holds::holds;
 use pm_gates::{SCHEDULES, Schedule};
 use pm_nodes::OpenGate;
 use pm_scene::read_scene;
@@ -10,7 +11,6 @@ use pm_tree::Tree;
 use std::alloc::Global;
 use std::process::Abort;
 use std::sync::Wait;
-use std::test::Fail;
 use std::thread::Threads;
 
 /// The files that are run.
@@ -19,27 +19,21 @@ const FILES: &[&str] = &[TWO_BIDS, FEEDER, VILLAGE];
 /// The commands that are tried. Each has to write the text of the first; a trace has moves behind it.
 const COMMANDS: &[&str] = &["run", "trace", "free"];
 
-/// An outcome has the text that is due. A trace is valid.
-fn must_have_text<R: Threads + Wait + Sync + Abort>(
+/// Whether an outcome has the text that is due. A trace is valid.
+fn has_text<R: Threads + Wait + Sync + Abort>(
     rt: &R,
     alloc: Global,
     file: &[u8],
     due: &Outcome,
     outcome: &Outcome,
-    schedule: &Schedule,
     line: &str,
-) -> Result<(), Fail> {
-    let is_right = if line == "trace" {
-        outcome.text.starts_with(&due.text) && is_legal(rt, alloc, file, &outcome.text)?
-    } else {
-        outcome.text.as_slice() == due.text.as_slice()
-    };
-    assert_eq!(rt;
-        (outcome.status, is_right),
-        (Status::Done, true),
-        "{line} under {schedule}"
-    );
-    Ok(())
+) -> bool {
+    match line {
+        "trace" => {
+            outcome.text.starts_with(&due.text) && is_legal(rt, alloc, file, &outcome.text)
+        }
+        _ => outcome.text.as_slice() == due.text.as_slice(),
+    }
 }
 
 /// A command has the text that is due under a gate, which is made anew for it.
@@ -51,53 +45,45 @@ fn must_keep_its_text<R: Threads + Wait + Sync + Abort>(
     schedule: &Schedule,
     tree: &Tree,
     line: &str,
-) -> Result<(), Fail> {
-    let gate = schedule.gate(alloc, tree)?;
-    let outcome = called(rt, alloc, line, file, PIECES, &gate)?;
-    must_have_text(rt, alloc, file, due, &outcome, schedule, line)
+) {
+    let gate = schedule.gate(alloc, tree).expect(rt, "memory");
+    let outcome = called(rt, alloc, line, file, PIECES, &gate);
+    let is_right = has_text(rt, alloc, file, due, &outcome, line);
+    holds(rt, (line, outcome.status), outcome.status == Status::Done);
+    assert!(rt; is_right, "{line} under {schedule}");
 }
 
-/// Each command has the text that is due under each gate.
+/// Each command has the text that is due under a gate.
 fn must_keep_texts<R: Threads + Wait + Sync + Abort>(
     rt: &R,
     alloc: Global,
     file: &[u8],
     due: &Outcome,
+    schedule: &Schedule,
     tree: &Tree,
-) -> Result<(), Fail> {
-    for schedule in SCHEDULES {
-        for line in COMMANDS {
-            must_keep_its_text(rt, alloc, file, due, schedule, tree, *line)?;
-        }
+) {
+    for line in COMMANDS {
+        must_keep_its_text(rt, alloc, file, due, schedule, tree, *line);
     }
-    Ok(())
 }
 
 /// Each command has its text under each gate for a tree.
-fn must_hold_on<R: Threads + Wait + Sync + Abort>(
-    rt: &R,
-    alloc: Global,
-    file: &[u8],
-    tree: &Tree,
-) -> Result<(), Fail> {
-    let due = called(rt, alloc, "run", file, PIECES, &OpenGate)?;
-    must_keep_texts(rt, alloc, file, &due, tree)
+fn must_hold_on<R: Threads + Wait + Sync + Abort>(rt: &R, alloc: Global, file: &[u8], tree: &Tree) {
+    let due = called(rt, alloc, "run", file, PIECES, &OpenGate);
+    for schedule in SCHEDULES {
+        must_keep_texts(rt, alloc, file, &due, schedule, tree);
+    }
 }
 
 /// Each command has its text under each gate for the tree of a file.
-fn must_hold<R: Threads + Wait + Sync + Abort>(
-    rt: &R,
-    alloc: Global,
-    file: &[u8],
-) -> Result<(), Fail> {
-    let plan = read_scene(alloc, file)?;
-    must_hold_on(rt, alloc, file, plan.tree())
+fn must_hold<R: Threads + Wait + Sync + Abort>(rt: &R, alloc: Global, file: &[u8]) {
+    let plan = read_scene(alloc, file).expect(rt, "a plan");
+    must_hold_on(rt, alloc, file, plan.tree());
 }
 
 #[test]
-fn held_threads_change_no_text(rt: HostRuntime) -> Result<(), Fail> {
+fn held_threads_change_no_text(rt: HostRuntime) {
     for file in FILES {
-        must_hold(&rt, rt.alloc(), file.as_bytes())?;
+        must_hold(&rt, rt.alloc(), file.as_bytes());
     }
-    Ok(())
 }

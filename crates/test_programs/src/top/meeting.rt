@@ -1,6 +1,7 @@
 //! A gate under which two threads meet, and what is told to it.
 
 use super::{Outcome, PIECES, called, envelope};
+use crate::holds::holds;
 use pm_gates::{MeetingGate, Moment, TellingGate};
 use pm_market::{Line, Move};
 use pm_top::Status;
@@ -8,7 +9,6 @@ use std::alloc::Global;
 use std::process::Abort;
 use std::str::from_utf8;
 use std::sync::Wait;
-use std::test::Fail;
 use std::thread::Threads;
 
 /// How often a node looks for the other at most.
@@ -24,45 +24,62 @@ fn name(node: u32) -> &'static str {
     }
 }
 
-/// The line that a trace has of a move of the two manual bids, whose prices are their steps.
-fn trace_line(alloc: Global, line: Line) -> Result<String, Fail> {
-    let (head, name, number) = match line.what {
+/// The first words of the line that a trace has of a move of the two manual bids, the name of a node, and a number.
+fn parts_of(what: Move) -> (&'static str, &'static str, u32) {
+    match what {
         Move::Change { device, number } => ("change ", name(device), number),
         Move::Learn { child, number } => ("learn auctioneer ", name(child), number),
         Move::Publish { node, number } => ("publish ", name(node), number),
         Move::Clear { index } => ("clear", "", index),
         Move::Pass { node, index } => ("pass ", name(node), index),
         Move::Close { phase } => ("close", "", phase),
-    };
-    match line.held {
-        Some((step, bid)) => Ok(format!(in alloc; "{head}{name} {number} price {step} bid {bid}")?),
-        None => Ok(format!(in alloc; "{head}{name} {number}")?),
     }
+}
+
+/// The line that a trace has of a move of the two manual bids, whose prices are their steps.
+fn trace_line<R: Abort>(rt: &R, alloc: Global, line: Line) -> String {
+    let (head, name, number) = parts_of(line.what);
+    let text = match line.held {
+        Some((step, bid)) => { format!(in alloc; "{head}{name} {number} price {step} bid {bid}") }
+        None => format!(in alloc; "{head}{name} {number}"),
+    };
+    text.expect(rt, "memory")
+}
+
+/// How often a line is among these.
+fn times(moves: &str, due: &str) -> usize {
+    let mut times = 0usize;
+    for have in moves.lines() {
+        if have == due {
+            times = times.saturating_add(1);
+        }
+    }
+    times
 }
 
 /// Whether the lines behind a report are those that were told, each once.
-fn are_told(alloc: Global, moves: &str, told: &[Line]) -> Result<bool, Fail> {
-    let mut right = moves.lines().count() == told.len() + 1;
+fn are_told<R: Abort>(rt: &R, alloc: Global, moves: &str, told: &[Line]) -> bool {
     for line in told {
-        let due = trace_line(alloc, *line)?;
-        right = right && moves.lines().filter(|have| *have == due.as_str()).count() == 1;
+        if times(moves, trace_line(rt, alloc, *line).as_str()) != 1 {
+            return false;
+        }
     }
-    Ok(right)
+    moves.lines().count() == told.len() + 1
 }
 
 /// The file of the two manual bids, and an hour behind its only phase.
-fn with_an_hour(alloc: Global) -> Result<String, Fail> {
-    let file = super::TWO_BIDS.strip_suffix("]}").ok_or("no phases")?;
-    Ok(format!(in alloc; "{file},{{\"tick\":60}}]}}")?)
+fn with_an_hour<R: Abort>(rt: &R, alloc: Global) -> String {
+    let file = super::TWO_BIDS.strip_suffix("]}").expect(rt, "phases");
+    format!(in alloc; "{file},{{\"tick\":60}}]}}").expect(rt, "memory")
 }
 
 /// The input of a command, over the two manual bids.
-fn input_of(alloc: Global, line: &str) -> Result<String, Fail> {
+fn input_of<R: Abort>(rt: &R, alloc: Global, line: &str) -> String {
     match line {
-        "bill" => with_an_hour(alloc),
-        "ask" => Ok(envelope(alloc, super::TWO_BIDS, "0\n100\n-60\n")?),
-        "check" => Ok(envelope(alloc, super::TWO_BIDS, "")?),
-        _ => Ok(String::from_str(alloc, super::TWO_BIDS)?),
+        "bill" => with_an_hour(rt, alloc),
+        "ask" => envelope(rt, alloc, super::TWO_BIDS, "0\n100\n-60\n"),
+        "check" => envelope(rt, alloc, super::TWO_BIDS, ""),
+        _ => String::from_str(alloc, super::TWO_BIDS).expect(rt, "memory"),
     }
 }
 
@@ -85,59 +102,49 @@ fn moment_of(line: &str) -> Moment {
     }
 }
 
-/// The moves of a trace are the lines that were told.
-fn must_be_told(rt: &impl Abort, alloc: Global, trace: &[u8], told: &[Line]) -> Result<(), Fail> {
-    let text = from_utf8(trace)?;
-    let moves = text.strip_prefix(super::TWO_BIDS_TEXT).ok_or("no report")?;
-    assert!(rt; are_told(alloc, moves, told)?);
-    Ok(())
+/// Whether the moves of a trace are the lines that were told.
+fn is_told<R: Abort>(rt: &R, alloc: Global, trace: &[u8], told: &[Line]) -> bool {
+    let text = from_utf8(trace).expect(rt, "a text");
+    match text.strip_prefix(super::TWO_BIDS_TEXT) {
+        Some(moves) => are_told(rt, alloc, moves, told),
+        None => false,
+    }
 }
 
 /// Both nodes met under this command, and the moves of a trace are the lines that were told.
-fn must_have_met(
-    rt: &impl Abort,
+fn must_have_met<R: Abort>(
+    rt: &R,
     alloc: Global,
     line: &str,
     outcome: &Outcome,
     met: u64,
     told: &[Line],
-) -> Result<(), Fail> {
-    assert_eq!(rt; (outcome.status, met), (status_of(line), 2), "at {line}");
+) {
+    let right = outcome.status == status_of(line) && met == 2;
+    holds(rt, (line, outcome.status, met), right);
     if line == "trace" {
-        must_be_told(rt, alloc, &outcome.text, told)?;
+        holds(rt, line, is_told(rt, alloc, &outcome.text, told));
     }
-    Ok(())
 }
 
 /// The two nodes meet under this command on its input.
-fn must_meet_on<R: Threads + Wait + Sync + Abort>(
-    rt: &R,
-    alloc: Global,
-    line: &str,
-    input: &[u8],
-) -> Result<(), Fail> {
+fn must_meet_on<R: Threads + Wait + Sync + Abort>(rt: &R, alloc: Global, line: &str, input: &[u8]) {
     let meeting = MeetingGate::new((1, 2), moment_of(line), LOOKS);
     let gate = TellingGate::new(rt, alloc, meeting);
-    let outcome = called(rt, alloc, line, input, PIECES, &gate)?;
+    let outcome = called(rt, alloc, line, input, PIECES, &gate);
     let met = gate.gate().met();
-    must_have_met(rt, alloc, line, &outcome, met, &gate.into_lines())
+    must_have_met(rt, alloc, line, &outcome, met, &gate.into_lines());
 }
 
 /// The two nodes meet under this command.
-fn must_meet<R: Threads + Wait + Sync + Abort>(
-    rt: &R,
-    alloc: Global,
-    line: &str,
-) -> Result<(), Fail> {
-    let input = input_of(alloc, line)?;
-    must_meet_on(rt, alloc, line, input.as_bytes())
+fn must_meet<R: Threads + Wait + Sync + Abort>(rt: &R, alloc: Global, line: &str) {
+    must_meet_on(rt, alloc, line, input_of(rt, alloc, line).as_bytes());
 }
 
 /// Under each command that runs a cluster the two nodes meet, and the moves that a trace prints are those that were told.
 #[test]
-fn two_nodes_meet(rt: HostRuntime) -> Result<(), Fail> {
+fn two_nodes_meet(rt: HostRuntime) {
     for line in COMMANDS {
-        must_meet(&rt, rt.alloc(), *line)?;
+        must_meet(&rt, rt.alloc(), *line);
     }
-    Ok(())
 }

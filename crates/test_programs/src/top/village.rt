@@ -1,14 +1,14 @@
 //! A village under gates that hold some of its nodes back.
 
 use super::meeting::LOOKS;
-use super::{Outcome, PIECES, called};
+use super::{PIECES, called};
+use crate::holds::holds;
 use pm_gates::{HoldingGate, MeetingGate, Moment};
 use pm_nodes::{Gate, OpenGate};
 use pm_top::Status;
 use std::alloc::Global;
 use std::process::Abort;
 use std::sync::Wait;
-use std::test::Fail;
 use std::thread::Threads;
 
 /// Eight devices of all kinds below two concentrators, over five phases.
@@ -75,54 +75,38 @@ const VILLAGE_TEXT: &str = "\
     member flex power -30 bid 2\n\
     end phases 5 changes 20\n";
 
-/// Nodes 0 to 10, of which some are held back.
-type Yields = [u32; 11];
+/// How often the nodes 0 to 10 yield the processor: some of them are held back.
+const EVEN: &[u32] = &[100, 0, 100, 0, 100, 0, 100, 0, 100, 0, 100];
 
-const EVEN: Yields = [100, 0, 100, 0, 100, 0, 100, 0, 100, 0, 100];
+const LOAD1: &[u32] = &[0, 0, 0, 0, 0, 0, 0, 0, 1000, 0, 0];
 
-const LOAD1: Yields = [0, 0, 0, 0, 0, 0, 0, 0, 1000, 0, 0];
+const BOTH_CONCENTRATORS: &[u32] = &[0, 1000, 1000, 0, 0, 0, 0, 0, 0, 0, 0];
 
-const BOTH_CONCENTRATORS: Yields = [0, 1000, 1000, 0, 0, 0, 0, 0, 0, 0, 0];
-
-/// An outcome has the village's text.
-fn must_be_village<R: Abort>(rt: &R, outcome: &Outcome) {
+/// The village has its text under this gate.
+fn must_run<R: Threads + Wait + Sync + Abort, G: Gate>(rt: &R, alloc: Global, gate: &G) {
+    let outcome = called(rt, alloc, "run", VILLAGE.as_bytes(), PIECES, gate);
     let due = (Status::Done, VILLAGE_TEXT.as_bytes());
     assert_eq!(rt; (outcome.status, outcome.text.as_slice()), due);
 }
 
-/// The village has its text under this gate.
-fn must_run<R: Threads + Wait + Sync + Abort, G: Gate>(
-    rt: &R,
-    alloc: Global,
-    gate: &G,
-) -> Result<(), Fail> {
-    let outcome = called(rt, alloc, "run", VILLAGE.as_bytes(), PIECES, gate)?;
-    must_be_village(rt, &outcome);
-    Ok(())
-}
-
-fn must_run_slowly<R: Threads + Wait + Sync + Abort>(
-    rt: &R,
-    alloc: Global,
-    yields: Yields,
-) -> Result<(), Fail> {
-    let gate = HoldingGate::new(Vec::from_array(alloc, yields)?);
-    must_run(rt, alloc, &gate)
+fn must_run_slowly<R: Threads + Wait + Sync + Abort>(rt: &R, alloc: Global, yields: &[u32]) {
+    let gate = HoldingGate::new(yields.to_vec(alloc).expect(rt, "memory"));
+    must_run(rt, alloc, &gate);
 }
 
 /// Whichever nodes are slow, the text is the same.
 #[test]
-fn slow_nodes_change_no_text(rt: HostRuntime) -> Result<(), Fail> {
-    must_run_slowly(&rt, rt.alloc(), EVEN)?;
-    must_run_slowly(&rt, rt.alloc(), LOAD1)?;
-    must_run_slowly(&rt, rt.alloc(), BOTH_CONCENTRATORS)
+fn slow_nodes_change_no_text(rt: HostRuntime) {
+    must_run_slowly(&rt, rt.alloc(), EVEN);
+    must_run_slowly(&rt, rt.alloc(), LOAD1);
+    must_run_slowly(&rt, rt.alloc(), BOTH_CONCENTRATORS);
 }
 
 /// The lower concentrator and a device beside it meet, and the text is that of a run that nothing holds back.
 #[test]
-fn a_concentrator_and_a_device_meet(rt: HostRuntime) -> Result<(), Fail> {
+fn a_concentrator_and_a_device_meet(rt: HostRuntime) {
     let gate = MeetingGate::new((2, 6), Moment::Line, LOOKS);
-    must_run(&rt, rt.alloc(), &gate)?;
-    assert_eq!(rt; gate.met(), 2);
-    must_run(&rt, rt.alloc(), &OpenGate)
+    must_run(&rt, rt.alloc(), &gate);
+    holds(&rt, gate.met(), gate.met() == 2);
+    must_run(&rt, rt.alloc(), &OpenGate);
 }
