@@ -92,7 +92,12 @@ fn rise(numbers: &[u32]) -> bool {
 
 /// Whether each of these numbers is among the others.
 fn are_among(numbers: &[u32], others: &[u32]) -> bool {
-    numbers.iter().all(|number| others.contains(number))
+    for number in numbers {
+        if !others.contains(number) {
+            return false;
+        }
+    }
+    true
 }
 
 /// Whether a link lost nothing that counts: the numbers put and taken rise, what was taken was put, and the newest bid and the
@@ -139,18 +144,24 @@ fn links_did_their_part(plan: &Plan, end: &PhaseEnd, phase: &FreePhase) -> bool 
 
 /// How many phases of a run had links.
 fn phases_with_links(run: &FreeRun) -> usize {
-    run.phases
-        .iter()
-        .filter(|phase| !phase.links.is_empty())
-        .count()
+    let mut many = 0usize;
+    for phase in &run.phases {
+        if !phase.links.is_empty() {
+            many = many.saturating_add(1);
+        }
+    }
+    many
 }
 
 /// How many phases of a run came over their links, so that their ends are those that the nodes hold.
 fn phases_over_links(run: &FreeRun) -> usize {
-    run.phases
-        .iter()
-        .filter(|phase| phase.end.is_some())
-        .count()
+    let mut many = 0usize;
+    for phase in &run.phases {
+        if phase.end.is_some() {
+            many = many.saturating_add(1);
+        }
+    }
+    many
 }
 
 /// How many changes a device makes in a phase, which counts from 1; of any other node 0.
@@ -165,14 +176,23 @@ fn changes_in(plan: &Plan, phase: u32, node: u32) -> u32 {
 
 /// Whether a device changes in a phase, which counts from 1.
 fn has_changes(plan: &Plan, phase: u32) -> bool {
-    (1..plan.tree().len().saturating_add(1)).any(|node| changes_in(plan, phase, node) > 0)
+    for node in 1..plan.tree().len().saturating_add(1) {
+        if changes_in(plan, phase, node) > 0 {
+            return true;
+        }
+    }
+    false
 }
 
 /// How many phases of a plan have changes.
 fn phases_with_changes(plan: &Plan) -> usize {
-    (1..plan.phases().saturating_add(1))
-        .filter(|phase| has_changes(plan, *phase))
-        .count()
+    let mut many = 0usize;
+    for phase in 1..plan.phases().saturating_add(1) {
+        if has_changes(plan, phase) {
+            many = many.saturating_add(1);
+        }
+    }
+    many
 }
 
 /// Whether a phase came over the links, to what the board's end of the phase says.

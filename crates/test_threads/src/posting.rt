@@ -82,7 +82,9 @@ fn refuses_other<R: Abort>(rt: &R, alloc: Global, board: &mut Board, other: &Pla
 fn post<R: Abort>(rt: &R, alloc: Global, board: &mut Board, plan: &Plan, next: Next) -> Posted {
     let steps = board.plan().basis().steps();
     let bid = ArrayBid::zero(alloc, steps, &mut uncounted()).expect(rt, "memory");
-    let made = make_bid(plan, next, bid).ok().expect(rt, "a bid");
+    let Ok(made) = make_bid(plan, next, bid) else {
+        panic!(rt; "no such bid");
+    };
     assert!(rt; made.demand().steps() == steps);
     let (posted, other) = post_made(board, made);
     holds(rt, "steps", other.steps() == steps);
