@@ -9,106 +9,25 @@ use Rattle.pm_net.specs.Restarts.{can_rebuild, can_resend, can_tell_one, can_pas
 use Rattle.pm_net.specs.TreeAuction.{add_to}
 use Rattle.pm_net.proofs.small_networks_keep_the_rules.Goals as goal
 
-pub returns-clause-numbered : goal.returns-clause-numbered
-unfolding parent is_leaf is_member changes update all_to is_new_bid is_caught_up has_news can_send sent_down can_clear is_new_price names_a_bid is_overtaken
-    waits
-    can_rebuild can_resend can_tell_one can_pass_to_one last_join add_to
-returns-clause-numbered c = refl
-
-pub returns-clause-newest_bid : goal.returns-clause-newest_bid
-unfolding parent is_leaf is_member changes update all_to is_new_bid is_caught_up has_news can_send sent_down can_clear is_new_price names_a_bid is_overtaken
-    waits
-    can_rebuild can_resend can_tell_one can_pass_to_one last_join add_to
-returns-clause-newest_bid c = refl
-
-pub returns-clause-limited : goal.returns-clause-limited
+pub returns : goal.returns
 unfolding said_between parent is_leaf is_member changes update all_to is_new_bid is_caught_up has_news can_send sent_down can_clear is_new_price
-    names_a_bid is_overtaken
-    waits
-    can_rebuild can_resend can_tell_one can_pass_to_one last_join add_to
-returns-clause-limited c = (refl, refl)
-
-pub returns-clause-by_record : goal.returns-clause-by_record
-unfolding said_between parent is_leaf is_member changes update all_to is_new_bid is_caught_up has_news can_send sent_down can_clear is_new_price
-    names_a_bid is_overtaken
-    waits
-    can_rebuild can_resend can_tell_one can_pass_to_one last_join add_to
-returns-clause-by_record c = refl
-
-pub returns-clause-gone : goal.returns-clause-gone
-unfolding parent is_leaf is_member changes update all_to is_new_bid is_caught_up has_news can_send sent_down can_clear is_new_price names_a_bid is_overtaken
-    waits
-    can_rebuild can_resend can_tell_one can_pass_to_one last_join add_to
-returns-clause-gone c = refl
-
-pub returns-clause-own_number : goal.returns-clause-own_number
-unfolding parent is_leaf is_member changes update all_to is_new_bid is_caught_up has_news can_send sent_down can_clear is_new_price names_a_bid is_overtaken
-    waits
-    can_rebuild can_resend can_tell_one can_pass_to_one last_join add_to
-returns-clause-own_number c = (refl, refl, refl)
-
-pub returns-clause-no_news : goal.returns-clause-no_news
-unfolding parent is_leaf is_member changes update all_to is_new_bid is_caught_up has_news can_send sent_down can_clear is_new_price names_a_bid is_overtaken
-    waits
-    can_rebuild can_resend can_tell_one can_pass_to_one last_join add_to
-returns-clause-no_news c = (refl, refl)
-
-pub returns-clause-guarded : goal.returns-clause-guarded
-unfolding parent is_leaf is_member changes update all_to is_new_bid is_caught_up has_news can_send sent_down can_clear is_new_price names_a_bid is_overtaken
-    waits
-    can_rebuild can_resend can_tell_one can_pass_to_one last_join add_to
-returns-clause-guarded c = (refl, refl)
-
-pub returns-clause-stored : goal.returns-clause-stored
-unfolding parent is_leaf is_member changes update all_to is_new_bid is_caught_up has_news can_send sent_down can_clear is_new_price names_a_bid is_overtaken
-    waits
-    can_rebuild can_resend can_tell_one can_pass_to_one last_join add_to
-returns-clause-stored c = (refl, refl, refl, refl, refl)
-
-pub returns-clause-none_stored : goal.returns-clause-none_stored
-unfolding parent is_leaf is_member changes update all_to is_new_bid is_caught_up has_news can_send sent_down can_clear is_new_price names_a_bid is_overtaken
-    waits
-    can_rebuild can_resend can_tell_one can_pass_to_one last_join add_to
-returns-clause-none_stored c = (refl, refl)
-
-pub returns-clause-never_newer : goal.returns-clause-never_newer
-unfolding parent is_leaf is_member changes update all_to is_new_bid is_caught_up has_news can_send sent_down can_clear is_new_price names_a_bid is_overtaken
-    waits
-    can_rebuild can_resend can_tell_one can_pass_to_one last_join add_to
-returns-clause-never_newer c = refl
-
-pub returns-clause-left_for_later : goal.returns-clause-left_for_later
-unfolding parent is_leaf is_member changes update all_to is_new_bid is_caught_up has_news can_send sent_down can_clear is_new_price names_a_bid is_overtaken
-    waits
-    can_rebuild can_resend can_tell_one can_pass_to_one last_join add_to
-returns-clause-left_for_later c = refl
-
-pub returns-clause-overtaken : goal.returns-clause-overtaken
-unfolding parent is_leaf is_member changes update all_to is_new_bid is_caught_up has_news can_send sent_down can_clear is_new_price names_a_bid is_overtaken
-    waits
-    can_rebuild can_resend can_tell_one can_pass_to_one last_join add_to
-returns-clause-overtaken c = (refl, refl, refl)
-
-pub returns-clause-to_one : goal.returns-clause-to_one
-unfolding parent is_leaf is_member changes update all_to is_new_bid is_caught_up has_news can_send sent_down can_clear is_new_price names_a_bid is_overtaken
-    waits
-    can_rebuild can_resend can_tell_one can_pass_to_one last_join add_to
-returns-clause-to_one c = (refl, refl)
-
-pub returns-clause-again : goal.returns-clause-again
-unfolding parent is_leaf is_member changes update all_to is_new_bid is_caught_up has_news can_send sent_down can_clear is_new_price names_a_bid is_overtaken
-    waits
-    can_rebuild can_resend can_tell_one can_pass_to_one last_join add_to
-returns-clause-again c = refl
-
-pub returns-clause-left : goal.returns-clause-left
-unfolding parent is_leaf is_member changes update all_to is_new_bid is_caught_up has_news can_send sent_down can_clear is_new_price names_a_bid is_overtaken
-    waits
-    can_rebuild can_resend can_tell_one can_pass_to_one last_join add_to
-returns-clause-left c = refl
-
-pub returns-clause-not_by_numbers : goal.returns-clause-not_by_numbers
-unfolding parent is_leaf is_member changes update all_to is_new_bid is_caught_up has_news can_send sent_down can_clear is_new_price names_a_bid is_overtaken
-    waits
-    can_rebuild can_resend can_tell_one can_pass_to_one last_join add_to
-returns-clause-not_by_numbers c = (refl, refl)
+    names_a_bid is_overtaken waits can_rebuild can_resend can_tell_one can_pass_to_one last_join add_to
+returns c = record {
+  numbered = refl;
+  newest_bid = refl;
+  limited = (refl, refl);
+  by_record = refl;
+  gone = refl;
+  own_number = (refl, refl, refl);
+  no_news = (refl, refl);
+  guarded = (refl, refl);
+  stored = (refl, refl, refl, refl, refl);
+  none_stored = (refl, refl);
+  never_newer = refl;
+  left_for_later = refl;
+  overtaken = (refl, refl, refl);
+  to_one = (refl, refl);
+  again = refl;
+  left = refl;
+  not_by_numbers = (refl, refl);
+}
