@@ -1,6 +1,6 @@
 -- A device makes its next change and sends its bid.
-use Rattle.std.proofs.Common.{◌≡◌, ◌∙◌, sym, ap, subst, ℕ, ◌+◌, ◌<◌, ◌≤◌, true, ltb, ◌&&◌, inl, inr, List, [], ◌∷◌}
-use Rattle.std.proofs.Common.{◌++◌, length, get_or, arith}
+use Rattle.std.proofs.Common.{◌≡◌, ◌∙◌, sym, ap, ℕ, ◌+◌, ◌<◌, ◌≤◌, true, ltb, ◌&&◌, inl, inr, [], ◌∷◌}
+use Rattle.std.proofs.Common.{◌++◌, arith}
 use Rattle.std.proofs.lemmas.Bool.{cases_eq, cases_Bool, and_parts, ltb-true}
 use Rattle.pm_market.specs.Lists.{Lists, phases, is_leaf, changes, IsNode, IsLeaf, Lawful, end_count}
 use Rattle.pm_market.specs.State.{State, update, newest_number_of, part}
@@ -15,7 +15,8 @@ use Rattle.pm_net.specs.Network.{Network}
 use Rattle.pm_net.specs.Running.{device_bid, after_bidding}
 use Rattle.pm_laws.specs.Gone.{is_gone}
 use Rattle.pm_net.specs.Agrees.{IsItsBid, NetworkAgrees, GoesOn}
-use Rattle.pm_net.proofs.Messages.{updated_alike, each_push, new_push}
+use Rattle.pm_net.proofs.Agreeing.{with_bids}
+use Rattle.pm_net.proofs.Messages.{updated_alike, each_sent, some_sent, new_sent}
 use Rattle.pm_laws.proofs.Gone.{gone_leaf}
 
 module _ (lists : Lists) (law : Lawful lists) (one_phase : phases lists ≡ 1) (p : Pricing) (by : GoesByNodes lists p) (net : Network) (s : State)
@@ -81,65 +82,40 @@ module _ (lists : Lists) (law : Lawful lists) (one_phase : phases lists ≡ 1) (
   )
 
   agrees_after : NetworkAgrees lists p next_net next
-  agrees_after = record {
-    sound = sound_step lists law s agrees.sound (Change d n) legal;
-    closed = agrees.closed;
-    counts = λ e e_leaf. updated_alike net.counts s.counts d n e (agrees.counts e e_leaf);
-    heard = λ x node. its_bid x (net.heard x) (agrees.heard x node);
-    learnt = agrees.learnt;
-    last_number = agrees.last_number;
-    newest_numbers = agrees.newest_numbers;
-    records = agrees.records;
-    answered = agrees.answered;
-    index = agrees.index;
-    device_index = agrees.device_index;
-    taken = agrees.taken;
-    full = agrees.full;
-    last_sent = agrees.last_sent;
-    bids_sent = λ x k node. elim (updated_at net.bids_sent d (net.bids_sent d ++ device_bid lists p d n ∷ []) x) [
-      | inl w ↦ λ lt.
-          let P : List BidMessage → Type 0 = λ l. (i : ℕ) → i < length l → IsItsBid lists p next x (get_or l i (nothing_heard p)) in
-          let here : IsItsBid lists p next x (device_bid lists p d n) =
-          subst (λ (z : ℕ). IsItsBid lists p next z (device_bid lists p d n)) (sym w.0) new_bid in
-          subst P (sym w.1) (each_push (IsItsBid lists p next x) (net.bids_sent d) (device_bid lists p d n) (nothing_heard p)
-          (subst (λ (z : ℕ). (i : ℕ) → i < length (net.bids_sent z) → IsItsBid lists p next x (get_or (net.bids_sent z) i (nothing_heard p))) w.0
-          (λ i lt. its_bid x _ (agrees.bids_sent x i node lt))) here) k lt
-      | inr w ↦ λ lt.
-          let P : List BidMessage → Type 0 = λ l. (i : ℕ) → i < length l → IsItsBid lists p next x (get_or l i (nothing_heard p)) in
-          subst P (sym w.1) (λ i lt. its_bid x _ (agrees.bids_sent x i node lt)) k lt
-    ];
-    prices_sent = agrees.prices_sent;
-    newest_sent = λ none x node some. elim (updated_at net.bids_sent d (net.bids_sent d ++ device_bid lists p d n ∷ []) x) [
-      | inl w ↦
-          let P : List BidMessage → Type 0 =
-          λ l. (k : ℕ) × (k < length l) × ((get_or l k (nothing_heard p)).number ≡ newest_number_of lists next x) in
-          let is : newest_number_of lists next x ≡ n = ap (newest_number_of lists next) w.0 ∙ newest_is in
-          subst P (sym w.1) (new_push (λ (b : BidMessage). b.number ≡ newest_number_of lists next x) (net.bids_sent d) (device_bid lists p d n)
-          (nothing_heard p)
-          (sym is))
-      | inr w ↦
-          let P : List BidMessage → Type 0 =
-          λ l. (k : ℕ) × (k < length l) × ((get_or l k (nothing_heard p)).number ≡ newest_number_of lists next x) in
-          let old = agrees.newest_sent none x node (omega (arith, some, stays x node w.0)) in
-          subst P (sym w.1) (old.0, old.1, old.2 ∙ sym (stays x node w.0))
-    ];
-    whole_from = agrees.whole_from;
-    caught_up = agrees.caught_up;
-    due_root = agrees.due_root;
-    due_through = λ x node p_conc at through all due. agrees.due_through x node p_conc at through (λ z z_node up. elim (cases_eq z d) [
-      | inl e ↦ absurd (omega (
-        arith,
-        all z z_node up,
-        agrees.sound.learnt_within z z_node,
-        ap (newest_number_of lists s) e,
-        ap (newest_number_of lists next) e,
-        newest_is,
-        newest_leaf lists s.counts s.published d leaf,
-        agrees.counts d leaf,
-      ))
-      | inr ne ↦ all z z_node up ∙ stays z z_node ne
-    ]) due;
-  }
+  agrees_after = with_bids lists p net s agrees (update net.counts d n) net.heard net.records net.whole_from
+      (update net.bids_sent d (net.bids_sent d ++ device_bid lists p d n ∷ [])) (update s.counts d n) (record {
+        sound = sound_step lists law s agrees.sound (Change d n) legal;
+        counts = λ e e_leaf. updated_alike net.counts s.counts d n e (agrees.counts e e_leaf);
+        heard = λ x node. its_bid x (net.heard x) (agrees.heard x node);
+        newest_numbers = agrees.newest_numbers;
+        records = agrees.records;
+        bids_sent = λ x k node. each_sent (IsItsBid lists p next) net.bids_sent d (device_bid lists p d n) (nothing_heard p) new_bid x
+            (λ i lt. its_bid x _ (agrees.bids_sent x i node lt)) k;
+        newest_sent = λ none x node some. elim (cases_eq x d) [
+          | inl e ↦ new_sent (λ (b : BidMessage). b.number ≡ newest_number_of lists next x) net.bids_sent d (device_bid lists p d n)
+              (nothing_heard p) x e
+              (sym (ap (newest_number_of lists next) e ∙ newest_is))
+          | inr ne ↦
+              let old = agrees.newest_sent none x node (omega (arith, some, stays x node ne)) in
+              some_sent (λ (b : BidMessage). b.number ≡ newest_number_of lists next x) net.bids_sent d (device_bid lists p d n) (nothing_heard p) x
+              (old.0, old.1, old.2 ∙ sym (stays x node ne))
+        ];
+        whole_from = agrees.whole_from;
+        caught_up = agrees.caught_up;
+        due_through = λ x node p_conc at through all due. agrees.due_through x node p_conc at through (λ z z_node up. elim (cases_eq z d) [
+          | inl e ↦ absurd (omega (
+            arith,
+            all z z_node up,
+            agrees.sound.learnt_within z z_node,
+            ap (newest_number_of lists s) e,
+            ap (newest_number_of lists next) e,
+            newest_is,
+            newest_leaf lists s.counts s.published d leaf,
+            agrees.counts d leaf,
+          ))
+          | inr ne ↦ all z z_node up ∙ stays z z_node ne
+        ]) due;
+      })
 
   -- a bid of a device is a Change
   pub bidding : GoesOn lists p s next_net

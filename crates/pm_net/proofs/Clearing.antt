@@ -1,35 +1,34 @@
 -- The auctioneer clears: the market's auctioneer learns what it heard, and clears.
-use Rattle.std.proofs.Common.{◌≡◌, ◌∙◌, sym, ap, subst, ℕ, ◌+◌, ◌≤◌, Bool, true, false, not, eqb, inl, inr, [], ◌∷◌}
-use Rattle.std.proofs.Common.{◌++◌, arith}
+use Rattle.std.proofs.Common.{◌≡◌, ◌∙◌, sym, ap, ℕ, ◌+◌, ◌≤◌, Bool, true, false, not, eqb, inl, inr}
+use Rattle.std.proofs.Common.{arith}
 use Rattle.std.proofs.lemmas.Bool.{and_parts, eq-eqb, ne_eqb}
 use Rattle.pm_base.specs.Cuts.{Cut}
 use Rattle.pm_bid.specs.Clearing.{clearing_step}
-use Rattle.pm_market.specs.Lists.{Lists, nodes, parent, IsNode, IsInner, Lawful}
+use Rattle.pm_market.specs.Lists.{Lists, parent, IsNode, IsInner, Lawful}
 use Rattle.pm_laws.proofs.Facts.{last_within}
 use Rattle.pm_market.specs.State.{State, knowledge, number, last_index, clearings, cleared_cut, addresses, addresses_of, newest_number_of}
-use Rattle.pm_market.specs.Moves.{step, Legal, LegalFrom, after_from}
+use Rattle.pm_market.specs.Moves.{Legal}
 use Rattle.pm_market.specs.Sound.{Sound}
-use Rattle.pm_market.specs.declared.moves.Move.{Move}
 use Rattle.pm_market.specs.declared.moves.Move.TheVariants.{Clear}
 use Rattle.pm_market.proofs.Tree.{leaf_zero}
 use Rattle.pm_market.proofs.Cuts.{pushed_length_same}
 use Rattle.pm_laws.specs.Added.{HasAdded}
 use Rattle.pm_laws.specs.Due.{is_due}
 use Rattle.pm_laws.proofs.Kept.{sound_step}
-use Rattle.pm_laws.proofs.Order.{after_append, legal_append}
 use Rattle.pm_laws.proofs.MoveLaws.{clearing, due_cleared}
 use Rattle.pm_net.specs.Pricing.{Pricing, GoesByNodes}
 use Rattle.pm_net.specs.Messages.{BidMessage, PriceMessage, price_message}
 use Rattle.pm_net.specs.Network.{Network}
 use Rattle.pm_net.specs.Running.{is_caught_up, has_news, can_clear, heard_sum, after_clearing}
-use Rattle.pm_net.specs.Restarts.{auctioneer_stopped}
+use Rattle.pm_net.specs.Restarts.{auctioneer_stopped, with_restart}
+use Rattle.pm_net.proofs.Agreeing.{with_prices}
 use Rattle.pm_laws.specs.Gone.{is_gone}
 use Rattle.pm_net.specs.Agrees.{price_of_clearing, IsItsPrice, NetworkAgrees, GoesOn}
 use Rattle.pm_net.proofs.Breaks.{broken, none_before}
 use Rattle.pm_net.proofs.Down.{down_each, down_old, down_new}
 use Rattle.pm_laws.proofs.Gone.{gone_addresses}
 use Rattle.pm_net.proofs.Gone.{not_flips}
-use Rattle.pm_net.proofs.Learns.{learnt_to, failing, passing, Learning, learning_to, learning_sound}
+use Rattle.pm_net.proofs.Learns.{all_learnt, learning, learnt_sound, is_learnt, not_learnt, learns_and_moves}
 use Rattle.pm_net.proofs.News.{caught_from}
 use Rattle.pm_net.proofs.Adding as adding
 
@@ -45,27 +44,20 @@ module _ (lists : Lists) (law : Lawful lists) (p : Pricing) (by : GoesByNodes li
   abbrev test : ℕ → Bool
   test x = eqb (parent lists x) 0
 
-  abbrev numbers : ℕ → ℕ
-  numbers x = (net.heard x).number
-
   abbrev l : ℕ → ℕ
-  l = learnt_to test numbers s.learnt (nodes lists)
-
-  learns : Learning lists s l
-  learns = learning_to lists test numbers s (λ x node. (agrees.heard x node).0) (nodes lists) (omega arith)
+  l = all_learnt lists p net s agrees test
 
   here : (x : ℕ) → IsNode lists x → parent lists x ≡ 0 → l x ≡ (net.heard x).number
-  here x node up = passing test numbers s.learnt (nodes lists) x node.0 node.1 (eq-eqb (parent lists x) 0 up)
-      (caught_from lists law p net s agrees 0 parts.0 x node up)
+  here x node up = is_learnt lists p net s agrees test x node (eq-eqb (parent lists x) 0 up) (caught_from lists law p net s agrees 0 parts.0 x node up)
 
   there : (x : ℕ) → IsNode lists x → (parent lists x ≡ 0 → ⊥) → l x ≡ s.learnt x
-  there x node ne = failing test numbers s.learnt (nodes lists) x (ne_eqb (parent lists x) 0 ne)
+  there x node ne = not_learnt lists p net s agrees test x (ne_eqb (parent lists x) 0 ne)
 
   abbrev knows : State
   knows = adding.knowing s l
 
   sound : Sound lists knows
-  sound = learning_sound lists test numbers s (λ x node. (agrees.heard x node).0) law agrees.sound l learns
+  sound = learnt_sound lists p net s agrees test law
 
   abbrev j : ℕ
   j = net.last_number 0 + 1
@@ -175,48 +167,29 @@ module _ (lists : Lists) (law : Lawful lists) (p : Pricing) (by : GoesByNodes li
 
   -- it stops before a price is sent
   agrees_stopped : NetworkAgrees lists p (auctioneer_stopped net) next
-  agrees_stopped = record {
-    sound = sound_next;
-    closed = agrees.closed;
-    counts = agrees.counts;
-    heard = agrees_after.heard;
-    learnt = agrees_after.learnt;
-    last_number = agrees_after.last_number;
-    newest_numbers = agrees_after.newest_numbers;
-    records = agrees_after.records;
-    answered = agrees.answered;
-    index = agrees.index;
-    device_index = λ d leaf none. agrees.device_index d leaf (none_before net 0 d none);
-    taken = agrees_after.taken;
-    full = agrees_after.full;
-    last_sent = agrees.last_sent;
-    bids_sent = agrees_after.bids_sent;
-    prices_sent = λ x k node lt. adding.its_price lists law p by net s agrees 0 inner l sound here there has due_more x node _
-        (agrees.prices_sent x k node lt);
-    newest_sent = λ none. absurd (broken net 0 none);
-    whole_from = λ none. absurd (broken net 0 none);
-    caught_up = λ none. absurd (broken net 0 none);
-    due_root = λ none. absurd (broken net 0 none);
-    due_through = λ x node p_conc at through all due.
-        elim ((due_cleared lists knows j x (last_index s (parent lists x)) law sound legal).0 due) [
-          | inl old ↦
-              let was = adding.through_is lists law p by net s agrees 0 inner l sound here there has x node p_conc through all in
-              agrees.due_through x node p_conc at was.0 was.1 old
-          | inr new ↦ absurd (omega (arith, p_conc.0, new.0))
-        ];
-  }
+  agrees_stopped = with_prices lists p (after_clearing lists p net) next agrees_after net.answered net.taken net.prices_sent (with_restart net 0)
+      next.passed (λ none. absurd (broken net 0 none)) (record {
+        sound = sound_next;
+        answered = agrees.answered;
+        index = agrees.index;
+        device_index = λ d leaf none. agrees.device_index d leaf (none_before net 0 d none);
+        taken = agrees_after.taken;
+        full = agrees_after.full;
+        last_sent = agrees.last_sent;
+        prices_sent = λ x k node lt. adding.its_price lists law p by net s agrees 0 inner l sound here there has due_more x node _
+            (agrees.prices_sent x k node lt);
+        due_root = λ none. absurd (broken net 0 none);
+        due_through = λ x node p_conc at through all due.
+            elim ((due_cleared lists knows j x (last_index s (parent lists x)) law sound legal).0 due) [
+              | inl old ↦
+                  let was = adding.through_is lists law p by net s agrees 0 inner l sound here there has x node p_conc through all in
+                  agrees.due_through x node p_conc at was.0 was.1 old
+              | inr new ↦ absurd (omega (arith, p_conc.0, new.0))
+            ];
+      })
 
   to_next : (after : Network) → NetworkAgrees lists p after next → GoesOn lists p s after
-  to_next after at =
-      let m : Move = Clear j in
-      let P : State → Type 0 = λ t. LegalFrom lists t (m ∷ []) in
-      let ends : after_from lists s (learns.moves ++ m ∷ []) ≡ next =
-      after_append lists learns.moves (m ∷ []) s ∙ ap (λ (t : State). step lists t m) learns.ends in
-      record {
-        moves = learns.moves ++ m ∷ [];
-        legal = legal_append lists learns.moves (m ∷ []) s learns.legal (subst P (sym learns.ends) (legal, tt));
-        agrees = subst (NetworkAgrees lists p after) (sym ends) at;
-      }
+  to_next after at = learns_and_moves lists p s l (learning lists p net s agrees test) (Clear j) legal after at
 
   -- a clearing is the Learns of what was heard, and a Clear
   pub clearing_goes_on : GoesOn lists p s (after_clearing lists p net)

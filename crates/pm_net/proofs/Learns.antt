@@ -11,6 +11,9 @@ use Rattle.pm_market.specs.declared.moves.Move.TheVariants.{Learn}
 use Rattle.pm_market.proofs.Cuts.{updated_same, updated_other}
 use Rattle.pm_laws.proofs.Order.{after_append, legal_append}
 use Rattle.pm_laws.proofs.Kept.{sound_after_from}
+use Rattle.pm_net.specs.Pricing.{Pricing}
+use Rattle.pm_net.specs.Network.{Network}
+use Rattle.pm_net.specs.Agrees.{NetworkAgrees, GoesOn}
 
 -- of the first k nodes those that pass the test are learnt under these numbers, where these are above the old ones
 pub learnt_to : (ℕ → Bool) → (ℕ → ℕ) → (ℕ → ℕ) → ℕ → ℕ → ℕ
@@ -136,3 +139,41 @@ module _ (lists : Lists) (test : ℕ → Bool) (numbers : ℕ → ℕ) (s : Stat
   learning_sound law sound l did =
       let P : State → Type 0 = λ t. Sound lists t in
       subst P did.ends (sound_after_from lists law did.moves s sound did.legal)
+
+-- what was heard of the nodes that pass a test is learnt
+module _ (lists : Lists) (p : Pricing) (net : Network) (s : State) (agrees : NetworkAgrees lists p net s) (test : ℕ → Bool) where
+  abbrev number_heard : ℕ → ℕ
+  number_heard x = (net.heard x).number
+
+  abbrev pub all_learnt : ℕ → ℕ
+  all_learnt = learnt_to test number_heard s.learnt (nodes lists)
+
+  -- by legal moves
+  pub learning : Learning lists s all_learnt
+  learning = learning_to lists test number_heard s (λ x node. (agrees.heard x node).0) (nodes lists) (omega arith)
+
+  -- the state stays sound
+  pub learnt_sound : Lawful lists → Sound lists (record s { learnt = all_learnt })
+  learnt_sound law = learning_sound lists test number_heard s (λ x node. (agrees.heard x node).0) law agrees.sound all_learnt learning
+
+  -- such a node has the number heard of it, where that is not below the old one
+  pub is_learnt : (x : ℕ) → IsNode lists x → test x ≡ true → s.learnt x ≤ number_heard x → all_learnt x ≡ number_heard x
+  is_learnt x node passes more = passing test number_heard s.learnt (nodes lists) x node.0 node.1 passes more
+
+  -- any other has its old one
+  pub not_learnt : (x : ℕ) → test x ≡ false → all_learnt x ≡ s.learnt x
+  not_learnt x fails = failing test number_heard s.learnt (nodes lists) x fails
+
+-- what was learnt, and one move more
+pub learns_and_moves : (lists : Lists) (p : Pricing) (s : State) (l : ℕ → ℕ) (did : Learning lists s l) (m : Move) →
+    Legal lists (record s { learnt = l }) m → (after : Network) → NetworkAgrees lists p after (step lists (record s { learnt = l }) m) →
+    GoesOn lists p s after
+learns_and_moves lists p s l did m legal after agrees =
+    let P : State → Type 0 = λ t. LegalFrom lists t (m ∷ []) in
+    let ends : after_from lists s (did.moves ++ m ∷ []) ≡ step lists (record s { learnt = l }) m =
+    after_append lists did.moves (m ∷ []) s ∙ ap (λ (t : State). step lists t m) did.ends in
+    record {
+      moves = did.moves ++ m ∷ [];
+      legal = legal_append lists did.moves (m ∷ []) s did.legal (subst P (sym did.ends) (legal, tt));
+      agrees = subst (NetworkAgrees lists p after) (sym ends) agrees;
+    }

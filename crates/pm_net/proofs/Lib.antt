@@ -1,3 +1,4 @@
+pub mod Agreeing
 pub mod Breaks
 pub mod Messages
 pub mod Down
@@ -17,6 +18,7 @@ pub mod TellingOne
 pub mod Resending
 pub mod Starting
 pub mod Runs
+pub mod Resting
 pub mod Settled
 pub mod TreeAuctions
 pub mod Unstuck

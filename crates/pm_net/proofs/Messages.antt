@@ -5,6 +5,7 @@ use Rattle.std.proofs.lemmas.Bool.{cases_eq, cases_lt}
 use Rattle.std.proofs.lemmas.List.{get_or_append_left, get_or_push, length_push}
 use Rattle.pm_market.specs.State.{update}
 use Rattle.pm_market.proofs.Cuts.{updated_same, updated_other}
+use Rattle.pm_laws.proofs.Facts.{updated_at}
 
 -- what holds on both ways of a test holds of the choice
 pub either : {A : Type 0} → (P : A → Type 0) (b : Bool) (x y : A) → (b ≡ true → P x) → (b ≡ false → P y) → P (cond b x y)
@@ -58,3 +59,33 @@ some_push P l v d some =
 pub new_push : {A : Type 0} → (P : A → Type 0) (l : List A) (v d : A) → P v →
     (k : ℕ) × (k < length (l ++ v ∷ [])) × P (get_or (l ++ v ∷ []) k d)
 new_push P l v d new = (length l, omega (arith, length_push l v), subst P (sym (get_or_push l v d (length l) refl)) new)
+
+-- ---- channels, once one more message is sent on that of x
+
+-- what holds of each message on a channel holds of each still, where it holds of that one
+pub each_sent : {A : Type 0} → (P : ℕ → A → Type 0) (channels : ℕ → List A) (x : ℕ) (v d : A) → P x v → (y : ℕ) →
+    ((k : ℕ) → k < length (channels y) → P y (get_or (channels y) k d)) →
+    (k : ℕ) → k < length (update channels x (channels x ++ v ∷ []) y) → P y (get_or (update channels x (channels x ++ v ∷ []) y) k d)
+each_sent {A} P channels x v d new y each = elim (updated_at channels x (channels x ++ v ∷ []) y) [
+  | inl w ↦ subst (λ (l : List A). (k : ℕ) → k < length l → P y (get_or l k d)) (sym w.1)
+      (each_push (P y) (channels x) v d (subst (λ (z : ℕ). (k : ℕ) → k < length (channels z) → P y (get_or (channels z) k d)) w.0 each)
+      (subst (λ (z : ℕ). P z v) (sym w.0) new))
+  | inr w ↦ subst (λ (l : List A). (k : ℕ) → k < length l → P y (get_or l k d)) (sym w.1) each
+]
+
+-- a message on a channel is there still
+pub some_sent : {A : Type 0} → (P : A → Type 0) (channels : ℕ → List A) (x : ℕ) (v d : A) (y : ℕ) →
+    ((k : ℕ) × (k < length (channels y)) × P (get_or (channels y) k d)) →
+    (k : ℕ) × (k < length (update channels x (channels x ++ v ∷ []) y)) × P (get_or (update channels x (channels x ++ v ∷ []) y) k d)
+some_sent {A} P channels x v d y some = elim (updated_at channels x (channels x ++ v ∷ []) y) [
+  | inl w ↦ subst (λ (l : List A). (k : ℕ) × (k < length l) × P (get_or l k d)) (sym w.1)
+      (some_push P (channels x) v d (subst (λ (z : ℕ). (k : ℕ) × (k < length (channels z)) × P (get_or (channels z) k d)) w.0 some))
+  | inr w ↦ subst (λ (l : List A). (k : ℕ) × (k < length l) × P (get_or l k d)) (sym w.1) some
+]
+
+-- that one is there
+pub new_sent : {A : Type 0} → (P : A → Type 0) (channels : ℕ → List A) (x : ℕ) (v d : A) (y : ℕ) → y ≡ x → P v →
+    (k : ℕ) × (k < length (update channels x (channels x ++ v ∷ []) y)) × P (get_or (update channels x (channels x ++ v ∷ []) y) k d)
+new_sent {A} P channels x v d y e new =
+    subst (λ (l : List A). (k : ℕ) × (k < length l) × P (get_or l k d))
+    (sym (ap (update channels x (channels x ++ v ∷ [])) e ∙ updated_same channels x (channels x ++ v ∷ []))) (new_push P (channels x) v d new)

@@ -23,7 +23,8 @@ use Rattle.pm_net.specs.Restarts.{with_restart, can_resend, newest_bid, after_re
 use Rattle.pm_laws.specs.Gone.{is_gone}
 use Rattle.pm_net.specs.Agrees.{IsItsBid, NetworkAgrees, GoesOn}
 use Rattle.pm_net.proofs.Breaks.{broken, none_before}
-use Rattle.pm_net.proofs.Messages.{either, each_push, some_push}
+use Rattle.pm_net.proofs.Agreeing.{still, with_prices, with_sent}
+use Rattle.pm_net.proofs.Messages.{either, each_sent, some_sent}
 use Rattle.pm_laws.proofs.Gone.{gone_leaf, gone_inner}
 use Rattle.pm_net.proofs.Bidding.{bidding}
 use Rattle.pm_net.proofs.Sending.{sending}
@@ -47,29 +48,24 @@ silent : (lists : Lists) (p : Pricing) (net : Network) (s : State) → NetworkAg
     ((x k : ℕ) → IsNode lists x → k < length (old x) →
     (k < length (net.bids_sent x)) × (get_or (old x) k (nothing_heard p) ≡ get_or (net.bids_sent x) k (nothing_heard p))) →
     NetworkAgrees lists p (record net { bids_sent = old; restarts = with_restart net z }) s
-silent lists p net s agrees z old fewer = record {
-  sound = agrees.sound;
-  closed = agrees.closed;
-  counts = agrees.counts;
-  heard = agrees.heard;
-  learnt = agrees.learnt;
-  last_number = agrees.last_number;
-  newest_numbers = agrees.newest_numbers;
-  records = agrees.records;
-  answered = agrees.answered;
-  index = agrees.index;
-  device_index = λ d leaf none. agrees.device_index d leaf (none_before net z d none);
-  taken = agrees.taken;
-  full = agrees.full;
-  last_sent = agrees.last_sent;
-  bids_sent = λ x k node lt. let at = fewer x k node lt in subst (IsItsBid lists p s x) (sym at.1) (agrees.bids_sent x k node at.0);
-  prices_sent = agrees.prices_sent;
-  newest_sent = λ none. absurd (broken net z none);
-  whole_from = λ none. absurd (broken net z none);
-  caught_up = λ none. absurd (broken net z none);
-  due_root = λ none. absurd (broken net z none);
-  due_through = agrees.due_through;
-}
+silent lists p net s agrees z old fewer =
+    let stopped : NetworkAgrees lists p (record net { restarts = with_restart net z }) s =
+    with_prices lists p net s agrees net.answered net.taken net.prices_sent (with_restart net z) s.passed (λ none. absurd (broken net z none))
+    (record {
+      sound = agrees.sound;
+      answered = agrees.answered;
+      index = agrees.index;
+      device_index = λ d leaf none. agrees.device_index d leaf (none_before net z d none);
+      taken = agrees.taken;
+      full = agrees.full;
+      last_sent = agrees.last_sent;
+      prices_sent = agrees.prices_sent;
+      due_root = λ none. absurd (broken net z none);
+      due_through = agrees.due_through;
+    }) in
+    with_sent lists p (record net { restarts = with_restart net z }) s stopped old
+    (λ x k node lt. let at = fewer x k node lt in subst (IsItsBid lists p s x) (sym at.1) (agrees.bids_sent x k node at.0))
+    (λ none. absurd (broken net z none))
 
 module _ (lists : Lists) (law : Lawful lists) (p : Pricing) (by : GoesByNodes lists p) (net : Network) (s : State) (agrees : NetworkAgrees lists p net s) where
   -- a device that stops before its bid is sent: a Change
@@ -173,46 +169,7 @@ module _ (lists : Lists) (law : Lawful lists) (p : Pricing) (by : GoesByNodes li
 
     -- a bid that is sent again: no move
     pub resending : GoesOn lists p s (after_resending lists p net x)
-    resending = record {
-      moves = [];
-      legal = tt;
-      agrees = record {
-        sound = agrees.sound;
-        closed = agrees.closed;
-        counts = agrees.counts;
-        heard = agrees.heard;
-        learnt = agrees.learnt;
-        last_number = agrees.last_number;
-        newest_numbers = agrees.newest_numbers;
-        records = agrees.records;
-        answered = agrees.answered;
-        index = agrees.index;
-        device_index = agrees.device_index;
-        taken = agrees.taken;
-        full = agrees.full;
-        last_sent = agrees.last_sent;
-        bids_sent = λ y k y_node lt.
-            let P : List BidMessage → Type 0 = λ l. (i : ℕ) → i < length l → IsItsBid lists p s y (get_or l i (nothing_heard p)) in
-            let old : P (net.bids_sent y) = λ i below. agrees.bids_sent y i y_node below in
-            let all : P (update net.bids_sent x (net.bids_sent x ++ bid ∷ []) y) = elim (updated_at net.bids_sent x (net.bids_sent x ++ bid ∷ []) y) [
-              | inl w ↦ subst P (sym w.1) (each_push (IsItsBid lists p s y) (net.bids_sent x) bid (nothing_heard p)
-                  (subst (λ (z : ℕ). P (net.bids_sent z)) w.0 old) (subst (λ (z : ℕ). IsItsBid lists p s z bid) (sym w.0) its))
-              | inr w ↦ subst P (sym w.1) old
-            ] in
-            all k lt;
-        prices_sent = agrees.prices_sent;
-        newest_sent = λ none y y_node some.
-            let P : List BidMessage → Type 0 = λ l. (k : ℕ) × (k < length l) × ((get_or l k (nothing_heard p)).number ≡ newest_number_of lists s y) in
-            let old : P (net.bids_sent y) = agrees.newest_sent none y y_node some in
-            elim (updated_at net.bids_sent x (net.bids_sent x ++ bid ∷ []) y) [
-              | inl w ↦ subst P (sym w.1)
-                  (some_push (λ (b : BidMessage). b.number ≡ newest_number_of lists s y) (net.bids_sent x) bid (nothing_heard p) (subst
-                  (λ (z : ℕ). P (net.bids_sent z)) w.0 old))
-              | inr w ↦ subst P (sym w.1) old
-            ];
-        whole_from = agrees.whole_from;
-        caught_up = agrees.caught_up;
-        due_root = agrees.due_root;
-        due_through = agrees.due_through;
-      };
-    }
+    resending = still lists p (after_resending lists p net x) s (with_sent lists p net s agrees (update net.bids_sent x (net.bids_sent x ++ bid ∷ []))
+        (λ y k y_node. each_sent (IsItsBid lists p s) net.bids_sent x bid (nothing_heard p) its y (λ i. agrees.bids_sent y i y_node) k)
+        (λ none y y_node some. some_sent (λ (b : BidMessage). b.number ≡ newest_number_of lists s y) net.bids_sent x bid (nothing_heard p) y
+        (agrees.newest_sent none y y_node some)))

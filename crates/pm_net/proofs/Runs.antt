@@ -26,6 +26,7 @@ use Rattle.pm_net.specs.Events.{TellsOne, KeepsRunning, RunsOn, IsSameOrNewer}
 use Rattle.pm_market.proofs.Cuts.{updated_same, updated_other}
 use Rattle.pm_net.specs.Agrees.{NetworkAgrees, GoesOn, GoesForward}
 use Rattle.pm_net.proofs.Messages.{either}
+use Rattle.pm_net.proofs.Agreeing.{still}
 use Rattle.pm_net.proofs.Bidding.{bidding}
 use Rattle.pm_net.proofs.TakingBids.{taking}
 use Rattle.pm_net.proofs.Sending.{sending}
@@ -37,11 +38,7 @@ use Rattle.pm_net.proofs.Resending.{device_stops, relay_stops, resending}
 use Rattle.pm_net.proofs.Starting.{starting}
 
 -- nothing happens
-still : (lists : Lists) (p : Pricing) (net : Network) (s : State) → NetworkAgrees lists p net s → GoesOn lists p s net
-still lists p net s agrees = record { moves = []; legal = tt; agrees = agrees }
-
 same : (lists : Lists) (p : Pricing) (net : Network) (s : State) → NetworkAgrees lists p net s → (x j : ℕ) → GoesForward lists p s x j net
-unfolding still
 same lists p net s agrees x j = record { goes = still lists p net s agrees; move = inl refl }
 
 -- a node that is given a price makes no move, or one that is later than its last
@@ -123,6 +120,15 @@ event_goes_on lists law one p by net s agrees (TellsOne z) =
     either (GoesOn lists p s) (can_tell_one lists net z) (after_telling_one p net z) net
     (λ e. telling_one lists law p by net s agrees z e) (λ e. still lists p net s agrees)
 
+-- one goes on, and from there another
+goes_then : (lists : Lists) (p : Pricing) (s : State) (net after : Network) (first : GoesOn lists p s net) →
+    GoesOn lists p (after_from lists s first.moves) after → GoesOn lists p s after
+goes_then lists p s net after first rest = record {
+  moves = first.moves ++ rest.moves;
+  legal = legal_append lists first.moves rest.moves s first.legal rest.legal;
+  agrees = subst (NetworkAgrees lists p after) (sym (after_append lists first.moves rest.moves s)) rest.agrees;
+}
+
 -- so is a run
 pub run_goes_on : (lists : Lists) → Lawful lists → phases lists ≡ 1 → (p : Pricing) → GoesByNodes lists p →
     (events : List Event) (net : Network) (s : State) →
@@ -130,13 +136,8 @@ pub run_goes_on : (lists : Lists) → Lawful lists → phases lists ≡ 1 → (p
 run_goes_on lists law one p by [] net s agrees = still lists p net s agrees
 run_goes_on lists law one p by (e ∷ es) net s agrees =
     let first = event_goes_on lists law one p by net s agrees e in
-    let rest = run_goes_on lists law one p by es (network_step lists p net e) (after_from lists s first.moves) first.agrees in
-    record {
-      moves = first.moves ++ rest.moves;
-      legal = legal_append lists first.moves rest.moves s first.legal rest.legal;
-      agrees = subst (NetworkAgrees lists p (network_after lists p (network_step lists p net e) es)) (sym
-          (after_append lists first.moves rest.moves s)) rest.agrees;
-    }
+    goes_then lists p s (network_step lists p net e) (network_after lists p (network_step lists p net e) es) first
+    (run_goes_on lists law one p by es (network_step lists p net e) (after_from lists s first.moves) first.agrees)
 
 -- a run from the start is a legal journal
 pub run_from_start : (lists : Lists) → Lawful lists → phases lists ≡ 1 → (p : Pricing) → GoesByNodes lists p → (events : List Event) →

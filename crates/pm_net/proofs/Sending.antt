@@ -1,25 +1,21 @@
 -- A relay sends: the market's concentrator learns what the relay heard, and publishes.
-use Rattle.std.proofs.Common.{◌≡◌, ◌∙◌, sym, ap, subst, ℕ, ◌+◌, ◌-◌, ◌<◌, Bool, true, false, not, eqb, ltb, ◌&&◌, inl, inr}
-use Rattle.std.proofs.Common.{List, [], ◌∷◌, ◌++◌}
+use Rattle.std.proofs.Common.{◌≡◌, ◌∙◌, sym, ap, ℕ, ◌+◌, ◌-◌, ◌<◌, Bool, true, false, not, eqb, ltb, ◌&&◌, inl, inr}
 use Rattle.std.proofs.Common.{length, get_or, arith}
-use Rattle.std.proofs.lemmas.Bool.{and_parts, ltb-true, not-true, eq-eqb, ne_eqb}
+use Rattle.std.proofs.lemmas.Bool.{cases_eq, and_parts, ltb-true, not-true, eq-eqb, ne_eqb}
 use Rattle.pm_base.specs.Cuts.{Cut}
 use Rattle.pm_base.specs.Limits.{window_size}
 use Rattle.pm_bid.specs.Taken.{announced}
-use Rattle.pm_market.specs.Lists.{Lists, nodes, parent, is_leaf, IsNode, IsInner, IsConcentrator, Lawful}
-use Rattle.pm_market.specs.State.{State, update, is_same_on, cut_at, newest_number_of, part, knowledge, last_index}
+use Rattle.pm_market.specs.Lists.{Lists, parent, is_leaf, IsNode, IsInner, IsConcentrator, Lawful}
+use Rattle.pm_market.specs.State.{State, is_same_on, cut_at, newest_number_of, part, knowledge, last_index}
 use Rattle.pm_market.specs.Legality.{is_node}
-use Rattle.pm_market.specs.Moves.{step, Legal, LegalFrom, after_from}
+use Rattle.pm_market.specs.Moves.{Legal}
 use Rattle.pm_market.specs.Sound.{Sound}
-use Rattle.pm_market.specs.declared.moves.Move.{Move}
 use Rattle.pm_market.specs.declared.moves.Move.TheVariants.{Publish}
 use Rattle.pm_market.proofs.Cuts.{newest_inner, part_inner}
 use Rattle.pm_market.proofs.Legality.{is_node_from}
 use Rattle.pm_laws.specs.Added.{HasAdded}
 use Rattle.pm_laws.specs.Due.{is_due}
-use Rattle.pm_laws.proofs.Facts.{updated_at}
 use Rattle.pm_laws.proofs.Kept.{sound_step}
-use Rattle.pm_laws.proofs.Order.{after_append, legal_append}
 use Rattle.pm_laws.proofs.MoveLaws.{publishing, due_published}
 use Rattle.pm_net.specs.Pricing.{Pricing, GoesByNodes}
 use Rattle.pm_net.specs.Messages.{BidMessage, bid_message, nothing_heard, numbers_of}
@@ -27,9 +23,9 @@ use Rattle.pm_net.specs.Network.{Network}
 use Rattle.pm_net.specs.Running.{is_caught_up, has_news, can_send, relay_bid, heard_sum, after_sending}
 use Rattle.pm_laws.specs.Gone.{is_gone}
 use Rattle.pm_net.specs.Agrees.{IsItsBid, NetworkAgrees, GoesOn}
-use Rattle.pm_net.proofs.Messages.{each_push, new_push}
+use Rattle.pm_net.proofs.Messages.{each_sent, some_sent, new_sent}
 use Rattle.pm_laws.proofs.Gone.{gone_inner}
-use Rattle.pm_net.proofs.Learns.{learnt_to, failing, passing, Learning, learning_to, learning_sound}
+use Rattle.pm_net.proofs.Learns.{all_learnt, learning, learnt_sound, is_learnt, not_learnt, learns_and_moves}
 use Rattle.pm_net.proofs.News.{caught_from}
 use Rattle.pm_net.proofs.Answered.{answered_within}
 use Rattle.pm_net.proofs.Adding as adding
@@ -58,27 +54,20 @@ module _ (lists : Lists) (law : Lawful lists) (p : Pricing) (by : GoesByNodes li
   abbrev test : ℕ → Bool
   test x = eqb (parent lists x) c
 
-  abbrev numbers : ℕ → ℕ
-  numbers x = (net.heard x).number
-
   abbrev l : ℕ → ℕ
-  l = learnt_to test numbers s.learnt (nodes lists)
-
-  learns : Learning lists s l
-  learns = learning_to lists test numbers s (λ x node. (agrees.heard x node).0) (nodes lists) (omega arith)
+  l = all_learnt lists p net s agrees test
 
   here : (x : ℕ) → IsNode lists x → parent lists x ≡ c → l x ≡ (net.heard x).number
-  here x node up = passing test numbers s.learnt (nodes lists) x node.0 node.1 (eq-eqb (parent lists x) c up)
-      (caught_from lists law p net s agrees c parts.1 x node up)
+  here x node up = is_learnt lists p net s agrees test x node (eq-eqb (parent lists x) c up) (caught_from lists law p net s agrees c parts.1 x node up)
 
   there : (x : ℕ) → IsNode lists x → (parent lists x ≡ c → ⊥) → l x ≡ s.learnt x
-  there x node ne = failing test numbers s.learnt (nodes lists) x (ne_eqb (parent lists x) c ne)
+  there x node ne = not_learnt lists p net s agrees test x (ne_eqb (parent lists x) c ne)
 
   abbrev knows : State
   knows = adding.knowing s l
 
   sound : Sound lists knows
-  sound = learning_sound lists test numbers s (λ x node. (agrees.heard x node).0) law agrees.sound l learns
+  sound = learnt_sound lists p net s agrees test law
 
   -- what is published
   abbrev n : ℕ
@@ -141,31 +130,18 @@ module _ (lists : Lists) (law : Lawful lists) (p : Pricing) (by : GoesByNodes li
     taken = adding.taken_is lists law p by net s agrees c inner l sound here there has (λ z j due. due_same z j ∙ due);
     full = λ y j y_conc due le. agrees.full y j y_conc (sym (due_same y j) ∙ due) le;
     last_sent = agrees.last_sent;
-    bids_sent = λ x k node lt.
-        let P : List BidMessage → Type 0 = λ l. (i : ℕ) → i < length l → IsItsBid lists p next x (get_or l i (nothing_heard p)) in
-        let old : P (net.bids_sent x) = λ i below. kept_bid x (get_or (net.bids_sent x) i (nothing_heard p)) (agrees.bids_sent x i node below) in
-        let all : P (update net.bids_sent c (net.bids_sent c ++ relay_bid p net c ∷ []) x) =
-        elim (updated_at net.bids_sent c (net.bids_sent c ++ relay_bid p net c ∷ []) x) [
-          | inl w ↦ subst P (sym w.1) (each_push (IsItsBid lists p next x) (net.bids_sent c) (relay_bid p net c) (nothing_heard p)
-              (subst (λ (z : ℕ). P (net.bids_sent z)) w.0 old) (subst (λ (z : ℕ). IsItsBid lists p next z (relay_bid p net c)) (sym w.0) new_bid))
-          | inr w ↦ subst P (sym w.1) old
-        ] in
-        all k lt;
+    bids_sent = λ x k node. each_sent (IsItsBid lists p next) net.bids_sent c (relay_bid p net c) (nothing_heard p) new_bid x
+        (λ i below. kept_bid x (get_or (net.bids_sent x) i (nothing_heard p)) (agrees.bids_sent x i node below)) k;
     prices_sent = λ x k node lt. adding.its_price lists law p by net s agrees c inner l sound here there has (λ z j due. due_same z j
         ∙ due) x node _ (agrees.prices_sent x k node lt);
-    newest_sent = λ none x node some. elim (updated_at net.bids_sent c (net.bids_sent c ++ relay_bid p net c ∷ []) x) [
-      | inl w ↦
-          let P : List BidMessage → Type 0 =
-          λ l. (k : ℕ) × (k < length l) × ((get_or l k (nothing_heard p)).number ≡ newest_number_of lists next x) in
-          let is : newest_number_of lists next x ≡ n = ap (newest_number_of lists next) w.0 ∙ has.newest_added ∙ sym number_is in
-          subst P (sym w.1) (new_push (λ (b : BidMessage). b.number ≡ newest_number_of lists next x) (net.bids_sent c) (relay_bid p net c)
-          (nothing_heard p) (sym is))
-      | inr w ↦
-          let P : List BidMessage → Type 0 =
-          λ l. (k : ℕ) × (k < length l) × ((get_or l k (nothing_heard p)).number ≡ newest_number_of lists next x) in
-          let same : newest_number_of lists next x ≡ newest_number_of lists s x = has.newest_kept x w.0 in
+    newest_sent = λ none x node some. elim (cases_eq x c) [
+      | inl e ↦ new_sent (λ (b : BidMessage). b.number ≡ newest_number_of lists next x) net.bids_sent c (relay_bid p net c) (nothing_heard p) x e
+          (number_is ∙ sym (ap (newest_number_of lists next) e ∙ has.newest_added))
+      | inr ne ↦
+          let same : newest_number_of lists next x ≡ newest_number_of lists s x = has.newest_kept x ne in
           let old = agrees.newest_sent none x node (omega (arith, some, same)) in
-          subst P (sym w.1) (old.0, old.1, old.2 ∙ sym same)
+          some_sent (λ (b : BidMessage). b.number ≡ newest_number_of lists next x) net.bids_sent c (relay_bid p net c) (nothing_heard p) x
+          (old.0, old.1, old.2 ∙ sym same)
     ];
     whole_from = agrees.whole_from;
     caught_up = adding.caught_up_is lists law p by net s agrees c inner l sound here there has;
@@ -177,13 +153,4 @@ module _ (lists : Lists) (law : Lawful lists) (p : Pricing) (by : GoesByNodes li
 
   -- a bid that a relay sends: the Learns of what it heard, and a Publish
   pub sending : GoesOn lists p s (after_sending p net c)
-  sending =
-      let m : Move = Publish c n in
-      let P : State → Type 0 = λ t. LegalFrom lists t (m ∷ []) in
-      let ends : after_from lists s (learns.moves ++ m ∷ []) ≡ next =
-      after_append lists learns.moves (m ∷ []) s ∙ ap (λ (t : State). step lists t m) learns.ends in
-      record {
-        moves = learns.moves ++ m ∷ [];
-        legal = legal_append lists learns.moves (m ∷ []) s learns.legal (subst P (sym learns.ends) (legal, tt));
-        agrees = subst (NetworkAgrees lists p (after_sending p net c)) (sym ends) agrees_after;
-      }
+  sending = learns_and_moves lists p s l (learning lists p net s agrees test) (Publish c n) legal (after_sending p net c) agrees_after

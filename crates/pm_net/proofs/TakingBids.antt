@@ -1,8 +1,8 @@
 -- A parent takes a bid of a child: the market's parent learns it only once it goes into a record.
-use Rattle.std.proofs.Common.{◌≡◌, sym, ap, subst, ℕ, ◌<◌, true, ltb, inl, inr, [], length, arith}
+use Rattle.std.proofs.Common.{◌≡◌, sym, ap, subst, ℕ, ◌<◌, true, ltb, inl, inr, length, arith}
 use Rattle.std.proofs.lemmas.Bool.{cases_lt, and_parts, ltb-true}
 use Rattle.pm_market.specs.Lists.{Lists, IsNode}
-use Rattle.pm_market.specs.State.{State}
+use Rattle.pm_market.specs.State.{State, update}
 use Rattle.pm_market.specs.Legality.{is_node}
 use Rattle.pm_market.proofs.Legality.{is_node_from}
 use Rattle.pm_laws.proofs.Facts.{updated_at}
@@ -11,6 +11,7 @@ use Rattle.pm_net.specs.Messages.{BidMessage, nothing_heard}
 use Rattle.pm_net.specs.Network.{Network, sent_bid}
 use Rattle.pm_net.specs.Running.{is_new_bid, after_taking_bid}
 use Rattle.pm_net.specs.Agrees.{IsItsBid, NetworkAgrees, GoesOn}
+use Rattle.pm_net.proofs.Agreeing.{still, with_bids}
 use Rattle.pm_net.proofs.Messages.{past}
 
 module _ (lists : Lists) (p : Pricing) (net : Network) (s : State) (agrees : NetworkAgrees lists p net s) (x k : ℕ)
@@ -32,26 +33,16 @@ module _ (lists : Lists) (p : Pricing) (net : Network) (s : State) (agrees : Net
 
   -- after a bid was taken the network stands for the same state
   pub taking_agrees : NetworkAgrees lists p (after_taking_bid net x bid) s
-  taking_agrees = record {
+  taking_agrees = with_bids lists p net s agrees net.counts (update net.heard x bid) net.records net.whole_from net.bids_sent s.counts (record {
     sound = agrees.sound;
-    closed = agrees.closed;
     counts = agrees.counts;
     heard = λ y node. elim (updated_at net.heard x bid y) [
       | inl w ↦ subst (IsItsBid lists p s y) (sym w.1) (subst (λ (z : ℕ). IsItsBid lists p s z bid) (sym w.0) sent)
       | inr w ↦ subst (IsItsBid lists p s y) (sym w.1) (agrees.heard y node)
     ];
-    learnt = agrees.learnt;
-    last_number = agrees.last_number;
     newest_numbers = agrees.newest_numbers;
     records = agrees.records;
-    answered = agrees.answered;
-    index = agrees.index;
-    device_index = agrees.device_index;
-    taken = agrees.taken;
-    full = agrees.full;
-    last_sent = agrees.last_sent;
     bids_sent = agrees.bids_sent;
-    prices_sent = agrees.prices_sent;
     newest_sent = agrees.newest_sent;
     whole_from = agrees.whole_from;
     caught_up = λ none y node. elim (updated_at net.heard x bid y) [
@@ -64,10 +55,9 @@ module _ (lists : Lists) (p : Pricing) (net : Network) (s : State) (agrees : Net
       )
       | inr w ↦ omega (arith, agrees.caught_up none y node, ap (λ (b : BidMessage). b.number) w.1)
     ];
-    due_root = agrees.due_root;
     due_through = agrees.due_through;
-  }
+  })
 
   -- so taking a bid is no move
   pub taking : GoesOn lists p s (after_taking_bid net x bid)
-  taking = record { moves = []; legal = tt; agrees = taking_agrees }
+  taking = still lists p (after_taking_bid net x bid) s taking_agrees

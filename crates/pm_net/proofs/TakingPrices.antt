@@ -19,11 +19,12 @@ use Rattle.pm_net.specs.Pricing.{Pricing, GoesByNodes}
 use Rattle.pm_net.specs.Messages.{BidMessage, PriceMessage, price_message, no_price}
 use Rattle.pm_net.specs.Network.{IsUnbroken, Network, sent_price}
 use Rattle.pm_net.specs.Running.{is_new_price, names_a_bid, is_overtaken, waits, after_taking_price}
-use Rattle.pm_net.specs.Running.{after_answer, relay_step, after_passing}
+use Rattle.pm_net.specs.Running.{after_answer, relay_step, sent_down, after_passing}
 use Rattle.pm_laws.proofs.Numbers.{number_leaf}
 use Rattle.pm_net.specs.Messages.{numbers_of}
 use Rattle.pm_net.specs.Agrees.{GoesOn, bid_of_number, price_of_clearing, IsItsPrice, HoldsIts, NetworkAgrees, GoesForward}
-use Rattle.pm_net.proofs.Messages.{past, each_push, some_push}
+use Rattle.pm_net.proofs.Agreeing.{with_prices}
+use Rattle.pm_net.proofs.Messages.{past, each_sent, some_sent}
 use Rattle.pm_net.proofs.Down.{down_each, down_old, down_new}
 use Rattle.pm_laws.proofs.Gone.{gone_addresses}
 use Rattle.pm_net.proofs.Gone.{not_flips}
@@ -219,33 +220,23 @@ module _ (lists : Lists) (law : Lawful lists) (p : Pricing) (by : GoesByNodes li
     held = next own own_fits own_passes no_relay
 
     holding_agrees : NetworkAgrees lists p (after_taking_price net x price) held
-    holding_agrees = record {
-      sound = catch.sound lists law s agrees.sound x node own j within.0 (caught own own_fits own_passes no_relay);
-      closed = agrees.closed;
-      counts = agrees.counts;
-      heard = agrees.heard;
-      learnt = agrees.learnt;
-      last_number = agrees.last_number;
-      newest_numbers = agrees.newest_numbers;
-      records = agrees.records;
-      answered = λ c conc. agrees.answered c conc ∙ ap (λ (q : PriceMessage). q.number) (sym (updated_other net.taken x price c (λ e.
-          both_ways (is_leaf lists x) (ap (is_leaf lists) (sym e) ∙ conc.2) leaf)));
-      index = index_is own own_fits own_passes no_relay;
-      device_index = device_index_is own own_fits own_passes no_relay;
-      taken = taken_is own own_fits own_passes no_relay;
-      full = full_is own own_fits own_passes no_relay;
-      last_sent = last_sent_is own own_fits own_passes no_relay;
-      bids_sent = agrees.bids_sent;
-      prices_sent = λ y i y_node lt. its_price own own_fits own_passes no_relay y _ (agrees.prices_sent y i y_node lt);
-      newest_sent = agrees.newest_sent;
-      whole_from = agrees.whole_from;
-      caught_up = agrees.caught_up;
-      due_root = due_root_is own own_fits own_passes no_relay;
-      due_through = λ y y_node p_conc at through all due.
-          let other : parent lists y ≡ x → ⊥ = λ e. no_child y y_node e in
-          through_old own own_fits own_passes no_relay y y_node p_conc (last_kept own own_fits own_passes no_relay (parent lists y) other)
-          (omega (arith, at, ap (λ (q : PriceMessage). q.index) (updated_other net.taken x price (parent lists y) other))) through all due;
-    }
+    holding_agrees = with_prices lists p net s agrees net.answered (update net.taken x price) net.prices_sent net.restarts held.passed (λ none. none)
+        (record {
+          sound = catch.sound lists law s agrees.sound x node own j within.0 (caught own own_fits own_passes no_relay);
+          answered = λ c conc. agrees.answered c conc ∙ ap (λ (q : PriceMessage). q.number) (sym (updated_other net.taken x price c (λ e.
+              both_ways (is_leaf lists x) (ap (is_leaf lists) (sym e) ∙ conc.2) leaf)));
+          index = index_is own own_fits own_passes no_relay;
+          device_index = device_index_is own own_fits own_passes no_relay;
+          taken = taken_is own own_fits own_passes no_relay;
+          full = full_is own own_fits own_passes no_relay;
+          last_sent = last_sent_is own own_fits own_passes no_relay;
+          prices_sent = λ y i y_node lt. its_price own own_fits own_passes no_relay y _ (agrees.prices_sent y i y_node lt);
+          due_root = due_root_is own own_fits own_passes no_relay;
+          due_through = λ y y_node p_conc at through all due.
+              let other : parent lists y ≡ x → ⊥ = λ e. no_child y y_node e in
+              through_old own own_fits own_passes no_relay y y_node p_conc (last_kept own own_fits own_passes no_relay (parent lists y) other)
+              (omega (arith, at, ap (λ (q : PriceMessage). q.index) (updated_other net.taken x price (parent lists y) other))) through all due;
+        })
 
     -- a device that takes a price: a Pass, or no move
     pub holding : GoesForward lists p s x j (after_taking_price net x price)
@@ -314,6 +305,40 @@ module _ (lists : Lists) (law : Lawful lists) (p : Pricing) (by : GoesByNodes li
       | inr ge ↦ its_caught.old j (agrees.full x j conc its.0 ge)
     ]
 
+    -- It has taken the price. No price that was sent is lost, each price is due, and its children have the price where it is through.
+    taking : (sent : ℕ → List PriceMessage) →
+        ((P : PriceMessage → Type 0) (y : ℕ) → ((h : ℕ) × (h < length (net.prices_sent y)) × P (get_or (net.prices_sent y) h no_price)) →
+        (h : ℕ) × (h < length (sent y)) × P (get_or (sent y) h no_price)) →
+        ((y i : ℕ) → IsNode lists y → i < length (sent y) → IsItsPrice lists p heard_state y (get_or (sent y) i no_price)) →
+        ((y : ℕ) → IsNode lists y → parent lists y ≡ x → last_index heard_state (parent lists y) ≡ j →
+        net.last_number (parent lists y) ≤ number lists s (parent lists y) (cleared_cut s (last_index heard_state (parent lists y))) →
+        ((z : ℕ) → IsNode lists z → parent lists z ≡ parent lists y → s.learnt z ≡ newest_number_of lists s z) →
+        is_due lists heard_state y (last_index heard_state (parent lists y)) ≡ true →
+        (h : ℕ) × (h < length (sent y)) × ((get_or (sent y) h no_price).index ≡ last_index heard_state (parent lists y))) →
+        NetworkAgrees lists p (record (after_answer net x price) { prices_sent = sent }) heard_state
+    taking sent old each down = with_prices lists p net s agrees (update net.answered x price.number) (update net.taken x price) sent net.restarts
+        heard_state.passed (λ none. none) (record {
+          sound = catch.sound lists law s agrees.sound x node due_test j within.0 its_caught;
+          answered = answered_is;
+          index = index_is due_test due_fits its.0 all_due;
+          device_index = device_index_is due_test due_fits its.0 all_due;
+          taken = taken_is due_test due_fits its.0 all_due;
+          full = full_is due_test due_fits its.0 all_due;
+          last_sent = λ y y_node some. old (λ (q : PriceMessage). q.index ≡ last_index heard_state y) y
+              (last_sent_is due_test due_fits its.0 all_due y y_node some);
+          prices_sent = each;
+          due_root = λ none y i y_node up due. old (λ (q : PriceMessage). q.index ≡ i) y
+              (due_root_is due_test due_fits its.0 all_due none y i y_node up due);
+          due_through = λ y y_node p_conc at through all due. elim (cases_eq (parent lists y) x) [
+            | inl up ↦ down y y_node up (is_last y up at) through all due
+            | inr ne ↦ old (λ (q : PriceMessage). q.index ≡ last_index heard_state (parent lists y)) y
+                (through_old due_test due_fits its.0 all_due y y_node p_conc (last_same (parent lists y) ne) (elsewhere y ne at) through all due)
+          ];
+        })
+
+    kept_price : (y i : ℕ) → IsNode lists y → i < length (net.prices_sent y) → IsItsPrice lists p heard_state y (sent_price net y i)
+    kept_price y i y_node lt = its_price due_test due_fits its.0 all_due y (sent_price net y i) (agrees.prices_sent y i y_node lt)
+
     -- its record is lost
     module _ (lost : leb (net.whole_from x) price.number ≡ false) (goes : waits lists net x price.number ≡ false) where
       -- a child sent a newer number than the one learnt, where the price names the newest bid
@@ -327,42 +352,15 @@ module _ (lists : Lists) (law : Lawful lists) (p : Pricing) (by : GoesByNodes li
       ]
 
       answering_agrees : NetworkAgrees lists p (after_answer net x price) heard_state
-      answering_agrees = record {
-        sound = catch.sound lists law s agrees.sound x node due_test j within.0 its_caught;
-        closed = agrees.closed;
-        counts = agrees.counts;
-        heard = agrees.heard;
-        learnt = agrees.learnt;
-        last_number = agrees.last_number;
-        newest_numbers = agrees.newest_numbers;
-        records = agrees.records;
-        answered = answered_is;
-        index = index_is due_test due_fits its.0 all_due;
-        device_index = device_index_is due_test due_fits its.0 all_due;
-        taken = taken_is due_test due_fits its.0 all_due;
-        full = full_is due_test due_fits its.0 all_due;
-        last_sent = last_sent_is due_test due_fits its.0 all_due;
-        bids_sent = agrees.bids_sent;
-        prices_sent = λ y i y_node lt. its_price due_test due_fits its.0 all_due y _ (agrees.prices_sent y i y_node lt);
-        newest_sent = agrees.newest_sent;
-        whole_from = agrees.whole_from;
-        caught_up = agrees.caught_up;
-        due_root = due_root_is due_test due_fits its.0 all_due;
-        due_through = λ y y_node p_conc at through all due. elim (cases_eq (parent lists y) x) [
-          | inl up ↦
-              let is : last_index heard_state (parent lists y) ≡ j = is_last y up at in
-              absurd (behind (omega (
-                arith,
-                through,
-                named.2,
-                number_is,
-                ap net.last_number up,
-                ap (λ (i : ℕ). number lists s (parent lists y) (cleared_cut s i)) is,
-                ap (λ (z : ℕ). number lists s z (cleared_cut s j)) up,
-              )) (λ z z_node z_up. all z z_node (z_up ∙ sym up)))
-          | inr ne ↦ through_old due_test due_fits its.0 all_due y y_node p_conc (last_same (parent lists y) ne) (elsewhere y ne at) through all due
-        ];
-      }
+      answering_agrees = taking net.prices_sent (λ P y some. some) kept_price (λ y y_node up is through all due. absurd (behind (omega (
+        arith,
+        through,
+        named.2,
+        number_is,
+        ap net.last_number up,
+        ap (λ (i : ℕ). number lists s (parent lists y) (cleared_cut s i)) is,
+        ap (λ (z : ℕ). number lists s z (cleared_cut s j)) up,
+      )) (λ z z_node z_up. all z z_node (z_up ∙ sym up))))
 
       -- a relay that takes a price alone, whose record it lost: Passes, or no move
       pub answering : GoesForward lists p s x j (after_answer net x price)
@@ -430,40 +428,14 @@ module _ (lists : Lists) (law : Lawful lists) (p : Pricing) (by : GoesByNodes li
         )
 
       passing_agrees : NetworkAgrees lists p (after_passing lists p net x price) heard_state
-      passing_agrees = record {
-        sound = catch.sound lists law s agrees.sound x node due_test j within.0 its_caught;
-        closed = agrees.closed;
-        counts = agrees.counts;
-        heard = agrees.heard;
-        learnt = agrees.learnt;
-        last_number = agrees.last_number;
-        newest_numbers = agrees.newest_numbers;
-        records = agrees.records;
-        answered = answered_is;
-        index = index_is due_test due_fits its.0 all_due;
-        device_index = device_index_is due_test due_fits its.0 all_due;
-        taken = taken_is due_test due_fits its.0 all_due;
-        full = full_is due_test due_fits its.0 all_due;
-        last_sent = λ y y_node some. down_old lists net.prices_sent x basis j the_step y (λ (q : PriceMessage). q.index ≡ last_index heard_state y)
-            (last_sent_is due_test due_fits its.0 all_due y y_node some);
-        bids_sent = agrees.bids_sent;
-        prices_sent = λ y i y_node lt. down_each lists net.prices_sent x basis j the_step y (IsItsPrice lists p heard_state y)
-            (λ h below. its_price due_test due_fits its.0 all_due y _ (agrees.prices_sent y h y_node below)) (λ up e. new_price y y_node up e) i lt;
-        newest_sent = agrees.newest_sent;
-        whole_from = agrees.whole_from;
-        caught_up = agrees.caught_up;
-        due_root = λ none y i y_node up due. down_old lists net.prices_sent x basis j the_step y (λ (q : PriceMessage). q.index ≡ i)
-            (due_root_is due_test due_fits its.0 all_due none y i y_node up due);
-        due_through = λ y y_node p_conc at through all due. elim (cases_eq (parent lists y) x) [
-          | inl up ↦
-              let is : last_index heard_state (parent lists y) ≡ j = is_last y up at in
-              let addressed : addresses lists s j y ≡ true = (due_parts lists heard_state y j (ap (is_due lists heard_state y) (sym is) ∙ due)).1 in
-              down_new lists net.prices_sent x basis j the_step y (λ (q : PriceMessage). q.index ≡ last_index heard_state (parent lists y)) up
-              (gone_is y y_node up ∙ ap not addressed) (sym is)
-          | inr ne ↦ down_old lists net.prices_sent x basis j the_step y (λ (q : PriceMessage). q.index ≡ last_index heard_state (parent lists y))
-              (through_old due_test due_fits its.0 all_due y y_node p_conc (last_same (parent lists y) ne) (elsewhere y ne at) through all due)
-        ];
-      }
+      passing_agrees = taking (sent_down lists net.prices_sent x basis j the_step)
+          (λ P y some. down_old lists net.prices_sent x basis j the_step y P some)
+          (λ y i y_node. down_each lists net.prices_sent x basis j the_step y (IsItsPrice lists p heard_state y) (λ h. kept_price y h y_node)
+          (λ up e. new_price y y_node up e) i)
+          (λ y y_node up is through all due.
+          let addressed : addresses lists s j y ≡ true = (due_parts lists heard_state y j (ap (is_due lists heard_state y) (sym is) ∙ due)).1 in
+          down_new lists net.prices_sent x basis j the_step y (λ (q : PriceMessage). q.index ≡ last_index heard_state (parent lists y)) up
+          (gone_is y y_node up ∙ ap not addressed) (sym is))
 
       -- a relay that passes a price on: Passes, or no move
       pub passing : GoesForward lists p s x j (after_passing lists p net x price)
@@ -479,12 +451,7 @@ module _ (lists : Lists) (law : Lawful lists) (p : Pricing) (by : GoesByNodes li
 
         one_old : (P : PriceMessage → Type 0) (y : ℕ) → ((h : ℕ) × (h < length (net.prices_sent y)) × P (get_or (net.prices_sent y) h no_price)) →
             (h : ℕ) × (h < length (one_sent y)) × P (get_or (one_sent y) h no_price)
-        one_old P y some =
-            let Has : List PriceMessage → Type 0 = λ l. (h : ℕ) × (h < length l) × P (get_or l h no_price) in
-            elim (updated_at net.prices_sent z (net.prices_sent z ++ one ∷ []) y) [
-              | inl w ↦ subst Has (sym w.1) (some_push P (net.prices_sent z) one no_price (subst (λ (i : ℕ). Has (net.prices_sent i)) w.0 some))
-              | inr w ↦ subst Has (sym w.1) some
-            ]
+        one_old P y some = some_sent P net.prices_sent z one no_price y some
 
         last_after : last_index s x ≤ last_index heard_state x
         last_after = elim (cases_lt (last_index s x) j) [
@@ -499,15 +466,8 @@ module _ (lists : Lists) (law : Lawful lists) (p : Pricing) (by : GoesByNodes li
         ]
 
         passing_to_one_agrees : NetworkAgrees lists p (record net { prices_sent = one_sent }) heard_state
-        passing_to_one_agrees = record {
+        passing_to_one_agrees = with_prices lists p net s agrees net.answered net.taken one_sent net.restarts heard_state.passed (λ none. none) (record {
           sound = catch.sound lists law s agrees.sound x node due_test j within.0 its_caught;
-          closed = agrees.closed;
-          counts = agrees.counts;
-          heard = agrees.heard;
-          learnt = agrees.learnt;
-          last_number = agrees.last_number;
-          newest_numbers = agrees.newest_numbers;
-          records = agrees.records;
           answered = agrees.answered;
           index = λ y y_node. elim (cases_eq y x) [
             | inl e ↦ omega (arith, agrees.index y y_node, ap (last_index s) e, ap (last_index heard_state) e, last_after)
@@ -522,21 +482,8 @@ module _ (lists : Lists) (law : Lawful lists) (p : Pricing) (by : GoesByNodes li
           full = full_is due_test due_fits its.0 all_due;
           last_sent = λ y y_node some. one_old (λ (q : PriceMessage). q.index ≡ last_index heard_state y) y
               (last_sent_is due_test due_fits its.0 all_due y y_node some);
-          bids_sent = agrees.bids_sent;
-          prices_sent = λ y i y_node lt.
-              let P : List PriceMessage → Type 0 =
-              λ l. (h : ℕ) → h < length l → IsItsPrice lists p heard_state y (get_or l h no_price) in
-              let old : P (net.prices_sent y) = λ h below. its_price due_test due_fits its.0 all_due y _ (agrees.prices_sent y h y_node below) in
-              let all : P (one_sent y) = elim (updated_at net.prices_sent z (net.prices_sent z ++ one ∷ []) y) [
-                | inl w ↦ subst P (sym w.1) (each_push (IsItsPrice lists p heard_state y) (net.prices_sent z) one no_price
-                    (subst (λ (i : ℕ). P (net.prices_sent i)) w.0 old)
-                    (subst (λ (i : ℕ). IsItsPrice lists p heard_state i one) (sym w.0) (new_price z z_node z_up stays_in)))
-                | inr w ↦ subst P (sym w.1) old
-              ] in
-              all i lt;
-          newest_sent = agrees.newest_sent;
-          whole_from = agrees.whole_from;
-          caught_up = agrees.caught_up;
+          prices_sent = λ y i y_node. each_sent (IsItsPrice lists p heard_state) net.prices_sent z one no_price
+              (new_price z z_node z_up stays_in) y (λ h. kept_price y h y_node) i;
           due_root = λ none y i y_node up due. one_old (λ (q : PriceMessage). q.index ≡ i) y
               (due_root_is due_test due_fits its.0 all_due none y i y_node up due);
           due_through = λ y y_node p_conc at through all due. elim (cases_eq (parent lists y) x) [
@@ -551,7 +498,7 @@ module _ (lists : Lists) (law : Lawful lists) (p : Pricing) (by : GoesByNodes li
             | inr ne ↦ one_old (λ (q : PriceMessage). q.index ≡ last_index heard_state (parent lists y)) y
                 (through_old due_test due_fits its.0 all_due y y_node p_conc (last_same (parent lists y) ne) at through all due)
           ];
-        }
+        })
 
         -- so it is where it passes the price to one child alone
         pub passing_to_one : GoesOn lists p s (record net { prices_sent = one_sent })

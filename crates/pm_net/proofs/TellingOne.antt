@@ -1,5 +1,5 @@
 -- The auctioneer sends the price of its newest clearing to a child again.
-use Rattle.std.proofs.Common.{◌≡◌, ◌∙◌, sym, ap, subst, ℕ, ◌<◌, ◌≤◌, true, false, not, eqb, leb, ◌&&◌, inl, inr, List, []}
+use Rattle.std.proofs.Common.{◌≡◌, ◌∙◌, sym, ap, ℕ, ◌<◌, ◌≤◌, true, false, not, eqb, leb, ◌&&◌, inl, List, []}
 use Rattle.std.proofs.Common.{◌∷◌, ◌++◌, length, get_or, arith}
 use Rattle.std.proofs.lemmas.Bool.{and_parts, leb-true, eqb-true, not-true}
 use Rattle.pm_bid.specs.Clearing.{clearing_step}
@@ -8,7 +8,6 @@ use Rattle.pm_market.specs.State.{State, update, cut_at, last_index, part, numbe
 use Rattle.pm_market.specs.Legality.{is_node}
 use Rattle.pm_market.proofs.Tree.{leaf_zero}
 use Rattle.pm_market.proofs.Legality.{is_node_from}
-use Rattle.pm_laws.proofs.Facts.{updated_at}
 use Rattle.pm_laws.proofs.Numbers.{cleared_is_part}
 use Rattle.pm_laws.proofs.MoveLaws.{due_from}
 use Rattle.pm_net.specs.Pricing.{Pricing, GoesByNodes}
@@ -16,7 +15,8 @@ use Rattle.pm_net.specs.Messages.{BidMessage, PriceMessage, price_message, no_pr
 use Rattle.pm_net.specs.Network.{Network}
 use Rattle.pm_net.specs.Restarts.{can_tell_one, after_telling_one}
 use Rattle.pm_net.specs.Agrees.{bid_of_number, IsItsPrice, NetworkAgrees, GoesOn}
-use Rattle.pm_net.proofs.Messages.{each_push, some_push}
+use Rattle.pm_net.proofs.Agreeing.{still, with_prices}
+use Rattle.pm_net.proofs.Messages.{each_sent, some_sent}
 use Rattle.pm_laws.proofs.Gone.{gone_addresses}
 use Rattle.pm_net.proofs.Gone.{not_flips}
 
@@ -79,48 +79,22 @@ module _ (lists : Lists) (law : Lawful lists) (p : Pricing) (by : GoesByNodes li
 
   old : (P : PriceMessage → Type 0) (y : ℕ) → ((h : ℕ) × (h < length (net.prices_sent y)) × P (get_or (net.prices_sent y) h no_price)) →
       (h : ℕ) × (h < length (sent y)) × P (get_or (sent y) h no_price)
-  old P y some =
-      let Has : List PriceMessage → Type 0 = λ l. (h : ℕ) × (h < length l) × P (get_or l h no_price) in
-      elim (updated_at net.prices_sent z (net.prices_sent z ++ price ∷ []) y) [
-        | inl w ↦ subst Has (sym w.1) (some_push P (net.prices_sent z) price no_price (subst (λ (i : ℕ). Has (net.prices_sent i)) w.0 some))
-        | inr w ↦ subst Has (sym w.1) some
-      ]
+  old P y some = some_sent P net.prices_sent z price no_price y some
 
   -- the price of the newest clearing is sent again: no move
   pub telling_one : GoesOn lists p s (after_telling_one p net z)
-  telling_one = record {
-    moves = [];
-    legal = tt;
-    agrees = record {
-      sound = agrees.sound;
-      closed = agrees.closed;
-      counts = agrees.counts;
-      heard = agrees.heard;
-      learnt = agrees.learnt;
-      last_number = agrees.last_number;
-      newest_numbers = agrees.newest_numbers;
-      records = agrees.records;
-      answered = agrees.answered;
-      index = agrees.index;
-      device_index = agrees.device_index;
-      taken = agrees.taken;
-      full = agrees.full;
-      last_sent = λ y y_node some. old (λ (q : PriceMessage). q.index ≡ last_index s y) y (agrees.last_sent y y_node some);
-      bids_sent = agrees.bids_sent;
-      prices_sent = λ y i y_node lt.
-          let P : List PriceMessage → Type 0 = λ l. (h : ℕ) → h < length l → IsItsPrice lists p s y (get_or l h no_price) in
-          let before : P (net.prices_sent y) = λ h below. agrees.prices_sent y h y_node below in
-          let all : P (sent y) = elim (updated_at net.prices_sent z (net.prices_sent z ++ price ∷ []) y) [
-            | inl w ↦ subst P (sym w.1) (each_push (IsItsPrice lists p s y) (net.prices_sent z) price no_price
-                (subst (λ (i : ℕ). P (net.prices_sent i)) w.0 before) (subst (λ (i : ℕ). IsItsPrice lists p s i price) (sym w.0) its))
-            | inr w ↦ subst P (sym w.1) before
-          ] in
-          all i lt;
-      newest_sent = agrees.newest_sent;
-      whole_from = agrees.whole_from;
-      caught_up = agrees.caught_up;
-      due_root = λ none y i y_node up due. old (λ (q : PriceMessage). q.index ≡ i) y (agrees.due_root none y i y_node up due);
-      due_through = λ y y_node p_conc at through all due.
-          old (λ (q : PriceMessage). q.index ≡ last_index s (parent lists y)) y (agrees.due_through y y_node p_conc at through all due);
-    };
-  }
+  telling_one = still lists p (after_telling_one p net z) s (with_prices lists p net s agrees net.answered net.taken sent net.restarts s.passed
+      (λ none. none)
+      (record {
+        sound = agrees.sound;
+        answered = agrees.answered;
+        index = agrees.index;
+        device_index = agrees.device_index;
+        taken = agrees.taken;
+        full = agrees.full;
+        last_sent = λ y y_node some. old (λ (q : PriceMessage). q.index ≡ last_index s y) y (agrees.last_sent y y_node some);
+        prices_sent = λ y i y_node. each_sent (IsItsPrice lists p s) net.prices_sent z price no_price its y (λ h. agrees.prices_sent y h y_node) i;
+        due_root = λ none y i y_node up due. old (λ (q : PriceMessage). q.index ≡ i) y (agrees.due_root none y i y_node up due);
+        due_through = λ y y_node p_conc at through all due.
+            old (λ (q : PriceMessage). q.index ≡ last_index s (parent lists y)) y (agrees.due_through y y_node p_conc at through all due);
+      }))
