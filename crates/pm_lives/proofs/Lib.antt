@@ -16,7 +16,7 @@ mod LivingSteps
 mod Living
 pub mod Answering
 pub mod Carrying
-mod Worked
+pub mod Worked
 pub mod Cutting
 mod Giving
 mod Telling
@@ -27,6 +27,6 @@ mod Freeing
 mod Given
 mod WorkedWorlds
 pub mod WorkedBounds
-mod WorkedFirst
-mod WorkedAgain
+pub mod WorkedSteps
+mod WorkedRun
 mod WorkedLives

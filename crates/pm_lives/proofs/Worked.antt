@@ -17,7 +17,7 @@ use Rattle.pm_services.specs.DeviceWrites.{agent_after}
 use Rattle.pm_system.specs.System.{with_agent}
 use Rattle.pm_lives.specs.DeviceLife.{IsGivenOffer}
 use Rattle.pm_services.specs.DeviceWrites.{device_outs}
-use Rattle.pm_lives.specs.Lives.{World, handed_out, stored_last, restart_outs}
+use Rattle.pm_lives.specs.Lives.{World, IsNewWorld, handed_out, stored_last, restart_outs}
 use Rattle.pm_lives.specs.Worked.{new_world, LifeGoesOn}
 
 abbrev up_after : Lists → Pricing → Numbering → World → ℕ → ℕ → World
@@ -34,6 +34,23 @@ read_after lists p numbering world d frame n = record world {
   agent_kept = update world.agent_kept d (stored_last (world.agent_kept d) (take n (device_outs p.steps world.basis (world.seen.agents d) frame)));
 }
 
+-- in a new world nothing runs, is stored or was handed out
+pub is_new_world : (p : Pricing) (numbering : Numbering) (basis : BasisValue) (terms : ℕ → RelayTerms) (root : RootValue)
+    (relays : ℕ → RelayValue) →
+    ((c : ℕ) (l : Limits) → p.limits c no_changes ≡ Some l → (terms c).limits ≡ l) → IsNewWorld p numbering
+    (new_world numbering basis terms root relays)
+is_new_world p numbering basis terms root relays are = record {
+  up = λ y. refl;
+  limits = are;
+  relay_kept = λ c. refl;
+  root_kept = refl;
+  agent_kept = λ d. refl;
+  bids_sent = λ x. refl;
+  prices_sent = λ x. refl;
+  setpoints = λ d. refl;
+  let_go = λ d. refl;
+}
+
 -- the cut life goes on: the bid is handed out under the stored number
 pub goes_on : (lists : Lists) (p : Pricing) (numbering : Numbering) (basis : BasisValue) (terms : ℕ → RelayTerms) (root : RootValue)
     (relays : ℕ → RelayValue) (demand : List ℤ) →
@@ -45,17 +62,7 @@ goes_on lists p numbering basis terms root relays demand are leaf given =
     let two : World = read_after lists p numbering one 1 (Offer Array demand) 1 in
     let three : World = up_after lists p numbering two 1 1 in
     record {
-      none = record {
-        up = λ y. refl;
-        limits = are;
-        relay_kept = λ c. refl;
-        root_kept = refl;
-        agent_kept = λ d. refl;
-        bids_sent = λ x. refl;
-        prices_sent = λ x. refl;
-        setpoints = λ d. refl;
-        let_go = λ d. refl;
-      };
+      none = is_new_world p numbering basis terms root relays are;
       new = three;
       live = (
         one,

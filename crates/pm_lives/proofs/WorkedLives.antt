@@ -1,6 +1,6 @@
 -- The worked world settles.
 use Rattle.std.proofs.Common.{◌≡◌, ap, ℕ, ◌<◌, ◌≤◌, true, false}
-use Rattle.std.proofs.Common.{length, refl, inl, inr, arith}
+use Rattle.std.proofs.Common.{replicate, length, refl, inl, inr, arith}
 use Rattle.pm_bid.specs.Taken.{said_between}
 use Rattle.pm_market.specs.Lists.{parent, is_leaf, is_member, changes}
 use Rattle.pm_market.specs.State.{update}
@@ -9,15 +9,17 @@ use Rattle.pm_relay.specs.declared.fault.SendFault.TheVariants as send_fault
 use Rattle.pm_relay.specs.declared.fault.RootFault.TheVariants as root_fault
 use Rattle.pm_system.specs.System.{price_in_channel}
 use Rattle.pm_system.specs.Settled.{number_made, number_held, index_of_held, HasNothingToSend}
-use Rattle.pm_system.specs.Worked.{small_tree, small_places, small_limits}
-use Rattle.pm_system.proofs.Worked.{reaches, reached, suffices}
+use Rattle.pm_base.specs.Limits.{most_nodes}
+use Rattle.pm_system.specs.Worked.{small_tree, small_places, small_limits, small_pricing}
+use Rattle.pm_system.proofs.Worked.{relay_back}
+use Rattle.pm_system.proofs.WorkedValues.{reaches, reached, suffices, new_root}
 use Rattle.pm_system.proofs.WorkedGiven.{each_node, each_leaf, only_one}
 use Rattle.pm_system.proofs.Given.{some_same}
 use Rattle.pm_lives.specs.Settled.{index_above, number_stored, number_noted, IsSettledWorld, IsTakenWorld}
-use Rattle.pm_lives.specs.WorkedLives.{LivesSettle}
-use Rattle.pm_lives.proofs.WorkedWorlds.{w0, w1, w2, w3, w4, w5, w6, w7, w8, w9, w10, w11, w12, w13, w14, w15, w16, w17, w18, w19, w20, w21, w22}
-use Rattle.pm_lives.proofs.WorkedFirst.{does_1, does_2, does_3, does_4, does_5, does_6, does_7, does_8, does_9, does_10, does_11}
-use Rattle.pm_lives.proofs.WorkedAgain.{does_12, does_13, does_14, does_15, does_16, does_17, does_18, does_19, does_20, does_21, does_22}
+use Rattle.pm_lives.specs.WorkedLives.{small_basis, LivesSettle}
+use Rattle.pm_lives.proofs.WorkedWorlds.{small_terms, w0, w22}
+use Rattle.pm_lives.proofs.Worked.{is_new_world}
+use Rattle.pm_lives.proofs.WorkedRun.{live}
 
 settled : IsSettledWorld small_tree small_places w22
 unfolding parent is_leaf is_member changes update place_in children_to said_between reaches suffices
@@ -62,96 +64,10 @@ pub settles : LivesSettle
 unfolding parent is_leaf is_member changes update place_in children_to said_between reaches suffices
 settles = record {
   world = w0;
-  none = record {
-    up = λ y. refl;
-    limits = λ c limits e. some_same small_limits limits e;
-    relay_kept = λ c. refl;
-    root_kept = refl;
-    agent_kept =
-        λ d. refl;
-    bids_sent = λ x. refl;
-    prices_sent = λ x. refl;
-    setpoints = λ d. refl;
-    let_go = λ d. refl;
-  };
+  none = is_new_world small_pricing small_places small_basis (λ c. small_terms) new_root (λ c. relay_back 0 0 0 (replicate most_nodes 0))
+      (λ c limits e. some_same small_limits limits e);
   new = w22;
-  live = (
-    w1,
-    does_1,
-    (
-      w2,
-      does_2,
-      (
-        w3,
-        does_3,
-        (
-          w4,
-          does_4,
-          (
-            w5,
-            does_5,
-            (
-              w6,
-              does_6,
-              (
-                w7,
-                does_7,
-                (
-                  w8,
-                  does_8,
-                  (
-                    w9,
-                    does_9,
-                    (
-                      w10,
-                      does_10,
-                      (
-                        w11,
-                        does_11,
-                        (
-                          w12,
-                          does_12,
-                          (
-                            w13,
-                            does_13,
-                            (
-                              w14,
-                              does_14,
-                              (
-                                w15,
-                                does_15,
-                                (
-                                  w16,
-                                  does_16,
-                                  (
-                                    w17,
-                                    does_17,
-                                    (
-                                      w18,
-                                      does_18,
-                                      (
-                                        w19,
-                                        does_19,
-                                        (w20, does_20, (w21, does_21, (w22, does_22, refl))),
-                                      ),
-                                    ),
-                                  ),
-                                ),
-                              ),
-                            ),
-                          ),
-                        ),
-                      ),
-                    ),
-                  ),
-                ),
-              ),
-            ),
-          ),
-        ),
-      ),
-    ),
-  );
+  live = live;
   settled = settled;
   taken = taken;
   setpoints_2 = refl;

@@ -19,8 +19,9 @@ use Rattle.pm_services.specs.RelaySetups.{RelaySetup}
 use Rattle.pm_services.specs.DeviceWrites.{agent_after}
 use Rattle.pm_system.specs.System.{with_root, with_relay, with_agent}
 use Rattle.pm_system.specs.Worked.{small_tree, small_places, small_limits, small_device_demand, small_pricing}
-use Rattle.pm_system.proofs.Worked.{relay_back, new_root, sent_relay, rebuilt_relay}
-use Rattle.pm_system.proofs.Worked.{cleared_root, passed_relay}
+use Rattle.pm_session.specs.declared.price.PriceUpdate.{PriceUpdate}
+use Rattle.pm_system.proofs.Worked.{relay_back}
+use Rattle.pm_system.proofs.WorkedValues.{new_root, sent_relay, rebuilt_relay, cleared_root, passed_relay}
 use Rattle.pm_services.specs.Outputs.{Output, Keeps}
 use Rattle.pm_services.specs.RelayWrites.{bid_outs, price_outs}
 use Rattle.pm_services.specs.RootWrites.{clearing_outs}
@@ -77,6 +78,10 @@ sent_outs r = Keeps (stored_relay small_setup r) ∷ bid_outs r
 
 abbrev pub cleared_outs : RootValue → List (Output StoredRoot)
 cleared_outs r = Keeps (stored_root small_basis r) ∷ clearing_outs r
+
+-- the price of the second clearing, as the relay takes it
+abbrev pub second_price : PriceUpdate
+second_price = record { step = 0; number = 2; index = 2 }
 
 abbrev pub w0 : World
 w0 = new_world small_places small_basis (λ c. small_terms) new_root (λ c. relay_back 0 0 0 (replicate most_nodes 0))
@@ -139,8 +144,8 @@ abbrev pub w19 : World
 w19 = root_read w18 (cleared_root w18.seen.root) (cleared_outs (cleared_root w18.seen.root)) 2
 
 abbrev pub w20 : World
-w20 = relay_read w19 (passed_relay (w19.seen.relays 1))
-    (price_outs small_setup None (passed_relay (w19.seen.relays 1)) (record { step = 0; number = 2; index = 2 }) PassedOn) 3
+w20 = relay_read w19 (passed_relay (w19.seen.relays 1) second_price)
+    (price_outs small_setup None (passed_relay (w19.seen.relays 1) second_price) second_price PassedOn) 3
 
 abbrev pub w21 : World
 w21 = device_read w20 2 (device_frame.Parent (Price 1 4 2 1 small_basis))

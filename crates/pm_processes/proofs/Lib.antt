@@ -7,6 +7,7 @@ pub mod DeviceRuns
 mod Following
 mod Handled
 mod Bounded
+mod WorkedEvents
 mod Worked
 mod Standing
 mod Said

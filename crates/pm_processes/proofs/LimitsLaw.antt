@@ -27,7 +27,8 @@ use Rattle.pm_control.specs.Control.{agent_stored}
 use Rattle.pm_system.specs.System.{price_in_channel, with_agent}
 use Rattle.pm_system.specs.Settled.{number_made, number_held, index_of_held, numbers_counted, head_held, CountsAtParent, HasNothingToSend}
 use Rattle.pm_system.specs.Worked.{small_tree, small_places}
-use Rattle.pm_system.proofs.Worked.{s0, reaches, reached}
+use Rattle.pm_system.proofs.Worked.{s0}
+use Rattle.pm_system.proofs.WorkedValues.{reaches, reached}
 use Rattle.pm_system.proofs.WorkedGiven.{each_node, each_leaf, only_one}
 use Rattle.pm_services.specs.DeviceWrites.{device_outs, agent_after}
 use Rattle.pm_lives.specs.DeviceLife.{DeviceMayRead, IsGivenOffer, IsGivenLeaving}

@@ -12,9 +12,10 @@ use Rattle.pm_system.specs.Given.{IsTreeMarket, IsStarted}
 use Rattle.pm_system.specs.Worked.{small_tree, small_places, small_limits, small_device_demand}
 use Rattle.pm_system.proofs.Given.{is_market, some_same}
 use Rattle.pm_system.proofs.Worked.{s0, started}
-use Rattle.pm_system.proofs.WorkedGiven.{given}
+use Rattle.pm_system.proofs.WorkedGiven.{given, small_given}
+use Rattle.pm_system.proofs.WorkedValues.{comes_back}
 use Rattle.pm_processes.specs.WorkedLimits.{narrow_limits, limits_given, limits_pricing}
-use Rattle.pm_processes.proofs.LimitsRelay.{are_narrow, came_back}
+use Rattle.pm_processes.proofs.LimitsRelay.{are_narrow}
 use Rattle.pm_processes.proofs.WorkedLimits.{first_limits}
 
 -- what holds of both limits holds of those under each number
@@ -37,16 +38,7 @@ givers c = elim (cases_eq c 1) [
 
 -- the small tree with these limits is a market
 pub market : IsTreeMarket small_tree limits_pricing small_places
-market = is_market small_tree 3 small_device_demand limits_given (λ c. 3) (record {
-  law = given.law;
-  one_phase = given.one_phase;
-  few = given.few;
-  are_steps = given.are_steps;
-  demands = given.demands;
-  absent = given.absent;
-  are_limits = are_limits;
-  givers = givers;
-})
+market = is_market small_tree 3 small_device_demand limits_given (λ c. 3) (small_given limits_given (λ c. 3) are_limits givers)
 
 -- its limits are limits
 pub around : (x : ℕ) (cut : Cut) (l : Limits) → limits_pricing.limits x cut ≡ Some l → AreLimits l
@@ -61,7 +53,7 @@ starts = record {
   relays = λ c conc. (
     small_limits,
     ap (λ (l : Limits). Some l) (first_limits c),
-    came_back 0 0 0 (replicate most_nodes 0) small_limits (replicate limits_places small_limits) refl,
+    comes_back small_limits (replicate limits_places small_limits) 0 0 0 (replicate most_nodes 0) small_limits refl,
   );
   agents = started.agents;
   setpoints = started.setpoints;

@@ -1,12 +1,11 @@
 -- The worked history of a relay under limits: the processes of the devices and of the auctioneer, frame by frame.
 use Rattle.std.proofs.Common.{ℤ, negsuc}
-use Rattle.std.proofs.Common.{List, [], ◌∷◌, replicate}
-use Rattle.std.proofs.Common.{Some, None, refl, inl, inr, arith}
+use Rattle.std.proofs.Common.{List, [], ◌∷◌}
+use Rattle.std.proofs.Common.{Some, None, refl, inl, arith}
 use Rattle.std.proofs.lemmas.Int.{ints}
 use Rattle.std.specs.Prelude.{FitsSigned}
 use Rattle.std.specs.Int.{w32}
 use Rattle.std.specs.List.{AllByRecursion}
-use Rattle.pm_base.specs.Limits.{most_nodes}
 use Rattle.pm_bid.specs.Clearing.{clearing_step}
 use Rattle.pm_bid.specs.Limited.{NeverBind}
 use Rattle.pm_cache.specs.Cache.{aggregate_of}
@@ -20,7 +19,7 @@ use Rattle.pm_frames.specs.declared.device.DeviceFrame.TheVariants as device_fra
 use Rattle.pm_frames.specs.declared.form.OfferForm.TheVariants.{Array}
 use Rattle.pm_services.specs.Bounds.{widest, no_bounds}
 use Rattle.pm_system.specs.Given.{IsDemand}
-use Rattle.pm_system.proofs.Worked.{reaches, reached, noted, new_root, cleared_root}
+use Rattle.pm_system.proofs.WorkedValues.{reaches, new_root, root_looks_on, cleared_root, may_clear, clears}
 use Rattle.pm_services.specs.Outputs.{Keeps}
 use Rattle.pm_services.specs.RootWrites.{stored_root, clearing_outs}
 use Rattle.pm_services.specs.DeviceWrites.{device_outs, agent_after}
@@ -32,6 +31,7 @@ use Rattle.pm_processes.specs.WorkedLimits.{limits_pricing, asked_demand}
 use Rattle.pm_processes.specs.WorkedLimits.{giver_took, giver_wrote, device_took, device_wrote}
 use Rattle.pm_processes.specs.WorkedLimits.{root_took, root_wrote}
 use Rattle.pm_processes.proofs.Offers.{is_demand}
+use Rattle.pm_processes.proofs.WorkedEvents.{wrote_all}
 
 -- ---- device 2
 
@@ -87,13 +87,7 @@ device_process = record {
     spelled = refl;
   };
   answers = (inl (asked_is, tt, refl, refl), (inl (tt, refl, refl, refl), tt));
-  written = record {
-    many = 96;
-    cut = record { n = 4; rest = []; held = refl; part = inl refl };
-    beyond = [];
-    wrote_is = refl;
-    at_end = inl refl;
-  };
+  written = wrote_all 96 (record { n = 4; rest = []; held = refl; part = inl refl }) refl;
 }
 
 -- ---- device 3
@@ -120,13 +114,7 @@ giver_process = record {
     spelled = refl;
   };
   answers = (inl (tt, tt, refl, refl), tt);
-  written = record {
-    many = 26;
-    cut = record { n = 2; rest = []; held = refl; part = inl refl };
-    beyond = [];
-    wrote_is = refl;
-    at_end = inl refl;
-  };
+  written = wrote_all 26 (record { n = 2; rest = []; held = refl; part = inl refl }) refl;
 }
 
 -- ---- the auctioneer
@@ -159,15 +147,8 @@ root_clears = record {
 
 -- the auctioneer clears under index 1
 pub is_cleared : RootCleared root_heard root_cleared 1 (clearing_step (aggregate_of root_heard.auction.cache))
-unfolding reaches
-is_cleared = record {
-  caught_up = reached (replicate most_nodes 0) root_heard.auction.cache.heads refl;
-  index = refl;
-  cleared = record { changed = refl; index = refl; step = refl; cache = refl; new_index = refl; new_step = refl; not_changed = refl };
-  numbers = λ child inside. noted root_heard.auction.cache.heads child;
-  children = refl;
-  base = refl;
-}
+unfolding reaches may_clear
+is_cleared = clears root_heard refl
 
 unfoldable pub root_process : RootProcess root_took root_wrote
 root_process = record {
@@ -191,15 +172,9 @@ root_process = record {
   root = new_root;
   back = record { auction = refl; base = refl; recorded = refl };
   answers = (
-    inl (announced_keeps, record { looks = inr ((λ h. omega (arith, h.came_back)), refl); replied = refl }),
+    inl (announced_keeps, record { looks = root_looks_on root_heard refl; replied = refl }),
     (inl (1, clearing_step (aggregate_of root_heard.auction.cache), is_cleared, refl), tt),
   );
   bounded = (refl, (refl, tt));
-  written = record {
-    many = 1062;
-    cut = record { n = 2; rest = []; held = refl; part = inl refl };
-    beyond = [];
-    wrote_is = refl;
-    at_end = inl refl;
-  };
+  written = wrote_all 1062 (record { n = 2; rest = []; held = refl; part = inl refl }) refl;
 }

@@ -24,13 +24,15 @@ use Rattle.pm_system.specs.Given.{IsDemand}
 use Rattle.pm_system.specs.Worked.{small_tree, small_places, small_limits, small_pricing}
 use Rattle.pm_system.proofs.Given.{some_same}
 use Rattle.pm_services.specs.DeviceWrites.{device_outs, agent_after, stored_agent}
-use Rattle.pm_lives.specs.Lives.{handed_out, stored_last, restart_outs, no_agent_stored}
+use Rattle.pm_lives.specs.Lives.{handed_out, restart_outs, no_agent_stored}
 use Rattle.pm_lives.specs.WorkedLives.{small_basis}
 use Rattle.pm_processes.specs.DeviceProcess.{DeviceProcess, DeviceExchange}
 use Rattle.pm_processes.specs.History.{Scene, DeviceBegins, DeviceGoesOn, Happens1, IsNewScene}
 use Rattle.pm_processes.specs.Worked.{took_first, wrote_first, took_second, wrote_second, bid_begun, bid_rest, new_scene, no_terms, small_scene}
 use Rattle.pm_processes.specs.Worked.{HistoryGoesOn}
 use Rattle.pm_processes.proofs.Offers.{is_demand}
+use Rattle.pm_processes.proofs.WorkedEvents.{as_promised, wrote_all, device_on, device_goes}
+use Rattle.pm_lives.proofs.Worked.{is_new_world}
 
 abbrev demand : List ℤ
 demand = pos 6 ∷ pos 4 ∷ negsuc 1 ∷ []
@@ -68,13 +70,7 @@ process_first = record {
     spelled = refl;
   };
   answers = (inl (demand_is, tt, refl, refl), tt);
-  written = record {
-    many = 36;
-    cut = record { n = 1; rest = bid_begun; held = refl; part = inr (omega arith, (bid_rest, refl)) };
-    beyond = [];
-    wrote_is = refl;
-    at_end = inl refl;
-  };
+  written = wrote_all 36 (record { n = 1; rest = bid_begun; held = refl; part = inr (omega arith, (bid_rest, refl)) }) refl;
 }
 
 process_second : DeviceProcess small_pricing 1 took_second wrote_second
@@ -98,32 +94,14 @@ process_second = record {
     spelled = refl;
   };
   answers = tt;
-  written = record {
-    many = 19;
-    cut = record { n = 1; rest = []; held = refl; part = inl refl };
-    beyond = [];
-    wrote_is = refl;
-    at_end = inl refl;
-  };
+  written = wrote_all 19 (record { n = 1; rest = []; held = refl; part = inl refl }) refl;
 }
 
 -- of a new scene nothing runs, is stored or was handed out
 pub is_new : (p : Pricing) (terms : ℕ → RelayTerms) (root : RootValue) (relays : ℕ → RelayValue) → p.steps ≡ 3 →
     ((c : ℕ) (l : Limits) → p.limits c no_changes ≡ Some l → (terms c).limits ≡ l) → IsNewScene p small_places (new_scene terms root relays)
-is_new p terms root relays steps limits = record {
-  new_world = record {
-    up = λ y. refl;
-    limits = limits;
-    relay_kept = λ c. refl;
-    root_kept = refl;
-    agent_kept = λ d. refl;
-    bids_sent = λ x. refl;
-    prices_sent = λ x. refl;
-    setpoints = λ d. refl;
-    let_go = λ d. refl;
-  };
-  steps = sym steps;
-}
+is_new p terms root relays steps limits =
+    record { new_world = is_new_world p small_places small_basis terms root relays limits; steps = sym steps }
 
 module _ (root : RootValue) (relays : ℕ → RelayValue) where
   abbrev scene_0 : Scene
@@ -144,39 +122,22 @@ module _ (root : RootValue) (relays : ℕ → RelayValue) where
   scene_1 = begun scene_0 (no_agent_stored small_basis) (answer ∷ []) 1
 
   abbrev scene_2 : Scene
-  scene_2 = record scene_1 {
-    world = record scene_1.world {
-      seen = handed_out small_tree small_places (with_agent scene_1.world.seen 2 answer.after) 2 (take 1 answer.outs);
-      agent_kept = update scene_1.world.agent_kept 2 (stored_last (scene_1.world.agent_kept 2) (take 1 answer.outs));
-    };
-    device_next = update scene_1.device_next 2 [];
-    left = update scene_1.left 2 (scene_1.left 2 - length answer.outs);
-  }
+  scene_2 = device_on scene_1 2 answer [] 1
 
   abbrev scene_3 : Scene
   scene_3 = begun scene_2 (scene_2.world.agent_kept 2) [] 1
 
   happens_1 : Happens1 small_tree small_pricing small_places scene_0 (DeviceBegins 2 took_first wrote_first) scene_1
   unfolding parent is_leaf is_member changes update place_in children_to said_between process_first
-  happens_1 = record { leaf = refl; process = process_first; promised = record { stored_last = refl; same_hello = refl }; new_is = refl }
+  happens_1 = record { leaf = refl; process = process_first; promised = as_promised refl refl; new_is = refl }
 
   happens_2 : Happens1 small_tree small_pricing small_places scene_1 (DeviceGoesOn 2) scene_2
   unfolding parent is_leaf is_member changes update place_in children_to said_between
-  happens_2 = record {
-    leaf = refl;
-    runs = refl;
-    exchange = answer;
-    exchanges = [];
-    next = refl;
-    handled = 1;
-    was_written = omega arith;
-    promised = record { handed_on = tt; in_order = inl (omega arith) };
-    new_is = refl;
-  }
+  happens_2 = device_goes small_pricing scene_1 2 answer [] 1 refl refl refl (omega arith) tt (inl (omega arith))
 
   happens_3 : Happens1 small_tree small_pricing small_places scene_2 (DeviceBegins 2 took_second wrote_second) scene_3
   unfolding parent is_leaf is_member changes update place_in children_to said_between process_second
-  happens_3 = record { leaf = refl; process = process_second; promised = record { stored_last = refl; same_hello = refl }; new_is = refl }
+  happens_3 = record { leaf = refl; process = process_second; promised = as_promised refl refl; new_is = refl }
 
   -- the bytes are those of such a history
   pub goes_on : HistoryGoesOn (small_scene root relays)

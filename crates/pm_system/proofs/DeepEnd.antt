@@ -16,7 +16,6 @@ use Rattle.pm_relay.specs.declared.fault.SendFault.TheVariants as send_fault
 use Rattle.pm_relay.specs.declared.fault.RootFault.TheVariants as root_fault
 use Rattle.pm_relay.specs.Roots.{newest_index}
 use Rattle.pm_system.specs.System.{price_in_channel}
-use Rattle.pm_system.specs.Calls.{SystemRuns}
 use Rattle.pm_system.specs.Settled.{number_made, number_held, number_taken, index_of_held, numbers_counted, HasNothingToSend}
 use Rattle.pm_system.specs.Settled.{IsSettledSystem, IsTakenSystem}
 use Rattle.pm_system.specs.Flow.{TakeWhatWasTold}
@@ -25,50 +24,11 @@ use Rattle.pm_system.proofs.DeviceCalls.{ComesBackAsStored}
 use Rattle.pm_system.proofs.Flow.{flows_told}
 use Rattle.pm_system.proofs.Runs.{system_runs}
 use Rattle.pm_system.proofs.Settling.{current_taken}
-use Rattle.pm_system.proofs.Worked.{reaches, reached}
+use Rattle.pm_system.proofs.WorkedValues.{reaches, reached}
 use Rattle.pm_system.proofs.WorkedGiven.{only_one}
 use Rattle.pm_system.proofs.DeepCalls as calls
-use Rattle.pm_system.proofs.DeepCalls.{s0, s1, s2, s3, s4, s5, s6, s7, s8, s9, s10, s11, s12, s13}
+use Rattle.pm_system.proofs.DeepCalls.{s0, s13}
 use Rattle.pm_system.proofs.DeepGiven.{market, each_node, each_leaf}
-
-runs : SystemRuns deep_tree deep_pricing deep_places s0 deep_calls s13
-runs = (
-  s1,
-  calls.does_1,
-  (
-    s2,
-    calls.does_2,
-    (
-      s3,
-      calls.does_3,
-      (
-        s4,
-        calls.does_4,
-        (
-          s5,
-          calls.does_5,
-          (
-            s6,
-            calls.does_6,
-            (
-              s7,
-              calls.does_7,
-              (
-                s8,
-                calls.does_8,
-                (
-                  s9,
-                  calls.does_9,
-                  (s10, calls.does_10, (s11, calls.does_11, (s12, calls.does_12, (s13, calls.does_13, refl)))),
-                ),
-              ),
-            ),
-          ),
-        ),
-      ),
-    ),
-  ),
-)
 
 bids_are_held : (x : ℕ) → IsNode deep_tree x → number_made deep_tree s13 x ≤ number_held deep_tree deep_places s13 x
 unfolding parent is_leaf is_member changes update place_in children_to said_between
@@ -179,31 +139,24 @@ says top c conc under =
     (subst (λ (l : List ℤ). CanSay (Some (deep_limits 2)) 1 l) (sym sum_2) (record { low = omega (arith, ints); high = omega (arith, ints) })))
     (λ inner. absurd cc) (λ inner. absurd cc) c (conc.0, conc.1) conc.2
 
-flow_2 : (power : ℕ → ℤ) → TakeWhatWasTold deep_tree deep_pricing counted s13 2 power →
-    (sum_on deep_tree 2 power ≡ pos 2) × IsWithinLimits (deep_limits 2) (sum_on deep_tree 2 power)
-unfolding is_leaf
-flow_2 power take =
-    let conc : IsConcentrator deep_tree 2 = (omega arith, omega arith, refl) in
+-- what flows through a relay, by its step, its sum and its offer
+flow : (c : ℕ) → IsConcentrator deep_tree c → (sum offer : List ℤ) → sum_of_offers deep_pricing counted c ≡ sum →
+    deep_pricing.offer c counted ≡ offer → deep_pricing.local counted c ≡ 1 → HasStepWithin (deep_limits c) sum → (power : ℕ → ℤ) →
+    TakeWhatWasTold deep_tree deep_pricing counted s13 c power →
+    (sum_on deep_tree c power ≡ demand_at offer 1) × IsWithinLimits (deep_limits c) (sum_on deep_tree c power)
+flow c conc sum offer sum_is offer_is step_is within power take =
     let all = flows_told deep_tree deep_pricing deep_places market s13 counted in (
-      all.relays 2 power conc take (says 2) ∙ ap (λ (l : List ℤ). demand_at l (deep_pricing.local counted 2)) offer_2
-          ∙ ap (λ (k : ℕ). demand_at (pos 2 ∷ pos 2 ∷ pos 2 ∷ []) k) step_2,
-      all.within 2 power (deep_limits 2) conc take (says 2) refl
-          (subst (λ (l : List ℤ). HasStepWithin (deep_limits 2) l) (sym sum_2)
-          (record { step = 2; inside = omega arith; keeps = record { floor = omega (arith, ints); ceiling = omega (arith, ints) } })),
+      all.relays c power conc take (says c) ∙ ap (λ (l : List ℤ). demand_at l (deep_pricing.local counted c)) offer_is
+          ∙ ap (λ (k : ℕ). demand_at offer k) step_is,
+      all.within c power (deep_limits c) conc take (says c) refl (subst (λ (l : List ℤ). HasStepWithin (deep_limits c) l) (sym sum_is) within),
     )
 
-flow_1 : (power : ℕ → ℤ) → TakeWhatWasTold deep_tree deep_pricing counted s13 1 power →
-    (sum_on deep_tree 1 power ≡ pos 0) × IsWithinLimits (deep_limits 1) (sum_on deep_tree 1 power)
-unfolding is_leaf
-flow_1 power take =
-    let conc : IsConcentrator deep_tree 1 = (omega arith, omega arith, refl) in
-    let all = flows_told deep_tree deep_pricing deep_places market s13 counted in (
-      all.relays 1 power conc take (says 1) ∙ ap (λ (l : List ℤ). demand_at l (deep_pricing.local counted 1)) offer_1
-          ∙ ap (λ (k : ℕ). demand_at (pos 3 ∷ pos 0 ∷ negsuc 3 ∷ []) k) step_1,
-      all.within 1 power (deep_limits 1) conc take (says 1) refl
-          (subst (λ (l : List ℤ). HasStepWithin (deep_limits 1) l) (sym sum_1)
-          (record { step = 1; inside = omega arith; keeps = record { floor = omega (arith, ints); ceiling = omega (arith, ints) } })),
-    )
+-- the sum at relay 1 is within its limits at step 1, and that at relay 2 at step 2
+within_1 : HasStepWithin (deep_limits 1) (pos 3 ∷ pos 0 ∷ negsuc 3 ∷ [])
+within_1 = record { step = 1; inside = omega arith; keeps = record { floor = omega (arith, ints); ceiling = omega (arith, ints) } }
+
+within_2 : HasStepWithin (deep_limits 2) (pos 8 ∷ pos 6 ∷ pos 2 ∷ [])
+within_2 = record { step = 2; inside = omega arith; keeps = record { floor = omega (arith, ints); ceiling = omega (arith, ints) } }
 
 module _ (back : ComesBackAsStored) where
   -- the system runs, settles and is current, and its values are these
@@ -214,11 +167,11 @@ module _ (back : ComesBackAsStored) where
     start = s0;
     started = calls.started;
     sys = s13;
-    runs = runs;
+    runs = calls.runs;
     settled = settled;
     taken = is_taken;
     current = current_taken deep_tree deep_pricing deep_places market deep_calls s13
-        (system_runs deep_tree deep_pricing deep_places market back s0 s13 deep_calls calls.started runs) is_taken;
+        (system_runs deep_tree deep_pricing deep_places market back s0 s13 deep_calls calls.started calls.runs) is_taken;
     bids_2 = refl;
     bids_1 = refl;
     prices_1 = refl;
@@ -227,6 +180,7 @@ module _ (back : ComesBackAsStored) where
     prices_4 = refl;
     setpoints_3 = refl;
     setpoints_4 = refl;
-    flow_2 = flow_2;
-    flow_1 = flow_1;
+    flow_2 = flow 2 (omega arith, omega arith, refl) (pos 8 ∷ pos 6 ∷ pos 2 ∷ []) (pos 2 ∷ pos 2 ∷ pos 2 ∷ []) sum_2 offer_2 step_2 within_2;
+    flow_1 = flow 1 (omega arith, omega arith, refl) (pos 3 ∷ pos 0 ∷ negsuc 3 ∷ []) (pos 3 ∷ pos 0 ∷ negsuc 3 ∷ []) sum_1 offer_1 step_1
+        within_1;
   }

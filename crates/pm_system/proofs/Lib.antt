@@ -13,6 +13,8 @@ pub mod Rising
 pub mod Settling
 pub mod Frames
 mod Expiring
+pub mod WorkedValues
+mod WorkedCalls
 pub mod Worked
 pub mod WorkedGiven
 mod WorkedEnd

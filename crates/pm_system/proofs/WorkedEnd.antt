@@ -16,7 +16,6 @@ use Rattle.pm_relay.specs.declared.fault.SendFault.TheVariants as send_fault
 use Rattle.pm_relay.specs.declared.fault.RootFault.TheVariants as root_fault
 use Rattle.pm_relay.specs.Roots.{newest_index}
 use Rattle.pm_system.specs.System.{price_in_channel}
-use Rattle.pm_system.specs.Calls.{SystemRuns}
 use Rattle.pm_system.specs.Settled.{number_made, number_held, index_of_held, numbers_counted, IsSettledSystem, HasNothingToSend}
 use Rattle.pm_system.specs.Flow.{TakeWhatWasTold}
 use Rattle.pm_system.specs.Worked.{small_tree, small_places, small_limits, small_pricing, small_calls, Settles}
@@ -25,87 +24,9 @@ use Rattle.pm_system.proofs.Flow.{flows_told}
 use Rattle.pm_system.proofs.Runs.{system_runs}
 use Rattle.pm_system.proofs.Settling.{current}
 use Rattle.pm_system.proofs.Worked as worked
-use Rattle.pm_system.proofs.Worked.{s0, s1, s2, s3, s4, s5, s6, s7, s8, s9, s10, s11, s12, s13, s14, s15, s16, s17, s18, s19, s20, reaches, reached}
+use Rattle.pm_system.proofs.Worked.{s0, s20}
+use Rattle.pm_system.proofs.WorkedValues.{reaches, reached}
 use Rattle.pm_system.proofs.WorkedGiven.{market, each_node, each_leaf, only_one}
-
-runs : SystemRuns small_tree small_pricing small_places s0 small_calls s20
-runs = (
-  s1,
-  worked.does_1,
-  (
-    s2,
-    worked.does_2,
-    (
-      s3,
-      worked.does_3,
-      (
-        s4,
-        worked.does_4,
-        (
-          s5,
-          worked.does_5,
-          (
-            s6,
-            worked.does_6,
-            (
-              s7,
-              worked.does_7,
-              (
-                s8,
-                worked.does_8,
-                (
-                  s9,
-                  worked.does_9,
-                  (
-                    s10,
-                    worked.does_10,
-                    (
-                      s11,
-                      worked.does_11,
-                      (
-                        s12,
-                        worked.does_12,
-                        (
-                          s13,
-                          worked.does_13,
-                          (
-                            s14,
-                            worked.does_14,
-                            (
-                              s15,
-                              worked.does_15,
-                              (
-                                s16,
-                                worked.does_16,
-                                (
-                                  s17,
-                                  worked.does_17,
-                                  (
-                                    s18,
-                                    worked.does_18,
-                                    (
-                                      s19,
-                                      worked.does_19,
-                                      (s20, worked.does_20, refl),
-                                    ),
-                                  ),
-                                ),
-                              ),
-                            ),
-                          ),
-                        ),
-                      ),
-                    ),
-                  ),
-                ),
-              ),
-            ),
-          ),
-        ),
-      ),
-    ),
-  ),
-)
 
 bids_are_held : (x : ℕ) → IsNode small_tree x → number_made small_tree s20 x ≤ number_held small_tree small_places s20 x
 unfolding parent is_leaf is_member changes update place_in children_to said_between
@@ -217,10 +138,10 @@ module _ (back : ComesBackAsStored) where
     start = s0;
     started = worked.started;
     sys = s20;
-    runs = runs;
+    runs = worked.runs;
     settled = settled;
     current = current small_tree small_pricing small_places market small_calls s20
-        (system_runs small_tree small_pricing small_places market back s0 s20 small_calls worked.started runs) settled;
+        (system_runs small_tree small_pricing small_places market back s0 s20 small_calls worked.started worked.runs) settled;
     prices_1 = refl;
     prices_2 = refl;
     prices_3 = refl;

@@ -1,14 +1,20 @@
 -- The worked system is over a market.
-use Rattle.std.proofs.Common.{◌≡◌, ℕ, zero, suc, ◌+◌, ◌<◌, ◌≤◌, false, ℤ, pos, negsuc, ◌≤ℤ◌, List, [], ◌∷◌, cond, eqb}
+use Rattle.std.proofs.Common.{◌≡◌, ◌∙◌, ◌⊎◌, Some, ap, ℕ, zero, suc, ◌+◌, ◌<◌, ◌≤◌, false, length, ℤ, pos, negsuc}
+use Rattle.std.proofs.Common.{◌≤ℤ◌}
+use Rattle.std.proofs.Common.{List, [], ◌∷◌, cond, eqb}
 use Rattle.std.proofs.Common.{refl, inr, arith}
 use Rattle.std.proofs.lemmas.Int.{ints}
 use Rattle.std.proofs.lemmas.Bool.{cond-false}
 use Rattle.pm_base.specs.Limits.{IsWithin, demand_limit, most_depth}
 use Rattle.pm_bid.specs.Bids.{zeros, demand_at}
-use Rattle.pm_market.specs.Lists.{parent, is_leaf, is_member, changes, end_count, path_depth, path_depth_in, IsNode, IsLeaf, Lawful}
+use Rattle.pm_market.specs.Lists.{Lists, phases, parent, is_leaf, is_member, changes, end_count, path_depth, path_depth_in, IsNode, IsLeaf}
+use Rattle.pm_laws.proofs.Facts.{end_zero}
+use Rattle.pm_net.specs.Pricing.{IsChildDevice, HasOneLimit}
 use Rattle.pm_net.proofs.Messages.{either}
 use Rattle.pm_net_plan.specs.Places.{HasFewChildren}
 use Rattle.pm_net_plan.proofs.Children.{small}
+use Rattle.pm_base.specs.declared.limits.Limits.{Limits}
+use Rattle.pm_relay.specs.Relays.{AreRelayLimits}
 use Rattle.pm_system.specs.Given.{IsDemand, IsGiven, IsTreeMarket}
 use Rattle.pm_system.specs.Worked.{small_tree, small_places, small_limits, no_giver, small_device_demand, small_offer, small_pricing}
 use Rattle.pm_system.proofs.Given.{is_market}
@@ -48,11 +54,66 @@ within a low high = record { low = omega (arith, ints, low); high = omega (arith
 pub below : (a : ℤ) → negsuc 8 ≤ℤ a → a ≤ℤ pos 0 → IsWithin demand_limit a
 below a low high = record { low = omega (arith, ints, low); high = omega (arith, ints, high) }
 
-small_is_demand : (d n : ℕ) → IsDemand 3 (small_device_demand d n)
-small_is_demand d n =
+-- limits of up to 9 watts either way are limits of a relay
+pub are_small : (floor ceiling : ℤ) → negsuc 8 ≤ℤ floor → floor ≤ℤ pos 0 → pos 0 ≤ℤ ceiling → ceiling ≤ℤ pos 9 →
+    AreRelayLimits (record { floor = floor; ceiling = ceiling })
+are_small floor ceiling low not_above not_below high = record {
+  around = record {
+    floor_not_positive = not_above;
+    ceiling_not_negative = not_below;
+    floor_within = record { low = omega (arith, ints, low); high = omega (arith, ints, not_above) };
+    ceiling_within = record { low = omega (arith, ints, not_below); high = omega (arith, ints, high) };
+  };
+  floor = below floor low not_above;
+  ceiling = within ceiling not_below high;
+}
+
+zeros_are : IsDemand 3 (zeros 3)
+zeros_are = is_demand (pos 0) (pos 0) (pos 0) (within (pos 0) (omega (arith, ints)) (omega (arith, ints)))
+    (within (pos 0) (omega (arith, ints)) (omega (arith, ints))) (within (pos 0) (omega (arith, ints)) (omega (arith, ints)))
+    (omega (arith, ints)) (omega (arith, ints))
+
+-- A worked system is given if its tree is one of one phase, with few nodes, in which no parent is a leaf or a later node, and if what its
+-- devices offer are demands.
+pub worked_given : (lists : Lists) (offer : ℕ → ℕ → List ℤ) (limits : ℕ → ℕ → Limits) (giver : ℕ → ℕ) → length
+    lists.leaves ≡ length lists.parents →
+    phases lists ≡ 1 → HasFewChildren lists → ((x : ℕ) → IsNode lists x → parent lists x < x) →
+    ((x : ℕ) → IsNode lists x → is_leaf lists (parent lists x) ≡ false) → ((x : ℕ) → IsNode lists x → path_depth lists x ≤ most_depth) →
+    ((d : ℕ) → IsLeaf lists d → end_count lists 1 d ≡ changes lists d) → ((d n : ℕ) → IsDemand 3 (offer d n)) →
+    ((c n : ℕ) → AreRelayLimits (limits c n)) → ((c : ℕ) → IsChildDevice lists c (giver c) ⊎ HasOneLimit (λ n. Some (limits c n))) →
+    IsGiven lists 3 (λ d n. cond (is_member lists d n) (offer d n) (zeros 3)) limits giver
+worked_given lists offer limits giver leaves one few earlier inner depth last offers are givers = record {
+  law = record {
+    leaves = leaves;
+    earlier = earlier;
+    inner = inner;
+    depth = depth;
+    ends_rise = λ q d leaf inside. omega (
+      arith,
+      inside,
+      one,
+      ap (λ (k : ℕ). end_count lists k d)
+          (first q (omega (arith, inside, one))),
+      end_zero lists d,
+    );
+    ends_last = λ d leaf. ap (λ (k : ℕ). end_count lists k d) one ∙ last d leaf;
+  };
+  one_phase = one;
+  few = few;
+  are_steps = record { least = omega arith; most = omega arith };
+  demands = λ d n. either (λ (l : List ℤ). IsDemand 3 l) (is_member lists d n) (offer d n) (zeros 3) (λ e. offers d n) (λ e. zeros_are);
+  absent = λ d n out. cond-false (is_member lists d n) (offer d n) (zeros 3) out;
+  are_limits = are;
+  givers = givers;
+}
+  where
+    first : (q : ℕ) → q < 1 → q ≡ 0
+    first q inside = omega (arith, inside)
+
+offers_are : (d n : ℕ) → IsDemand 3 (small_offer d n)
+offers_are d n =
     let Is : List ℤ → Type 0 = λ l. IsDemand 3 l in
-    either Is (is_member small_tree d n) (small_offer d n) (zeros 3)
-    (λ e. either Is (eqb d 3) (pos 3 ∷ pos 1 ∷ negsuc 0 ∷ [])
+    either Is (eqb d 3) (pos 3 ∷ pos 1 ∷ negsuc 0 ∷ [])
     (cond (eqb n 2) (pos 6 ∷ pos 4 ∷ negsuc 1 ∷ []) (pos 6 ∷ negsuc 1 ∷ negsuc 2 ∷ []))
     (λ e. is_demand (pos 3) (pos 1) (negsuc 0) (within (pos 3) (omega (arith, ints)) (omega (arith, ints)))
     (within (pos 1) (omega (arith, ints)) (omega (arith, ints))) (below (negsuc 0) (omega (arith, ints)) (omega (arith, ints)))
@@ -63,10 +124,7 @@ small_is_demand d n =
     (omega (arith, ints)) (omega (arith, ints)))
     (λ e. is_demand (pos 6) (negsuc 1) (negsuc 2) (within (pos 6) (omega (arith, ints)) (omega (arith, ints)))
     (below (negsuc 1) (omega (arith, ints)) (omega (arith, ints))) (below (negsuc 2) (omega (arith, ints)) (omega (arith, ints)))
-    (omega (arith, ints)) (omega (arith, ints)))))
-    (λ e. is_demand (pos 0) (pos 0) (pos 0) (within (pos 0) (omega (arith, ints)) (omega (arith, ints)))
-    (within (pos 0) (omega (arith, ints)) (omega (arith, ints))) (within (pos 0) (omega (arith, ints)) (omega (arith, ints)))
-    (omega (arith, ints)) (omega (arith, ints)))
+    (omega (arith, ints)) (omega (arith, ints))))
 
 -- each node is one of three, and each device one of two
 pub each_node : (P : ℕ → Type 0) → P 1 → P 2 → P 3 → (x : ℕ) → IsNode small_tree x → P x
@@ -85,61 +143,22 @@ each_leaf P two three (suc (suc zero)) leaf = two
 each_leaf P two three (suc (suc (suc zero))) leaf = three
 each_leaf P two three (suc (suc (suc (suc x)))) leaf = absurd cc
 
-few : HasFewChildren small_tree
-few = small small_tree (omega arith)
+-- so all that holds of markets holds of the small tree, with any limits that are limits of relays
+pub small_given : (limits : ℕ → ℕ → Limits) (giver : ℕ → ℕ) → ((c n : ℕ) → AreRelayLimits (limits c n)) →
+    ((c : ℕ) → IsChildDevice small_tree c (giver c) ⊎ HasOneLimit (λ n. Some (limits c n))) →
+    IsGiven small_tree 3 small_device_demand limits giver
+unfolding parent is_leaf path_depth path_depth_in end_count changes
+small_given limits giver are givers = worked_given small_tree small_offer limits giver refl refl (small small_tree (omega arith))
+    (each_node (λ x. parent small_tree x < x) (omega arith) (omega arith) (omega arith))
+    (each_node (λ x. is_leaf small_tree (parent small_tree x) ≡ false) refl refl refl)
+    (each_node (λ x. path_depth small_tree x ≤ most_depth) (omega arith) (omega arith) (omega arith))
+    (each_leaf (λ d. end_count small_tree 1 d ≡ changes small_tree d) refl refl) offers_are are givers
 
-node_is_late : (x : ℕ) → IsNode small_tree x → parent small_tree x < x
-unfolding parent
-node_is_late x node = each_node (λ x. parent small_tree x < x) (omega arith) (omega arith) (omega arith) x node
-
-node_is_below : (x : ℕ) → IsNode small_tree x → is_leaf small_tree (parent small_tree x) ≡ false
-unfolding parent is_leaf
-node_is_below x node = each_node (λ x. is_leaf small_tree (parent small_tree x) ≡ false) refl refl refl x node
-
-depth_is_small : (x : ℕ) → IsNode small_tree x → path_depth small_tree x ≤ most_depth
-unfolding parent is_leaf path_depth path_depth_in
-depth_is_small x node = each_node (λ x. path_depth small_tree x ≤ most_depth) (omega arith) (omega arith) (omega arith) x node
-
-counts_rise : (q d : ℕ) → IsLeaf small_tree d → q < 1 → end_count small_tree q d ≤ end_count small_tree (q + 1) d
-unfolding is_leaf end_count
-counts_rise zero d leaf inside = each_leaf (λ d. end_count small_tree 0 d ≤ end_count small_tree 1 d) (omega arith) (omega arith) d leaf
-counts_rise (suc q) d leaf inside = absurd (omega (arith, inside))
-
-counts_last : (d : ℕ) → IsLeaf small_tree d → end_count small_tree 1 d ≡ changes small_tree d
-unfolding is_leaf end_count changes
-counts_last d leaf = each_leaf (λ d. end_count small_tree 1 d ≡ changes small_tree d) refl refl d leaf
-
-lawful : Lawful small_tree
-lawful = record {
-  leaves = refl;
-  earlier = node_is_late;
-  inner = node_is_below;
-  depth = depth_is_small;
-  ends_rise = counts_rise;
-  ends_last = counts_last;
-}
-
--- so all that holds of markets holds of it
+-- so of the worked system, in which each relay has the same limits under all numbers
 pub given : IsGiven small_tree 3 small_device_demand (λ c n. small_limits) no_giver
-given = record {
-  law = lawful;
-  one_phase = refl;
-  few = few;
-  are_steps = record { least = omega arith; most = omega arith };
-  demands = small_is_demand;
-  absent = λ d n out. cond-false (is_member small_tree d n) (small_offer d n) (zeros 3) out;
-  are_limits = λ c n. record {
-    around = record {
-      floor_not_positive = omega (arith, ints);
-      ceiling_not_negative = omega (arith, ints);
-      floor_within = record { low = omega (arith, ints); high = omega (arith, ints) };
-      ceiling_within = record { low = omega (arith, ints); high = omega (arith, ints) };
-    };
-    floor = below (negsuc 2) (omega (arith, ints)) (omega (arith, ints));
-    ceiling = within (pos 7) (omega (arith, ints)) (omega (arith, ints));
-  };
-  givers = λ c. inr (λ n. refl);
-}
+given = small_given (λ c n. small_limits) no_giver
+    (λ c n. are_small (negsuc 2) (pos 7) (omega (arith, ints)) (omega (arith, ints)) (omega (arith, ints)) (omega (arith, ints)))
+    (λ c. inr (λ n. refl))
 
 -- the small tree is a market
 pub market : IsTreeMarket small_tree small_pricing small_places
