@@ -3,6 +3,7 @@ use Rattle.std.proofs.Common.{◌≡◌, sym, ap, subst, ℕ, Bool, cond, List, 
 use Rattle.pm_net.proofs.Messages.{either}
 use Rattle.pm_services.specs.Outputs.{Output, Says}
 use Rattle.pm_lives.specs.Moves.{FollowsByCalls, AreCalm, IsCalm}
+use Rattle.pm_lives.specs.Outputs.{WereSent, EachKept}
 use Rattle.pm_lives.proofs.Staying.{still, then_moves, were_sent, both_sent, kept_to, both_kept}
 use Rattle.pm_market.specs.Lists.{Lists}
 use Rattle.pm_net.specs.Pricing.{Pricing}
@@ -53,33 +54,28 @@ module _ {K : Type 0} (lists : Lists) (p : Pricing) (numbering : Numbering) (Let
   abbrev FollowsSo : (System → Type 0) → System → List (Output K) → Type 0
   FollowsSo Stands sys outs = FollowsByCalls lists p numbering Lets MayBeKept Stands sys y outs
 
-  -- nothing is done or said
-  pub nothing_follows : (Stands : System → Type 0) (sys : System) → Stands sys → FollowsSo Stands sys []
-  nothing_follows Stands sys stands = record {
+  -- no call is made
+  none_called : (Stands : System → Type 0) (sys : System) (outs : List (Output K)) → Stands sys → WereSent lists p numbering sys y outs →
+      EachKept (MayBeKept sys) outs → FollowsSo Stands sys outs
+  none_called Stands sys outs stands sent kept = record {
     calls = [];
     new = sys;
     runs = refl;
     only = still y sys;
     up = λ x. tt;
     stands = stands;
-    sent = tt;
-    kept = tt;
+    sent = sent;
+    kept = kept;
     first = inl (λ stored kept. kept);
   }
 
+  -- nothing is done or said
+  pub nothing_follows : (Stands : System → Type 0) (sys : System) → Stands sys → FollowsSo Stands sys []
+  nothing_follows Stands sys stands = none_called Stands sys [] stands tt tt
+
   -- something is said of which no law speaks
   pub says : (Stands : System → Type 0) (sys : System) (said : List ℕ) → Stands sys → FollowsSo Stands sys (Says said ∷ [])
-  says Stands sys said stands = record {
-    calls = [];
-    new = sys;
-    runs = refl;
-    only = still y sys;
-    up = λ x. tt;
-    stands = stands;
-    sent = (tt, tt);
-    kept = (tt, tt);
-    first = inl (λ stored kept. kept);
-  }
+  says Stands sys said stands = none_called Stands sys (Says said ∷ []) stands (tt, tt) (tt, tt)
 
   -- a node that says something, or nothing, makes no call
   pub says_if : (Stands : System → Type 0) (sys : System) (test : Bool) (said : List ℕ) → Stands sys →

@@ -293,25 +293,28 @@ module _ (Gave : ℕ → Limits → Type 0) (place : ℕ) where
       both_kept KeepsGiven (receipt_outs {K = StoredRelay} kept sender number) (bid_again_outs old new)
       (says_kept (leb number kept) (answer_bytes (reply.TheVariants.Old sender kept))) (again_kept old new)
 
+  -- it learnt something under a number
+  heard : (own : RelaySetup) (old : WaitingRelay) (sender number : ℕ) (learnt : RelayValue) (new : WaitingRelay) (reply outs : Outs) →
+      WritesWaiting own old.waiting learnt new reply →
+      outs ≡ receipt_outs (kept_number old.relay.gathered.cache (sender_place sender)) sender number ++ (bid_again_outs old.relay learnt ++ reply) →
+      HoldsGiven learnt → Learns new outs
+  heard own old sender number learnt new reply outs tries replied is =
+      let kept : ℕ = kept_number old.relay.gathered.cache (sender_place sender) in
+      let receipt : Outs = receipt_outs kept sender number in
+      then_tries own old.waiting learnt new (receipt ++ bid_again_outs old.relay learnt) reply outs (first_kept kept sender number old.relay learnt) tries
+      (replied ∙ sym (Rattle.std.proofs.Common.append_assoc receipt (bid_again_outs old.relay learnt) reply)) is
+
   bids : (own : RelaySetup) (old : WaitingRelay) (sender number : ℕ) (demand : Option (List ℤ)) (new : WaitingRelay) (outs : Outs) →
       (sender_place sender ≡ place → ⊥) → WritesBid own old sender number demand new outs → HoldsGiven old.relay → Learns new outs
   bids own old sender number demand new outs other did is =
-      let kept : ℕ = kept_number old.relay.gathered.cache (sender_place sender) in
-      let receipt : Outs = receipt_outs kept sender number in
-      then_tries own old.waiting did.learnt new (receipt ++ bid_again_outs old.relay did.learnt) did.waiting_reply outs
-      (first_kept kept sender number old.relay did.learnt) did.tries
-      (did.replied ∙ sym (Rattle.std.proofs.Common.append_assoc receipt (bid_again_outs old.relay did.learnt) did.waiting_reply))
+      heard own old sender number did.learnt new did.waiting_reply outs did.tries did.replied
       (looks (with_child_bid old.relay (sender_place sender) number demand) did.learnt did.looks
       (learns_other old.relay (sender_place sender) number demand other is))
 
   limits_given : (own : RelaySetup) (old : WaitingRelay) (sender number : ℕ) (limits : Limits) (new : WaitingRelay) (outs : Outs) →
       sender_place sender ≡ place → Gave number limits → WritesLimits own old sender number limits new outs → HoldsGiven old.relay → Learns new outs
   limits_given own old sender number limits new outs here gave did is =
-      let kept : ℕ = kept_number old.relay.gathered.cache (sender_place sender) in
-      let receipt : Outs = receipt_outs kept sender number in
-      then_tries own old.waiting did.learnt new (receipt ++ bid_again_outs old.relay did.learnt) did.waiting_reply outs
-      (first_kept kept sender number old.relay did.learnt) did.tries
-      (did.replied ∙ sym (Rattle.std.proofs.Common.append_assoc receipt (bid_again_outs old.relay did.learnt) did.waiting_reply))
+      heard own old sender number did.learnt new did.waiting_reply outs did.tries did.replied
       (looks (with_new_limits old.relay (sender_place sender) number limits) did.learnt did.looks
       (subst (λ (k : ℕ). HoldsGiven (with_new_limits old.relay k number limits)) (sym here) (learns_limits old.relay number limits gave is)))
 

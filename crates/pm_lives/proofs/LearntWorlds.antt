@@ -26,6 +26,7 @@ use Rattle.pm_services.specs.DeviceWrites.{device_outs, agent_after}
 use Rattle.pm_lives.specs.Lives.{World, LifeStep, RelayUp, Relay, RootUp, Root, DeviceUp, Device, Lives1, Live, IsNewWorld, KeptMayBeLearnt}
 use Rattle.pm_lives.specs.Lives.{setup_of, handed_out, stored_last, restart_outs, RelayBegins, RelayReads}
 use Rattle.pm_lives.proofs.Staying.{bid_pushed, bid_still_sent}
+use Rattle.pm_lives.proofs.WorldStands.{limits_there}
 use Rattle.pm_lives.proofs.Handing.{handed_values, stored_may}
 use Rattle.pm_lives.proofs.Learnt.{HoldsGiven, KeepsGiven, comes_back, learns_by_frame, learns_by_kept}
 
@@ -64,20 +65,9 @@ module _ (lists : Lists) (p : Pricing) (numbering : Numbering) where
 
   limits_stay : (seen new : System) → BidsStay seen new → (c giver number : ℕ) (limits : Limits) →
       CarriesLimits lists p numbering seen c giver number limits → CarriesLimits lists p numbering new c giver number limits
-  limits_stay seen new stay c giver number limits may =
-      let at = stay may.x (Rattle.pm_system.specs.System.bid_in_channel p seen may.x may.place)
-      (record { place = may.place; inside = may.inside; is = refl }) in
-      record {
-        x = may.x;
-        node = may.node;
-        up = may.up;
-        sender_is = may.sender_is;
-        place = at.place;
-        inside = at.inside;
-        number_is = may.number_is ∙ ap (λ (b : BidMessage). b.number) (sym at.is);
-        gone = ap (λ (b : BidMessage). b.gone) at.is ∙ may.gone;
-        gives = may.gives;
-      }
+  limits_stay seen new stay c giver number limits may = limits_there lists p numbering seen new c giver number limits may
+      (stay may.x (Rattle.pm_system.specs.System.bid_in_channel p seen may.x may.place)
+      (record { place = may.place; inside = may.inside; is = refl }))
 
   -- ---- a world
 
@@ -138,12 +128,12 @@ module _ (lists : Lists) (p : Pricing) (numbering : Numbering) where
     begins c n new did =
         let base : System = with_relay world.seen c did.after.relay in
         let first : List (Output StoredRelay) = take n did.outs in
+        let values = handed_values lists numbering c first base in
         let after : World = record world {
           seen = handed_out lists numbering base c first;
           up = update world.up c true;
           waiting = update world.waiting c did.after.waiting;
         } in
-        let values = handed_values lists numbering c first base in
         let stay : BidsStay world.seen after.seen = λ x bid at. handed_stays lists p numbering c first base x bid at in
         let alone : MovesAlone c world after = record {
           terms = refl;

@@ -23,17 +23,22 @@ use Rattle.pm_lives.specs.Moves.{OnlyMoves}
 none_more : {A : Type 0} (l : List A) → (more : List A) × (l ≡ l ++ more)
 none_more l = ([], sym (append-nil l))
 
--- where nothing is called, all is left as it is
-pub still : (y : ℕ) (sys : System) → OnlyMoves y sys sys
-still y sys = record {
-  root = λ ne. refl;
-  relays = λ z ne. refl;
+-- where the values of one node alone change, and nothing is sent, all other nodes are left as they are
+values_move : (y : ℕ) (sys : System) (root : RootValue) (relays : ℕ → RelayValue) → ((y ≡ 0 → ⊥) → root ≡ sys.root) →
+    ((z : ℕ) → (z ≡ y → ⊥) → relays z ≡ sys.relays z) → OnlyMoves y sys (record sys { root = root; relays = relays })
+values_move y sys root relays same_root same_relays = record {
+  root = same_root;
+  relays = same_relays;
   agents = λ z ne. refl;
   bids = λ x. none_more (sys.bids_sent x);
   prices = λ x. none_more (sys.prices_sent x);
   setpoints = λ x. none_more (sys.setpoints x);
   untold = λ x ne. refl;
 }
+
+-- where nothing is called, all is left as it is
+pub still : (y : ℕ) (sys : System) → OnlyMoves y sys sys
+still y sys = values_move y sys sys.root sys.relays (λ ne. refl) (λ z ne. refl)
 
 more_then : {A : Type 0} (a b c : List A) → (more : List A) × (b ≡ a ++ more) → (more : List A) × (c ≡ b ++ more) →
     (more : List A) × (c ≡ a ++ more)
@@ -62,27 +67,11 @@ update_grows {A = A} f x more z = elim (updated_at f x (f x ++ more) z) [
 
 -- a change of a relay leaves all other nodes as they are
 pub relay_moved : (sys : System) (c : ℕ) (relay : RelayValue) → OnlyMoves c sys (with_relay sys c relay)
-relay_moved sys c relay = record {
-  root = λ ne. refl;
-  relays = λ z ne. updated_other sys.relays c relay z ne;
-  agents = λ z ne. refl;
-  bids = λ x. none_more (sys.bids_sent x);
-  prices = λ x. none_more (sys.prices_sent x);
-  setpoints = λ x. none_more (sys.setpoints x);
-  untold = λ x ne. refl;
-}
+relay_moved sys c relay = values_move c sys sys.root (update sys.relays c relay) (λ ne. refl) (λ z ne. updated_other sys.relays c relay z ne)
 
 -- so does a change of the auctioneer
 pub root_moved : (sys : System) (root : RootValue) → OnlyMoves 0 sys (with_root sys root)
-root_moved sys root = record {
-  root = λ ne. absurd (ne refl);
-  relays = λ z ne. refl;
-  agents = λ z ne. refl;
-  bids = λ x. none_more (sys.bids_sent x);
-  prices = λ x. none_more (sys.prices_sent x);
-  setpoints = λ x. none_more (sys.setpoints x);
-  untold = λ x ne. refl;
-}
+root_moved sys root = values_move 0 sys root sys.relays (λ ne. absurd (ne refl)) (λ z ne. refl)
 
 -- and a change of a device
 pub agent_moved : (sys : System) (d : ℕ) (agent : DeviceAgent) → OnlyMoves d sys (with_agent sys d agent)

@@ -28,8 +28,8 @@ use Rattle.pm_frames.specs.declared.device.DeviceFrame.{DeviceFrame}
 use Rattle.pm_frames.specs.declared.device.DeviceFrame.TheVariants as device_frame
 use Rattle.pm_basis.specs.Prices.{BasisValue}
 use Rattle.pm_services.specs.RelaySetups.{RelaySetup}
-use Rattle.pm_system.specs.System.{System}
-use Rattle.pm_lives.specs.Outputs.{PriceWasSent}
+use Rattle.pm_system.specs.System.{System, bid_in_channel}
+use Rattle.pm_lives.specs.Outputs.{BidWasSent, PriceWasSent}
 use Rattle.pm_lives.specs.Moves.{OnlyMoves}
 use Rattle.pm_lives.specs.RelayLife.{UpdateWasSent, RelayStands, IsRelayKept, CarriesBid, CarriesLimits, CarriesExpire, RelayMayRead}
 use Rattle.pm_lives.specs.RootLife.{IsRootKept, RootMayRead}
@@ -212,6 +212,22 @@ stands_but lists p numbering y world new sys after agrees moves stands sent rela
 
 -- ---- what was handed out may be read
 
+-- limits that a message carries are carried still where the message was sent
+pub limits_there : (lists : Lists) (p : Pricing) (numbering : Numbering) (seen sys : System) (c sender number : ℕ) (limits : Limits) →
+    (may : CarriesLimits lists p numbering seen c sender number limits) → BidWasSent p sys may.x (bid_in_channel p seen may.x may.place) →
+    CarriesLimits lists p numbering sys c sender number limits
+limits_there lists p numbering seen sys c sender number limits may at = record {
+  x = may.x;
+  node = may.node;
+  up = may.up;
+  sender_is = may.sender_is;
+  place = at.place;
+  inside = at.inside;
+  number_is = may.number_is ∙ ap (λ (b : BidMessage). b.number) (sym at.is);
+  gone = ap (λ (b : BidMessage). b.gone) at.is ∙ may.gone;
+  gives = may.gives;
+}
+
 module _ (lists : Lists) (p : Pricing) (numbering : Numbering) (seen sys : System) (all : AllIn lists p seen sys) where
   bid_carried : (y sender number : ℕ) (demand : Option (List Rattle.std.proofs.Common.ℤ)) → CarriesBid lists p numbering seen y sender number demand →
       CarriesBid lists p numbering sys y sender number demand
@@ -233,18 +249,7 @@ module _ (lists : Lists) (p : Pricing) (numbering : Numbering) (seen sys : Syste
   pub limits_carried : (c sender number : ℕ) (limits : Limits) → CarriesLimits lists p numbering seen c sender number limits →
       CarriesLimits lists p numbering sys c sender number limits
   limits_carried c sender number limits may =
-      let at = all.bids may.x may.place may.node may.inside in
-      record {
-        x = may.x;
-        node = may.node;
-        up = may.up;
-        sender_is = may.sender_is;
-        place = at.place;
-        inside = at.inside;
-        number_is = may.number_is ∙ ap (λ (b : BidMessage). b.number) (sym at.is);
-        gone = ap (λ (b : BidMessage). b.gone) at.is ∙ may.gone;
-        gives = may.gives;
-      }
+      limits_there lists p numbering seen sys c sender number limits may (all.bids may.x may.place may.node may.inside)
 
   price_carried : (x : ℕ) (price : PriceMessage) → IsNode lists x → PriceWasSent seen x price → PriceWasSent sys x price
   price_carried x price node at =

@@ -58,11 +58,8 @@ known_within numbers heads child count recorded heard =
 
 module _ (lists : Lists) (p : Pricing) (numbering : Numbering) (calls : List NodeCall) (sys : System) (market : IsTreeMarket lists p numbering)
     (has : RunsTheMarket lists p numbering calls sys) (d : ℕ) (leaf : IsLeaf lists d) where
-  abbrev devices : Devices
-  devices = devices_after lists p (start_devices p) has.events
-
   abbrev net : Network
-  net = devices.net
+  net = (devices_after lists p (start_devices p) has.events).net
 
   goes : Rattle.pm_net.specs.Devices.DevicesGoOn lists p start (devices_after lists p (start_devices p) has.events)
   goes = run_from_start lists market.law market.one_phase p market.by_nodes has.events
@@ -111,15 +108,7 @@ module _ (lists : Lists) (p : Pricing) (numbering : Numbering) (calls : List Nod
     mid = with_bid_sent sys d bid
 
     given : DeviceExpires lists p sys d number mid
-    given = record {
-      leaf = leaf;
-      half = its.half;
-      odd = its.odd;
-      within = its.within;
-      absent = may.absent;
-      has_next = may.has_next;
-      new_is = refl;
-    }
+    given = record { leaf = leaf; half = its.half; odd = its.odd; within = its.within; absent = may.absent; has_next = may.has_next; new_is = refl }
 
     abbrev place : ℕ
     place = length (sys.bids_sent d)

@@ -1,5 +1,6 @@
 -- The calls of a relay are events of the network.
-use Rattle.std.proofs.Common.{◌≡◌, ◌⊎◌, ◌∙◌, sym, ap, subst, ℕ, ◌-◌, ◌≤◌, true, false, cond, leb, ltb, List, [], ◌∷◌}
+use Rattle.std.proofs.Common.{◌≡◌, ◌⊎◌, ◌∙◌, sym, ap, subst, ℕ, ◌-◌, ◌<◌, ◌≤◌, true, false, cond, leb, ltb, List}
+use Rattle.std.proofs.Common.{[], ◌∷◌}
 use Rattle.std.proofs.Common.{◌++◌, length, arith, inl, inr, refl, get_or, ◌%◌, Some}
 use Rattle.pm_base.specs.declared.limits.Limits.{Limits}
 use Rattle.std.proofs.lemmas.Bool.{cases_eq, cases_Bool, cond-true, cond-false, not-true, eqb-true, both_ways, and_parts}
@@ -63,6 +64,13 @@ gone_zeros lists p numbering market s x node bid its gone =
           ∙ by.alike x (part lists s x 0) no_changes (λ d leaf. part_zero lists s.published x d) ∙ by.nothing x node
     ]
 
+-- so is one in a channel
+pub sent_zeros : (lists : Lists) (p : Pricing) (numbering : Numbering) → IsTreeMarket lists p numbering → (net : Network) (s : State) →
+    NetworkAgrees lists p net s → (x at : ℕ) → IsNode lists x → at < length (net.bids_sent x) → (sent_bid p net x at).gone ≡ true →
+    (sent_bid p net x at).demand ≡ zeros p.steps
+sent_zeros lists p numbering market net s agrees x at node inside =
+    gone_zeros lists p numbering market s x node (sent_bid p net x at) (agrees.bids_sent x at node inside)
+
 -- a price sends the same down after the relay took it as before
 pub same_down : (old new : RelayValue) (price : PriceMessage) (outcome : PriceOutcome) → relays.TakesPrice old new
     (update_of price) outcome → (place : ℕ) →
@@ -103,8 +111,7 @@ module _ (lists : Lists) (p : Pricing) (numbering : Numbering) (market : IsTreeM
     at = its_place lists p numbering market.places devices sys sys_is x k did.node did.inside
 
     none : (sent_bid p net x at).gone ≡ true → (sent_bid p net x at).demand ≡ zeros p.steps
-    none = gone_zeros lists p numbering market s x did.node (sent_bid p net x at)
-        (agrees.bids_sent x at did.node (bids_in lists p numbering market.places devices sys sys_is x k did.node did.inside))
+    none = sent_zeros lists p numbering market net s agrees x at did.node (bids_in lists p numbering market.places devices sys sys_is x k did.node did.inside)
 
     looks : LearnsChildBid lists p numbering sys x (sent_bid p net x at) did.relay ⊎ LearnsLimits lists p numbering sys x (sent_bid p net x at) did.relay
     looks =

@@ -41,32 +41,18 @@ held_from lists sys new x agents relays = elim (cases_Bool (is_leaf lists x)) [
   )
 ]
 
-relay_rises : (f : ℕ → RelayValue) (c : ℕ) (v : RelayValue) (x : ℕ) → (x ≡ c → (f c).index ≤ v.index) → (f x).index ≤
-    (update f c v x).index
-relay_rises f c v x rises = elim (cases_eq x c) [
+-- where one value is replaced by one with no smaller index, no index falls
+value_rises : {A : Type 0} → (index : A → ℕ) (f : ℕ → A) (c : ℕ) (v : A) (x : ℕ) → (x ≡ c → index (f c) ≤ index v) →
+    index (f x) ≤ index (update f c v x)
+value_rises index f c v x rises = elim (cases_eq x c) [
   | inl e ↦ omega (
     arith,
-    ap (λ (i : ℕ). (f i).index) e,
+    ap (λ (i : ℕ). index (f i)) e,
     rises e,
-    ap (λ (i : ℕ). (update f c v i).index) e,
-    ap
-        (λ (r : RelayValue). r.index) (updated_same f c v),
+    ap (λ (i : ℕ). index (update f c v i)) e,
+    ap index (updated_same f c v),
   )
-  | inr ne ↦ omega (arith, ap (λ (r : RelayValue). r.index) (updated_other f c v x ne))
-]
-
-agent_rises : (f : ℕ → DeviceAgent) (c : ℕ) (v : DeviceAgent) (x : ℕ) → (x ≡ c → (f c).index ≤ v.index) → (f x).index ≤
-    (update f c v x).index
-agent_rises f c v x rises = elim (cases_eq x c) [
-  | inl e ↦ omega (
-    arith,
-    ap (λ (i : ℕ). (f i).index) e,
-    rises e,
-    ap (λ (i : ℕ). (update f c v i).index) e,
-    ap
-        (λ (r : DeviceAgent). r.index) (updated_same f c v),
-  )
-  | inr ne ↦ omega (arith, ap (λ (r : DeviceAgent). r.index) (updated_other f c v x ne))
+  | inr ne ↦ omega (arith, ap index (updated_other f c v x ne))
 ]
 
 -- ---- one node
@@ -122,12 +108,13 @@ module _ (lists : Lists) (p : Pricing) (numbering : Numbering) (sys : System) (x
   by_relay : (new : System) (c : ℕ) (v : RelayValue) → new.relays ≡ update sys.relays c v → new.agents ≡ sys.agents →
       (x ≡ c → (sys.relays c).index ≤ v.index) → Rises new
   by_relay new c v relays agents rises = held_from lists sys new x (omega (arith, ap (λ f. (f x).index) agents))
-      (omega (arith, relay_rises sys.relays c v x rises, ap (λ f. (f x).index) relays))
+      (omega (arith, value_rises (λ (r : RelayValue). r.index) sys.relays c v x rises, ap (λ f. (f x).index) relays))
 
   by_agent : (new : System) (d : ℕ) (v : DeviceAgent) → new.agents ≡ update sys.agents d v → new.relays ≡ sys.relays →
       (x ≡ d → (sys.agents d).index ≤ v.index) → Rises new
   by_agent new d v agents relays rises = held_from lists sys new x
-      (omega (arith, agent_rises sys.agents d v x rises, ap (λ f. (f x).index) agents)) (omega (arith, ap (λ f. (f x).index) relays))
+      (omega (arith, value_rises (λ (r : DeviceAgent). r.index) sys.agents d v x rises, ap (λ f. (f x).index) agents))
+      (omega (arith, ap (λ f. (f x).index) relays))
 
   by_none : (new : System) → new.agents ≡ sys.agents → new.relays ≡ sys.relays → Rises new
   by_none new agents relays = held_from lists sys new x (omega (arith, ap (λ f. (f x).index) agents)) (omega (arith, ap (λ f. (f x).index) relays))

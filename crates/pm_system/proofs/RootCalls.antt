@@ -33,7 +33,7 @@ use Rattle.pm_system.specs.Calls.{RootTakesBid, RootClears, RootStops, RootTells
 use Rattle.pm_system.specs.Given.{IsTreeMarket}
 use Rattle.pm_system.specs.Market.{SystemIs}
 use Rattle.pm_system.proofs.Moving.{Follows, same_bid, bids_in, sent_prices, root_moves, its_place, channels_still, counted_still}
-use Rattle.pm_system.proofs.RelayCalls.{gone_zeros}
+use Rattle.pm_system.proofs.RelayCalls.{sent_zeros}
 
 module _ (lists : Lists) (p : Pricing) (numbering : Numbering) (market : IsTreeMarket lists p numbering) (devices : Devices) (s : State)
     (agrees : NetworkAgrees lists p devices.net s) (sys : System) (sys_is : SystemIs lists p numbering devices sys) where
@@ -58,8 +58,7 @@ module _ (lists : Lists) (p : Pricing) (numbering : Numbering) (market : IsTreeM
     at = its_place lists p numbering market.places devices sys sys_is x k did.node did.inside
 
     none : (sent_bid p net x at).gone ≡ true → (sent_bid p net x at).demand ≡ zeros p.steps
-    none = gone_zeros lists p numbering market s x did.node (sent_bid p net x at)
-        (agrees.bids_sent x at did.node (bids_in lists p numbering market.places devices sys sys_is x k did.node did.inside))
+    none = sent_zeros lists p numbering market net s agrees x at did.node (bids_in lists p numbering market.places devices sys sys_is x k did.node did.inside)
 
     looks : LooksForClearing (with_root_bid sys.root (numbering.place x) (sent_bid p net x at).number (told_demand (sent_bid p net x at))) did.root
     looks =

@@ -333,6 +333,13 @@ module _ (lists : Lists) (p : Pricing) (numbering : Numbering) (market : IsTreeM
           held = reaching.all_held lists market.law p market.by_nodes net s agrees held relays root reached_net;
         })
 
+  -- where each device that is there holds a price of the newest clearing, so it is in the network
+  devices_net : ((d : ℕ) → IsLeaf lists d → (head_held lists numbering sys d).gone ≡ false → newest_index sys.root ≤ index_of_held lists sys d) →
+      (d : ℕ) → IsLeaf lists d → (net.heard d).gone ≡ false → clearings s ≤ (net.taken d).index
+  devices_net each d leaf there =
+      let node : IsNode lists d = leaf_node lists market.law d leaf in
+      omega (arith, newest_is, each d leaf (ap (λ (h : BidHead). h.gone) (head_is d node) ∙ there), index_is d node)
+
   module _ (quiet : IsToldSystem lists numbering sys) where
     no_relay_news : (c : ℕ) → IsConcentrator lists c → has_news lists net c ≡ false
     no_relay_news c conc =
@@ -342,24 +349,14 @@ module _ (lists : Lists) (p : Pricing) (numbering : Numbering) (market : IsTreeM
     no_root_news : has_news lists net 0 ≡ false
     no_root_news = clearing.no_news lists p numbering market.places net sys.root has.is.root quiet.root.0 quiet.root.1
 
-    told_net : (d : ℕ) → IsLeaf lists d → (net.heard d).gone ≡ false → clearings s ≤ (net.taken d).index
-    told_net d leaf there =
-        let node : IsNode lists d = leaf_node lists market.law d leaf in
-        omega (
-          arith,
-          newest_is,
-          quiet.devices d leaf (ap (λ (h : BidHead). h.gone) (head_is d node) ∙ there),
-          index_is d node,
-        )
-
     -- and so is one of which each device that counts was told the newest clearing, and nobody has news
     pub current_told : IsCurrentSystem lists p numbering calls sys
     current_told =
         let held : (x : ℕ) → IsNode lists x → made_number lists net x ≤ (net.heard x).number = bids_held quiet.bids quiet.expired in
         current_where quiet.bids quiet.expired (record {
-          counted = telling.all_counted lists market.law p market.by_nodes net s agrees held no_relay_news no_root_news told_net;
-          one = telling.one_cleared lists market.law p market.by_nodes net s agrees held no_relay_news no_root_news told_net;
-          held = telling.all_held lists market.law p market.by_nodes net s agrees held no_relay_news no_root_news told_net;
+          counted = telling.all_counted lists market.law p market.by_nodes net s agrees held no_relay_news no_root_news (devices_net quiet.devices);
+          one = telling.one_cleared lists market.law p market.by_nodes net s agrees held no_relay_news no_root_news (devices_net quiet.devices);
+          held = telling.all_held lists market.law p market.by_nodes net s agrees held no_relay_news no_root_news (devices_net quiet.devices);
         })
 
   module _ (quiet : IsTakenSystem lists numbering sys) where
@@ -415,20 +412,13 @@ module _ (lists : Lists) (p : Pricing) (numbering : Numbering) (market : IsTreeM
     nobody_has_news y = ap not (child_at lists y (λ x. eqb (net.heard x).number (recorded_number net y x)) (λ x node up.
         eq-eqb (net.heard x).number (recorded_number net y x) (level_there x node ∙ ap (λ (z : ℕ). recorded_number net z x) up)))
 
-    taken_net : (d : ℕ) → IsLeaf lists d → (net.heard d).gone ≡ false → clearings s ≤ (net.taken d).index
-    taken_net d leaf there =
-        let node : IsNode lists d = leaf_node lists market.law d leaf in
-        omega (
-          arith,
-          newest_is,
-          quiet.devices d leaf (ap (λ (h : BidHead). h.gone) (head_is d node) ∙ there),
-          index_is d node,
-        )
-
     -- so is one whose bids and clearing are over the newest numbers, by the numbers alone
     pub current_taken : IsCurrentSystem lists p numbering calls sys
     current_taken = current_where quiet.bids quiet.expired (record {
-      counted = telling.all_counted lists market.law p market.by_nodes net s agrees held_all (λ c conc. nobody_has_news c) (nobody_has_news 0) taken_net;
-      one = telling.one_cleared lists market.law p market.by_nodes net s agrees held_all (λ c conc. nobody_has_news c) (nobody_has_news 0) taken_net;
-      held = telling.all_held lists market.law p market.by_nodes net s agrees held_all (λ c conc. nobody_has_news c) (nobody_has_news 0) taken_net;
+      counted = telling.all_counted lists market.law p market.by_nodes net s agrees held_all (λ c conc. nobody_has_news c) (nobody_has_news 0)
+          (devices_net quiet.devices);
+      one = telling.one_cleared lists market.law p market.by_nodes net s agrees held_all (λ c conc. nobody_has_news c) (nobody_has_news 0)
+          (devices_net quiet.devices);
+      held = telling.all_held lists market.law p market.by_nodes net s agrees held_all (λ c conc. nobody_has_news c) (nobody_has_news 0)
+          (devices_net quiet.devices);
     })
