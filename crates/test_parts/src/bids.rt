@@ -1,18 +1,28 @@
-//! Bids of two steps for tests.
+//! Bids of two and of ten steps for tests.
 
-ghost use Rattle.std.specs.Prelude.{◌≡◌, length, IfOk};
+ghost use Rattle.std.specs.Prelude.{◌≡◌, length};
 ghost use Rattle.pm_base.specs.Limits.{demand_limit};
 ghost use Rattle.pm_bid.specs.Bids.{AllWithinLimit};
 
 use pm_bid::{ArrayBid, uncounted};
 use std::alloc::Global;
-use std::test::Fail;
+use std::process::Abort;
 
 /// The bid of these demands at two steps.
-pub(crate) fn bid_of(alloc: Global, demands: [i64; 2]) -> Result<ArrayBid, Fail>
-    ensures steps { IfOk result (λ bid. length bid ≡ 2) }
-    ensures small { IfOk result (λ bid. AllWithinLimit demand_limit bid) }
+pub(crate) fn bid_of<R: Abort>(rt: &R, alloc: Global, demands: [i64; 2]) -> ArrayBid
+    ensures steps { length result ≡ 2 }
+    ensures small { AllWithinLimit demand_limit result }
 {
-    let demands = demands.to_vec(alloc)?;
-    Ok(ArrayBid::new(demands, 2, &mut uncounted())?)
+    let demands = demands.to_vec(alloc).expect(rt, "memory");
+    ArrayBid::new(demands, 2, &mut uncounted()).expect(rt, "a bid")
+}
+
+/// The bid of these demands at ten steps.
+pub(crate) fn long_bid_of<R: Abort>(rt: &R, alloc: Global, demands: &[i64]) -> ArrayBid
+    requires { length demands.now ≡ 10 }
+    ensures steps { length result ≡ 10 }
+    ensures small { AllWithinLimit demand_limit result }
+{
+    let demands = demands.to_vec(alloc).expect(rt, "memory");
+    ArrayBid::new(demands, 10, &mut uncounted()).expect(rt, "a bid")
 }

@@ -6,6 +6,7 @@ ghost use Rattle.pm_bid.specs.Bids.{AllWithinLimit};
 ghost use Rattle.pm_base.specs.Limits.{demand_limit, sum_limit};
 ghost use Rattle.pm_cache.specs.Learning.{HasSingleBids, demand_of_offer};
 
+use crate::bids::bid_of;
 use crate::same::same;
 use crate::shared::may_be_shared;
 use pm_bid::{ArrayBid, BidHead, Steps, uncounted};
@@ -13,16 +14,6 @@ use pm_cache::{BidCache, CacheFault};
 use std::alloc::{AllocError, Global};
 use std::marker::Brand;
 use std::process::Abort;
-use std::test::Fail;
-
-/// The bid of these two demands.
-fn bid_of(rt: &impl Abort, alloc: Global, demands: [i64; 2]) -> ArrayBid
-    ensures steps { length result ≡ 2 }
-    ensures small { AllWithinLimit demand_limit result }
-{
-    let demands = demands.to_vec(alloc).expect(rt, "memory");
-    ArrayBid::new(demands, 2, &mut uncounted()).expect(rt, "a bid")
-}
 
 /// Hands a child's bid to the cache, or removes the child if there is no bid.
 fn learn(
@@ -86,13 +77,17 @@ fn learns(
     same(rt, (child, number), sum, wanted.1);
 }
 
+/// The answer to an old bid.
+fn old(kept: u32) -> Result<(), CacheFault> {
+    Err(CacheFault::Old { kept })
+}
+
 /// A child's newer bid takes the place of its older one, and an old one changes nothing.
 fn bids_are_learnt(rt: &impl Abort, alloc: Global, cache: &mut BidCache)
     requires children { length cache.old.heads ≡ 2 }
     requires steps { cache.old.steps ≡ 2 }
     requires single { HasSingleBids cache.old }
 {
-    let old = |kept| Err(CacheFault::Old { kept });
     learns(rt, alloc, cache, 0, 1, Some([5, 3]), (Ok(()), [5, 3]));
     learns(rt, alloc, cache, 1, 1, Some([2, -4]), (Ok(()), [7, -1]));
     learns(rt, alloc, cache, 0, 1, Some([9, 9]), (old(1), [7, -1]));
@@ -102,31 +97,31 @@ fn bids_are_learnt(rt: &impl Abort, alloc: Global, cache: &mut BidCache)
     same(rt, "demand", cache.demand(1, 1, &mut counter), -4);
 }
 
+/// The heads that are kept then.
+const HEADS: &[BidHead] = &[
+    BidHead {
+        number: 2,
+        gone: true,
+    },
+    BidHead {
+        number: 1,
+        gone: false,
+    },
+];
+
 #[test]
-fn the_aggregate_follows_the_newest_bids(rt: HostRuntime) -> Result<(), Fail> {
-    let alloc = rt.alloc();
-    let mut cache = BidCache::new(alloc, 2, 2, &mut uncounted())?;
-    bids_are_learnt(&rt, alloc, &mut cache);
-    let heads = [
-        BidHead {
-            number: 2,
-            gone: true,
-        },
-        BidHead {
-            number: 1,
-            gone: false,
-        },
-    ];
-    same(&rt, "heads", cache.heads(), heads.as_slice());
-    Ok(())
+fn the_aggregate_follows_the_newest_bids(rt: HostRuntime) {
+    let cache = BidCache::new(rt.alloc(), 2, 2, &mut uncounted());
+    let mut cache = cache.expect(&rt, "memory");
+    bids_are_learnt(&rt, rt.alloc(), &mut cache);
+    same(&rt, "heads", cache.heads(), HEADS);
 }
 
 #[test]
-fn a_newer_bid_of_a_thousand_steps_is_counted(rt: HostRuntime) -> Result<(), Fail> {
-    let alloc = rt.alloc();
-    let widest = ArrayBid::zero(alloc, 1000, &mut uncounted())?;
-    let _steps = steps_of_a_newer_bid(alloc, &widest)?;
-    Ok(())
+fn a_newer_bid_of_a_thousand_steps_is_counted(rt: HostRuntime) {
+    let widest = ArrayBid::zero(rt.alloc(), 1000, &mut uncounted());
+    let widest = widest.expect(&rt, "memory");
+    let _steps = steps_of_a_newer_bid(rt.alloc(), &widest).expect(&rt, "memory");
 }
 
 /// Caches and faults may be sent to threads and shared by them: it is proved here.

@@ -11,7 +11,6 @@ use pm_cells::{
     open_link, put_bid, put_price, take_bid, take_price,
 };
 use std::process::Abort;
-use std::test::Fail;
 
 /// A bid that is gone.
 fn gone(number: u32) -> UpMessage
@@ -112,12 +111,11 @@ fn log_is(rt: &impl Abort, log: &LinkLog) {
 }
 
 #[test]
-fn the_newest_message_is_taken_once(rt: HostRuntime) -> Result<(), Fail> {
-    let (link, mut child, mut parent) = open_link(rt.alloc(), 4)?;
+fn the_newest_message_is_taken_once(rt: HostRuntime) {
+    let (link, mut child, mut parent) = open_link(rt.alloc(), 4).expect(&rt, "memory");
     bids_go_up(&rt, &link, &mut child, &mut parent);
     prices_come_down(&rt, &link, &mut child, &mut parent);
     log_is(&rt, &close_link(link, child, parent));
-    Ok(())
 }
 
 /// Types that it is called with may be sent to threads: that is proved at each call.

@@ -1,12 +1,13 @@
 //! Tests of concentrators: full windows, and local steps within limits.
 
-ghost use Rattle.std.specs.Prelude.{◌≡◌, ◌+◌, ◌<◌, ◌≤◌, length, IfOk, None};
+ghost use Rattle.std.specs.Prelude.{◌≡◌, ◌+◌, ◌<◌, ◌≤◌, length, None};
 ghost use Rattle.pm_bid.specs.Bids.{AllWithinLimit};
 ghost use Rattle.pm_base.specs.Limits.{demand_limit};
 ghost use Rattle.pm_cache.specs.Learning.{HasSingleBids};
 ghost use Rattle.pm_session.specs.Prices.{IsNewIndex};
 ghost use Rattle.pm_concentrator.specs.Limited.{IsStepOf};
 
+use crate::bids::long_bid_of;
 use crate::same::same;
 use crate::shared::may_be_shared;
 use pm_bid::{ArrayBid, uncounted};
@@ -15,17 +16,6 @@ use pm_concentrator::{Concentrator, PublishFault};
 use pm_session::{Link, PriceUpdate};
 use std::alloc::Global;
 use std::process::Abort;
-use std::test::Fail;
-
-/// The bid of these demands at ten steps.
-fn bid_of(alloc: Global, demands: &[i64]) -> Result<ArrayBid, Fail>
-    requires { length demands.now ≡ 10 }
-    ensures steps { IfOk result (λ bid. length bid ≡ 10) }
-    ensures small { IfOk result (λ bid. AllWithinLimit demand_limit bid) }
-{
-    let demands = demands.to_vec(alloc)?;
-    Ok(ArrayBid::new(demands, 10, &mut uncounted())?)
-}
 
 /// Learns a child's bid of ten steps.
 fn learn(c: &mut Concentrator, child: usize, number: u32, bid: &ArrayBid) -> Result<(), CacheFault>
@@ -64,20 +54,21 @@ fn publishes(rt: &impl Abort, c: &mut Concentrator, up: &mut Link, number: u32, 
     ensures single { HasSingleBids c.new.cache }
     ensures limits { c.new.limits ≡ c.old.limits }
 {
-    assert_eq!(rt; learn(c, 0, number, bid), Ok(()));
+    same(rt, number, learn(c, 0, number, bid), Ok(()));
     assert_eq!(rt; c.publish(up), Ok(number));
 }
 
 /// So many links of ten steps on which nothing was offered.
-fn new_links(alloc: Global, count: usize) -> Result<Vec<Link>, Fail>
-    ensures count { IfOk result (λ links. length links.items ≡ count) }
-    ensures new { IfOk result (λ links. IsNewIndex 1 links.items) }
+fn new_links<R: Abort>(rt: &R, alloc: Global, count: usize) -> Vec<Link>
+    ensures count { length result.items ≡ count }
+    ensures new { IsNewIndex 1 result.items }
 {
-    let mut links = Vec::with_capacity(alloc, count)?;
+    let mut links = Vec::new(alloc);
     for _link in 0..count {
-        links.push(Link::new(alloc, 10)?)?;
+        let link = Link::new(alloc, 10).expect(rt, "memory");
+        links.push(link).expect(rt, "memory");
     }
-    Ok(links)
+    links
 }
 
 /// Passes a price of this step that answers the number, under index 1, and takes it as child 0.
@@ -103,7 +94,7 @@ fn passed(
         index,
     };
     assert!(rt; c.keeps(number));
-    assert_eq!(rt; c.pass(price, downs), Ok(()));
+    same(rt, price, c.pass(price, downs), Ok(()));
     downs[0].take_price()
 }
 
@@ -150,7 +141,7 @@ fn publishes_the_ninth(
     c: &mut Concentrator,
     up: &mut Link,
     bid: &ArrayBid,
-) -> Result<(), Fail>
+)
     requires last { c.old.window.last ≡ 8 }
     requires offered { up.old.up.offered ≡ 8 }
     requires up_steps { up.old.steps ≡ 10 }
@@ -163,7 +154,7 @@ fn publishes_the_ninth(
 {
     same(rt, "a ninth bid", learn(c, 0, 9, bid), Ok(()));
     refuses(rt, c, up, PublishFault::WindowFull { unanswered: 8 });
-    let mut downs = new_links(alloc, 1)?;
+    let mut downs = new_links(rt, alloc, 1);
     let price = PriceUpdate {
         step: 9,
         number: 8,
@@ -171,67 +162,65 @@ fn publishes_the_ninth(
     };
     same(rt, "price", passed(rt, c, &mut downs, 9, 8), Some(price));
     same(rt, "published", c.publish(up), Ok(9));
-    Ok(())
 }
 
 #[test]
-fn a_full_window_publishes_after_a_price(rt: HostRuntime) -> Result<(), Fail> {
+fn a_full_window_publishes_after_a_price(rt: HostRuntime) {
     let alloc = rt.alloc();
-    let load = bid_of(alloc, &[100; 10])?;
-    let mut c = Concentrator::new(alloc, 1, 10)?;
-    let mut up = Link::new(alloc, 10)?;
+    let load = long_bid_of(&rt, alloc, &[100; 10]);
+    let mut c = Concentrator::new(alloc, 1, 10).expect(&rt, "memory");
+    let mut up = Link::new(alloc, 10).expect(&rt, "memory");
     refuses(&rt, &mut c, &mut up, PublishFault::NotChanged);
     fills_the_window(&rt, &mut c, &mut up, &load);
     refuses(&rt, &mut c, &mut up, PublishFault::NotChanged);
-    publishes_the_ninth(&rt, alloc, &mut c, &mut up, &load)
+    publishes_the_ninth(&rt, alloc, &mut c, &mut up, &load);
 }
 
 /// The step that goes down to child 0 of two for a price of this step that answers number 1.
-fn step_below(rt: &impl Abort, alloc: Global, c: &mut Concentrator, step: u32) -> Result<u32, Fail>
+fn step_below(rt: &impl Abort, alloc: Global, c: &mut Concentrator, step: u32) -> u32
     requires children { length c.old.cache.heads ≡ 2 }
     requires step { IsStepOf c.old.limits c.old.cache.steps step }
     ensures children { length c.new.cache.heads ≡ 2 }
     ensures steps { c.new.cache.steps ≡ c.old.cache.steps }
     ensures limits { c.new.limits ≡ c.old.limits }
 {
-    let mut downs = new_links(alloc, 2)?;
-    let price = passed(rt, c, &mut downs, step, 1).ok_or("no price")?;
-    Ok(price.step)
+    let mut downs = new_links(rt, alloc, 2);
+    passed(rt, c, &mut downs, step, 1)
+        .expect(rt, "a price")
+        .step
 }
 
 /// Publishes under number 1 on a new link.
-fn publishes_first(rt: &impl Abort, alloc: Global, c: &mut Concentrator) -> Result<(), Fail>
+fn publishes_first(rt: &impl Abort, alloc: Global, c: &mut Concentrator)
     requires last { c.old.window.last ≡ 0 }
     requires steps { c.old.cache.steps ≡ 10 }
     ensures children { length c.new.cache.heads ≡ length c.old.cache.heads }
     ensures steps { c.new.cache.steps ≡ 10 }
     ensures limits { c.new.limits ≡ c.old.limits }
 {
-    let mut up = Link::new(alloc, 10)?;
-    assert_eq!(rt; c.publish(&mut up), Ok(1));
-    Ok(())
+    let mut up = Link::new(alloc, 10).expect(rt, "memory");
+    same(rt, "first", c.publish(&mut up), Ok(1));
 }
 
 /// The steps below for prices whose sums are above the ceiling, below the floor and between them.
-fn steps_are_within(rt: &impl Abort, alloc: Global, c: &mut Concentrator) -> Result<(), Fail>
+fn steps_are_within(rt: &impl Abort, alloc: Global, c: &mut Concentrator)
     requires children { length c.old.cache.heads ≡ 2 }
     requires steps { c.old.cache.steps ≡ 10 }
 {
-    same(rt, "above", step_below(rt, alloc, c, 0)?, 3);
-    same(rt, "below", step_below(rt, alloc, c, 9)?, 8);
-    same(rt, "between", step_below(rt, alloc, c, 5)?, 5);
-    Ok(())
+    same(rt, "above", step_below(rt, alloc, c, 0), 3);
+    same(rt, "below", step_below(rt, alloc, c, 9), 8);
+    same(rt, "between", step_below(rt, alloc, c, 5), 5);
 }
 
 /// The second child sends nothing.
 #[test]
-fn the_local_step_is_within_the_limits(rt: HostRuntime) -> Result<(), Fail> {
+fn the_local_step_is_within_the_limits(rt: HostRuntime) {
     let alloc = rt.alloc();
-    let bid = bid_of(alloc, &[300, 250, 200, 150, 100, 50, 0, -50, -100, -150])?;
-    let mut c = Concentrator::limited(alloc, 2, 10, -100, 150)?;
+    let bid = long_bid_of(&rt, alloc, &DEMANDS);
+    let mut c = Concentrator::limited(alloc, 2, 10, -100, 150).expect(&rt, "memory");
     same(&rt, "learnt", learn(&mut c, 0, 1, &bid), Ok(()));
-    publishes_first(&rt, alloc, &mut c)?;
-    steps_are_within(&rt, alloc, &mut c)
+    publishes_first(&rt, alloc, &mut c);
+    steps_are_within(&rt, alloc, &mut c);
 }
 
 /// What goes up for a first bid: its number, and its demand at each of ten steps, in watts.
@@ -260,18 +249,17 @@ fn bid_as_value(c: &mut Concentrator) -> FirstBid
 }
 
 /// The first bid as it goes over a link.
-fn bid_on_link(alloc: Global, c: &mut Concentrator) -> Result<FirstBid, Fail>
+fn bid_on_link<R: Abort>(rt: &R, alloc: Global, c: &mut Concentrator) -> FirstBid
     requires last { c.old.window.last ≡ 0 }
     requires steps { c.old.cache.steps ≡ 10 }
     ensures cache { c.new.cache ≡ c.old.cache }
     ensures limits { c.new.limits ≡ c.old.limits }
 {
-    let mut counter = uncounted();
-    let mut up = Link::new(alloc, 10)?;
+    let mut up = Link::new(alloc, 10).expect(rt, "memory");
     let number = c.publish(&mut up);
-    let mut demand = ArrayBid::zero(alloc, 10, &mut counter)?;
-    up.take_bid(&mut demand).ok_or("no bid")?;
-    Ok((number, demands_of(&demand)))
+    let mut demand = ArrayBid::zero(alloc, 10, &mut uncounted()).expect(rt, "memory");
+    up.take_bid(&mut demand).expect(rt, "a bid");
+    (number, demands_of(&demand))
 }
 
 /// The prices of two children for a price that answers number 1, as values.
@@ -296,82 +284,95 @@ fn prices_on_links(
     alloc: Global,
     c: &mut Concentrator,
     price: PriceUpdate,
-) -> Result<[Option<PriceUpdate>; 2], Fail>
+) -> [Option<PriceUpdate>; 2]
     requires children { length c.old.cache.heads ≡ 2 }
     requires index { price.index ≡ 1 }
     requires step { IsStepOf c.old.limits c.old.cache.steps price.step }
 {
     assert!(rt; c.keeps(price.number));
-    let mut downs = new_links(alloc, 2)?;
-    assert_eq!(rt; c.pass(price, &mut downs), Ok(()));
-    Ok([downs[0].take_price(), downs[1].take_price()])
+    let mut downs = new_links(rt, alloc, 2);
+    same(rt, price, c.pass(price, &mut downs), Ok(()));
+    [downs[0].take_price(), downs[1].take_price()]
 }
 
-/// The same concentrator sends as values what it sends over links. It sends this bid first, and
-/// these prices for the price of step 0 that answers it.
-fn sends(
-    rt: &impl Abort,
+/// The price of step 0 that answers number 1.
+const ANSWER: PriceUpdate = PriceUpdate {
+    step: 0,
+    number: 1,
+    index: 1,
+};
+
+/// What goes down for it to two children of whom the first bids, if its step is then this one.
+fn below(step: u32) -> [Option<PriceUpdate>; 2] {
+    [Some(PriceUpdate { step, ..ANSWER }), None]
+}
+
+/// After the first child's bid it sends these demands as values, and a price of this step for the price that answers it.
+fn values_are<R: Abort>(rt: &R, c: &mut Concentrator, bid: &ArrayBid, demands: [i64; 10], step: u32)
+    requires last { c.old.window.last ≡ 0 }
+    requires steps { c.old.cache.steps ≡ 10 }
+    requires children { length c.old.cache.heads ≡ 2 }
+    requires bid_steps { length bid.now ≡ 10 }
+    requires small { AllWithinLimit demand_limit bid.now }
+    requires single { HasSingleBids c.old.cache }
+    requires price { IsStepOf c.old.limits c.old.cache.steps 0 }
+{
+    same(rt, "learnt", learn(c, 0, 1, bid), Ok(()));
+    same(rt, "bid as a value", bid_as_value(c), (Ok(1), demands));
+    let have = prices_as_values(rt, c, ANSWER);
+    same(rt, "prices as values", have, below(step));
+}
+
+/// The same over links.
+fn links_are<R: Abort>(
+    rt: &R,
     alloc: Global,
-    valued: &mut Concentrator,
-    linked: &mut Concentrator,
+    c: &mut Concentrator,
+    bid: &ArrayBid,
     demands: [i64; 10],
     step: u32,
-) -> Result<(), Fail>
-    requires valued_last { valued.old.window.last ≡ 0 }
-    requires valued_steps { valued.old.cache.steps ≡ 10 }
-    requires valued_children { length valued.old.cache.heads ≡ 2 }
-    requires linked_last { linked.old.window.last ≡ 0 }
-    requires linked_steps { linked.old.cache.steps ≡ 10 }
-    requires linked_children { length linked.old.cache.heads ≡ 2 }
-    requires valued_price { IsStepOf valued.old.limits valued.old.cache.steps 0 }
-    requires linked_price { IsStepOf linked.old.limits linked.old.cache.steps 0 }
+)
+    requires last { c.old.window.last ≡ 0 }
+    requires steps { c.old.cache.steps ≡ 10 }
+    requires children { length c.old.cache.heads ≡ 2 }
+    requires bid_steps { length bid.now ≡ 10 }
+    requires small { AllWithinLimit demand_limit bid.now }
+    requires single { HasSingleBids c.old.cache }
+    requires price { IsStepOf c.old.limits c.old.cache.steps 0 }
 {
-    let bid = (Ok(1), demands);
-    same(rt, "bid as a value", bid_as_value(valued), bid);
-    same(rt, "bid on a link", bid_on_link(alloc, linked)?, bid);
-    let price = PriceUpdate {
-        step: 0,
-        number: 1,
-        index: 1,
-    };
-    let below = [Some(PriceUpdate { step, ..price }), None];
-    let values = prices_as_values(rt, valued, price);
-    same(rt, "prices as values", values, below);
-    let links = prices_on_links(rt, alloc, linked, price)?;
-    same(rt, "prices on links", links, below);
-    Ok(())
+    same(rt, "learnt", learn(c, 0, 1, bid), Ok(()));
+    let have = bid_on_link(rt, alloc, c);
+    same(rt, "bid on a link", have, (Ok(1), demands));
+    let have = prices_on_links(rt, alloc, c, ANSWER);
+    same(rt, "prices on links", have, below(step));
 }
 
-/// The first of two children bids; the second sends nothing. At step 0 the sum is 300 watts, and step 3 is the first at
-/// which it is at most 150.
-#[test]
-fn messages_as_values_are_those_on_links(rt: HostRuntime) -> Result<(), Fail> {
-    let alloc = rt.alloc();
-    let demands = [300, 250, 200, 150, 100, 50, 0, -50, -100, -150];
-    let bid = bid_of(alloc, &demands)?;
-    let mut valued = Concentrator::new(alloc, 2, 10)?;
-    let mut linked = Concentrator::new(alloc, 2, 10)?;
-    same(&rt, "learnt", learn(&mut valued, 0, 1, &bid), Ok(()));
-    same(&rt, "learnt", learn(&mut linked, 0, 1, &bid), Ok(()));
-    sends(&rt, alloc, &mut valued, &mut linked, demands, 0)?;
-    limited_messages_are_those_on_links(&rt, alloc, &bid)
-}
+/// Demands of a child. Step 3 is the first at which they are at most 150 watts.
+const DEMANDS: [i64; 10] = [300, 250, 200, 150, 100, 50, 0, -50, -100, -150];
 
 /// The same within a floor of -100 watts and a ceiling of 150.
-fn limited_messages_are_those_on_links(
-    rt: &impl Abort,
-    alloc: Global,
-    bid: &ArrayBid,
-) -> Result<(), Fail>
-    requires steps { length bid.now ≡ 10 }
-    requires small { AllWithinLimit demand_limit bid.now }
-{
-    let mut valued = Concentrator::limited(alloc, 2, 10, -100, 150)?;
-    let mut linked = Concentrator::limited(alloc, 2, 10, -100, 150)?;
-    same(rt, "learnt", learn(&mut valued, 0, 1, bid), Ok(()));
-    same(rt, "learnt", learn(&mut linked, 0, 1, bid), Ok(()));
-    let demands = [150, 150, 150, 150, 100, 50, 0, -50, -100, -100];
-    sends(rt, alloc, &mut valued, &mut linked, demands, 3)
+const LIMITED: [i64; 10] = [150, 150, 150, 150, 100, 50, 0, -50, -100, -100];
+
+/// The first of two children bids; the second sends nothing. At step 0 the sum is 300 watts.
+#[test]
+fn messages_as_values_are_those_on_links(rt: HostRuntime) {
+    let alloc = rt.alloc();
+    let bid = long_bid_of(&rt, alloc, &DEMANDS);
+    let mut valued = Concentrator::new(alloc, 2, 10).expect(&rt, "memory");
+    values_are(&rt, &mut valued, &bid, DEMANDS, 0);
+    let mut linked = Concentrator::new(alloc, 2, 10).expect(&rt, "memory");
+    links_are(&rt, alloc, &mut linked, &bid, DEMANDS, 0);
+}
+
+/// The same within limits.
+#[test]
+fn limited_messages_are_those_on_links(rt: HostRuntime) {
+    let alloc = rt.alloc();
+    let bid = long_bid_of(&rt, alloc, &DEMANDS);
+    let mut valued = Concentrator::limited(alloc, 2, 10, -100, 150).expect(&rt, "memory");
+    values_are(&rt, &mut valued, &bid, LIMITED, 3);
+    let mut linked = Concentrator::limited(alloc, 2, 10, -100, 150).expect(&rt, "memory");
+    links_are(&rt, alloc, &mut linked, &bid, LIMITED, 3);
 }
 
 /// Concentrators and faults may be sent to threads and shared by them: it is proved here.

@@ -4,10 +4,10 @@
 use crate::bids::bid_of;
 use crate::same::same;
 use crate::shared::may_be_shared;
-use pm_control::{ControlAgent, OfferFault, Setpoint};
+use pm_control::{ControlAgent, OfferFault};
 use pm_session::PriceUpdate;
 use std::alloc::Global;
-use std::test::Fail;
+use std::process::Abort;
 
 /// A row of a script: a call of an agent, and what it answers.
 #[derive(Clone, Copy)]
@@ -32,45 +32,24 @@ enum Start {
     Back(u32, Option<[i64; 2]>),
 }
 
-fn start_of(alloc: Global, start: Start) -> Result<ControlAgent, Fail> {
-    Ok(match start {
-        Start::New => ControlAgent::new(alloc)?,
-        Start::Back(number, None) => ControlAgent::resumed(alloc, number, None, 0)?,
+fn start_of<R: Abort>(rt: &R, alloc: Global, start: Start) -> ControlAgent {
+    let agent = match start {
+        Start::New => ControlAgent::new(alloc),
+        Start::Back(number, None) => ControlAgent::resumed(alloc, number, None, 0),
         Start::Back(number, Some(demands)) => {
-            ControlAgent::resumed(alloc, number, Some(bid_of(alloc, demands)?), 0)?
+            ControlAgent::resumed(alloc, number, Some(bid_of(rt, alloc, demands)), 0)
         }
-    })
+    };
+    agent.expect(rt, "memory")
 }
 
-/// Whether an offer has this answer.
-fn offers(
-    alloc: Global,
-    agent: &mut ControlAgent,
-    demands: [i64; 2],
-    due: Result<u32, OfferFault>,
-) -> Result<bool, Fail> {
-    Ok(agent.offer(bid_of(alloc, demands)?) == due)
-}
-
-/// Whether a price tells to take this power.
-fn tells(agent: &mut ControlAgent, price: PriceUpdate, due: Option<i64>) -> bool {
-    let PriceUpdate {
-        step,
-        number,
-        index,
-    } = price;
-    match (agent.take_price(price), due) {
-        (Some(have), Some(power)) => {
-            have == Setpoint {
-                number,
-                index,
-                step,
-                power,
-            }
-        }
-        (None, None) => true,
-        _ => false,
-    }
+/// The power that a price tells to take. The setpoint names the price.
+fn told<R: Abort>(rt: &R, agent: &mut ControlAgent, price: PriceUpdate) -> Option<i64> {
+    let setpoint = agent.take_price(price)?;
+    let named = (setpoint.step, setpoint.number, setpoint.index);
+    let due = (price.step, price.number, price.index);
+    same(rt, "setpoint", named, due);
+    Some(setpoint.power)
 }
 
 /// What an agent would come back with: its newest number, whether that has an offer, and the index.
@@ -79,35 +58,27 @@ fn stored(agent: &ControlAgent) -> (u32, bool, u32) {
     (resume.number, resume.newest.is_some(), resume.index)
 }
 
-fn is_right(alloc: Global, agent: &mut ControlAgent, row: Row) -> Result<bool, Fail> {
+/// A call answers as its row says.
+fn answers<R: Abort>(rt: &R, alloc: Global, agent: &mut ControlAgent, name: &str, row: Row) {
     match row {
-        Row::Offers(demands, due) => offers(alloc, agent, demands, due),
+        Row::Offers(demands, due) => {
+            let have = agent.offer(bid_of(rt, alloc, demands));
+            same(rt, (name, demands), have, due)
+        }
         Row::Tells(step, number, index, power) => {
             let price = PriceUpdate {
                 step,
                 number,
                 index,
             };
-            Ok(tells(agent, price, power))
+            same(rt, (name, price), told(rt, agent, price), power)
         }
-        Row::Leaves(number) => Ok(agent.leave() == number),
-        Row::TakesOld(kept, number) => Ok(agent.take_old(kept) == number),
-        Row::Stores(number, newest, index) => Ok(stored(agent) == (number, newest, index)),
-    }
-}
-
-/// The place of the first row that is wrong.
-fn first_wrong(
-    alloc: Global,
-    agent: &mut ControlAgent,
-    rows: &[Row],
-) -> Result<Option<usize>, Fail> {
-    for (place, row) in rows.iter().enumerate() {
-        if !is_right(alloc, agent, *row)? {
-            return Ok(Some(place));
+        Row::Leaves(number) => same(rt, (name, "leaves"), agent.leave(), number),
+        Row::TakesOld(kept, number) => same(rt, (name, kept), agent.take_old(kept), number),
+        Row::Stores(number, newest, index) => {
+            same(rt, (name, "stores"), stored(agent), (number, newest, index))
         }
     }
-    Ok(None)
 }
 
 const TELLS_THE_POWER: &[Row] = &[
@@ -199,18 +170,18 @@ const SCRIPTS: &[(&str, Start, &[Row])] = &[
     ),
 ];
 
-fn first_wrong_from(alloc: Global, start: Start, rows: &[Row]) -> Result<Option<usize>, Fail> {
-    let mut agent = start_of(alloc, start)?;
-    first_wrong(alloc, &mut agent, rows)
+fn script_is_right<R: Abort>(rt: &R, alloc: Global, script: &(&str, Start, &[Row])) {
+    let mut agent = start_of(rt, alloc, script.1);
+    for row in script.2 {
+        answers(rt, alloc, &mut agent, script.0, *row);
+    }
 }
 
 #[test]
-fn agents_answer_their_scripts(rt: HostRuntime) -> Result<(), Fail> {
-    for (name, start, rows) in SCRIPTS {
-        let wrong = first_wrong_from(rt.alloc(), *start, *rows)?;
-        same(&rt, *name, wrong, None);
+fn agents_answer_their_scripts(rt: HostRuntime) {
+    for script in SCRIPTS {
+        script_is_right(&rt, rt.alloc(), script);
     }
-    Ok(())
 }
 
 #[test]

@@ -7,14 +7,13 @@ use pm_io::{
 };
 use std::io;
 use std::io::{ErrorKind, Read, Write};
-use std::test::Fail;
 
 /// What a source hands on of `balance` if three bytes are asked for at a time.
 const PIECES: &[&[u8]] = &[b"bal", b"anc", b"e", b""];
 
 /// The first bytes that a source hands on are those of the reader, and so are the next.
 #[test]
-fn the_bytes_are_those_of_the_reader(rt: HostRuntime) -> Result<(), Fail> {
+fn the_bytes_are_those_of_the_reader(rt: HostRuntime) {
     let text = b"balance".as_slice();
     let mut source = StdSource::new(text);
     let mut piece = [0; 3];
@@ -22,9 +21,8 @@ fn the_bytes_are_those_of_the_reader(rt: HostRuntime) -> Result<(), Fail> {
         same(&rt, *bytes, source.read(&mut piece), Ok(bytes.len()));
         same(&rt, *bytes, piece.starts_with(*bytes), true);
     }
-    let read = read_all(rt.alloc(), &mut StdSource::new(text), 10)?;
+    let read = read_all(rt.alloc(), &mut StdSource::new(text), 10).expect(&rt, "bytes");
     same(&rt, "all", read.as_slice(), text);
-    Ok(())
 }
 
 /// The writer is handed the bytes of each piece, in the order of the calls.
@@ -113,15 +111,14 @@ fn an_error_of_the_writer_is_a_fault(rt: HostRuntime) {
 
 /// Bytes in memory are read in pieces, and written while there is room.
 #[test]
-fn memory_is_read_and_written(rt: HostRuntime) -> Result<(), Fail> {
+fn memory_is_read_and_written(rt: HostRuntime) {
     let alloc = rt.alloc();
-    let bytes = b"hello".to_vec(alloc)?;
+    let bytes = b"hello".to_vec(alloc).expect(&rt, "memory");
     let mut source = MemSource::new(bytes, 2, Vec::new(alloc));
-    let read = read_all(alloc, &mut source, 5)?;
+    let read = read_all(alloc, &mut source, 5).expect(&rt, "bytes");
     same(&rt, "read", read.as_slice(), b"hello".as_slice());
-    let mut sink = MemSink::new(alloc, 3, 2, Vec::new(alloc))?;
+    let mut sink = MemSink::new(alloc, 3, 2, Vec::new(alloc)).expect(&rt, "memory");
     let fault = Err(WriteFault { written: 3 });
     same(&rt, "full", write_all(&mut sink, b"hello"), fault);
     same(&rt, "written", sink.bytes(), b"hel".as_slice());
-    Ok(())
 }

@@ -1,6 +1,6 @@
 //! Tests of relays: scripts of what goes up and down, and of what is left after a restart. The numbers are worked out by hand.
 
-ghost use Rattle.std.specs.Prelude.{◌≡◌, IfOk};
+ghost use Rattle.std.specs.Prelude.{◌≡◌};
 ghost use Rattle.pm_relay.specs.Relays.{AreRelayLimits};
 
 use crate::bids::bid_of;
@@ -12,7 +12,7 @@ use pm_cache::CacheFault;
 use pm_relay::{PriceOutcome, Relay, Resume, SendFault};
 use pm_session::PriceUpdate;
 use std::alloc::Global;
-use std::test::Fail;
+use std::process::Abort;
 
 /// A row of a script: a call of a relay, and what it answers.
 #[derive(Clone, Copy)]
@@ -68,20 +68,19 @@ const WIDE: Limits = Limits {
 };
 
 /// The relay that comes back with this, and with the narrow limits for what it sends next.
-fn back(
+fn back<R: Abort>(
+    rt: &R,
     alloc: Global,
     last: u32,
     numbers: [u32; 3],
     answered: u32,
     index: u32,
     limits: Limits,
-) -> Result<Relay, Fail>
+) -> Relay
     requires { AreRelayLimits limits }
-    ensures { IfOk result (λ relay. relay.gathered.cache.steps ≡ 2) }
+    ensures { result.gathered.cache.steps ≡ 2 }
 {
-    if answered > last {
-        return Err(Fail::from("no such answer"));
-    }
+    assert!(rt; answered <= last);
     let mut all = [0; MOST_NODES];
     all[0] = numbers[0];
     all[1] = numbers[1];
@@ -93,49 +92,51 @@ fn back(
         answered,
         index,
     };
-    Ok(Relay::resumed(alloc, 2, NARROW, &resume)?)
+    Relay::resumed(alloc, 2, NARROW, &resume).expect(rt, "memory")
 }
 
-fn start_of(alloc: Global, start: Start) -> Result<Relay, Fail>
-    ensures { IfOk result (λ relay. relay.gathered.cache.steps ≡ 2) }
+fn start_of<R: Abort>(rt: &R, alloc: Global, start: Start) -> Relay
+    ensures { result.gathered.cache.steps ≡ 2 }
 {
     match start {
-        Start::New => Ok(Relay::new(alloc, 2, NARROW)?),
+        Start::New => Relay::new(alloc, 2, NARROW).expect(rt, "memory"),
         Start::Back(last, numbers, answered, index) => {
-            back(alloc, last, numbers, answered, index, NARROW)
+            back(rt, alloc, last, numbers, answered, index, NARROW)
         }
-        Start::BackWide => back(alloc, 2, [2, 2, 2], 0, 0, WIDE),
+        Start::BackWide => back(rt, alloc, 2, [2, 2, 2], 0, 0, WIDE),
     }
 }
 
-/// Whether a child's bid has this answer.
-fn learns(
+/// What a child's bid is answered.
+fn learnt<R: Abort>(
+    rt: &R,
     alloc: Global,
     relay: &mut Relay,
     child: usize,
     number: u32,
     demands: [i64; 2],
-    due: Result<(), CacheFault>,
-) -> Result<bool, Fail>
+) -> Result<(), CacheFault>
     requires steps { relay.old.gathered.cache.steps ≡ 2 }
     ensures steps { relay.new.gathered.cache.steps ≡ 2 }
 {
-    let bid = bid_of(alloc, demands)?;
-    Ok(child < MOST_NODES && relay.learn(child, number, Some(&bid)) == due)
+    assert!(rt; child < MOST_NODES);
+    relay.learn(child, number, Some(&bid_of(rt, alloc, demands)))
 }
 
 /// Whether a child can leave under this number.
-fn leaves(relay: &mut Relay, child: usize, number: u32) -> bool
+fn leaves<R: Abort>(rt: &R, relay: &mut Relay, child: usize, number: u32) -> bool
     ensures { relay.new.gathered.cache.steps ≡ relay.old.gathered.cache.steps }
 {
-    child < MOST_NODES && relay.learn(child, number, None).is_ok()
+    assert!(rt; child < MOST_NODES);
+    relay.learn(child, number, None).is_ok()
 }
 
-/// Whether a child is let go under this number.
-fn lets_go(relay: &mut Relay, child: usize, number: u32) -> bool
+/// The number under which a child is let go.
+fn let_go<R: Abort>(rt: &R, relay: &mut Relay, child: usize) -> u32
     ensures { relay.new.gathered.cache.steps ≡ relay.old.gathered.cache.steps }
 {
-    child < MOST_NODES && relay.expire(child) == number
+    assert!(rt; child < MOST_NODES);
+    relay.expire(child)
 }
 
 /// The demand of the newest bid, at both steps.
@@ -145,13 +146,6 @@ fn demands_of(relay: &Relay) -> [i64; 2]
     let demand = relay.demand();
     let mut counter = uncounted();
     [demand.at(0, &mut counter), demand.at(1, &mut counter)]
-}
-
-/// Whether sending has this answer.
-fn sends(relay: &mut Relay, due: Result<u32, SendFault>) -> bool
-    ensures { relay.new.gathered.cache.steps ≡ relay.old.gathered.cache.steps }
-{
-    relay.send() == due
 }
 
 /// Whether a child is told this step and number under the index.
@@ -199,20 +193,6 @@ fn passes(
     }
 }
 
-/// Whether this comes of a price that does not go on.
-fn takes(relay: &mut Relay, price: PriceUpdate, due: PriceOutcome) -> bool
-    ensures { relay.new.gathered.cache ≡ relay.old.gathered.cache }
-{
-    relay.take_price(price) == due
-}
-
-/// Whether the wide limits have this answer.
-fn widens(relay: &mut Relay, due: Result<(), CacheFault>) -> bool
-    ensures { relay.new.gathered.cache.steps ≡ relay.old.gathered.cache.steps }
-{
-    relay.set_limits(2, 2, WIDE) == due
-}
-
 /// What a relay would come back with: the last number, the first two children's numbers, the number answered and the index.
 fn stored(relay: &Relay) -> (u32, [u32; 2], u32, u32) {
     let resume = relay.resume();
@@ -224,44 +204,52 @@ fn stored(relay: &Relay) -> (u32, [u32; 2], u32, u32) {
     )
 }
 
-fn is_right(alloc: Global, relay: &mut Relay, row: Row) -> Result<bool, Fail>
+/// A call answers as its row says.
+fn answers<R: Abort>(rt: &R, alloc: Global, relay: &mut Relay, case: (&str, usize), row: Row)
     requires { relay.old.gathered.cache.steps ≡ 2 }
     ensures { relay.new.gathered.cache.steps ≡ 2 }
 {
     match row {
-        Row::Learns(child, number, demands) => learns(alloc, relay, child, number, demands, Ok(())),
+        Row::Learns(child, number, demands) => {
+            let have = learnt(rt, alloc, relay, child, number, demands);
+            same(rt, case, have, Ok(()))
+        }
         Row::IsOld(child, number, demands, kept) => {
             let old = Err(CacheFault::Old { kept });
-            learns(alloc, relay, child, number, demands, old)
+            let have = learnt(rt, alloc, relay, child, number, demands);
+            same(rt, case, have, old)
         }
-        Row::Leaves(child, number) => Ok(leaves(relay, child, number)),
-        Row::LetsGo(child, number) => Ok(lets_go(relay, child, number)),
-        Row::Sends(number, demands) => Ok(sends(relay, Ok(number)) && demands_of(relay) == demands),
-        Row::Refuses(fault) => Ok(sends(relay, Err(fault))),
-        Row::SendsAgain(number) => Ok(relay.resend() == number),
-        Row::Demands(demands) => Ok(demands_of(relay) == demands),
+        Row::Leaves(child, number) => same(rt, case, leaves(rt, relay, child, number), true),
+        Row::LetsGo(child, number) => same(rt, case, let_go(rt, relay, child), number),
+        Row::Sends(number, demands) => {
+            same(rt, case, relay.send(), Ok(number));
+            same(rt, case, demands_of(relay), demands)
+        }
+        Row::Refuses(fault) => same(rt, case, relay.send(), Err(fault)),
+        Row::SendsAgain(number) => same(rt, case, relay.resend(), number),
+        Row::Demands(demands) => same(rt, case, demands_of(relay), demands),
         Row::Passes(number, index, first, second) => {
-            Ok(passes(relay, price_of(number, index), first, second))
+            let have = passes(relay, price_of(number, index), first, second);
+            same(rt, case, have, true)
         }
-        Row::Takes(number, index, due) => Ok(takes(relay, price_of(number, index), due)),
-        Row::Widens(due) => Ok(widens(relay, due)),
+        Row::Takes(number, index, due) => {
+            same(rt, case, relay.take_price(price_of(number, index)), due)
+        }
+        Row::Widens(due) => same(rt, case, relay.set_limits(2, 2, WIDE), due),
         Row::Stores(last, numbers, answered, index) => {
-            Ok(stored(relay) == (last, numbers, answered, index))
+            same(rt, case, stored(relay), (last, numbers, answered, index))
         }
-        Row::StoresWide => Ok(relay.resume().limits == WIDE),
+        Row::StoresWide => same(rt, case, relay.resume().limits, WIDE),
     }
 }
 
-/// The place of the first row that is wrong.
-fn first_wrong(alloc: Global, relay: &mut Relay, rows: &[Row]) -> Result<Option<usize>, Fail>
+/// Each call of a script answers as its row says.
+fn all_answer<R: Abort>(rt: &R, alloc: Global, relay: &mut Relay, name: &str, rows: &[Row])
     requires { relay.old.gathered.cache.steps ≡ 2 }
 {
     for (place, row) in rows.iter().enumerate() {
-        if !is_right(alloc, relay, *row)? {
-            return Ok(Some(place));
-        }
+        answers(rt, alloc, relay, (name, place), *row);
     }
-    Ok(None)
 }
 
 /// Two children's bids go up as one, and a price comes down by what was sent. A sum that jumps over the limits is announced as it
@@ -447,18 +435,16 @@ const SCRIPTS: &[(&str, Start, &[Row])] = &[
     ),
 ];
 
-fn first_wrong_from(alloc: Global, start: Start, rows: &[Row]) -> Result<Option<usize>, Fail> {
-    let mut relay = start_of(alloc, start)?;
-    first_wrong(alloc, &mut relay, rows)
+fn script_is_right<R: Abort>(rt: &R, alloc: Global, script: &(&str, Start, &[Row])) {
+    let mut relay = start_of(rt, alloc, script.1);
+    all_answer(rt, alloc, &mut relay, script.0, script.2);
 }
 
 #[test]
-fn relays_answer_their_scripts(rt: HostRuntime) -> Result<(), Fail> {
-    for (name, start, rows) in SCRIPTS {
-        let wrong = first_wrong_from(rt.alloc(), *start, *rows)?;
-        same(&rt, *name, wrong, None);
+fn relays_answer_their_scripts(rt: HostRuntime) {
+    for script in SCRIPTS {
+        script_is_right(&rt, rt.alloc(), script);
     }
-    Ok(())
 }
 
 #[test]

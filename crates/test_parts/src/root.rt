@@ -1,6 +1,6 @@
 //! Tests of an auctioneer that may restart: scripts of what it learns and clears. The numbers are worked out by hand.
 
-ghost use Rattle.std.specs.Prelude.{◌≡◌, IfOk};
+ghost use Rattle.std.specs.Prelude.{◌≡◌};
 
 use crate::bids::bid_of;
 use crate::same::same;
@@ -10,7 +10,7 @@ use pm_base::MOST_NODES;
 use pm_relay::{Root, RootFault};
 use pm_session::PriceUpdate;
 use std::alloc::Global;
-use std::test::Fail;
+use std::process::Abort;
 
 /// A row of a script: a call of a root, and what it answers.
 #[derive(Clone, Copy)]
@@ -32,35 +32,30 @@ enum Row {
 }
 
 /// The root that comes back with this, of which the first two children's numbers are told.
-fn back(alloc: Global, last: u32, numbers: [u32; 2]) -> Result<Root, Fail>
-    ensures { IfOk result (λ root. root.auction.cache.steps ≡ 2) }
+fn back<R: Abort>(rt: &R, alloc: Global, last: u32, numbers: [u32; 2]) -> Root
+    ensures { result.auction.cache.steps ≡ 2 }
 {
     let mut all = [0; MOST_NODES];
     all[0] = numbers[0];
     all[1] = numbers[1];
-    Ok(Root::resumed(alloc, 2, last, &all)?)
+    Root::resumed(alloc, 2, last, &all).expect(rt, "memory")
 }
 
 /// Whether a child's bid is learnt.
-fn learns(
+fn learns<R: Abort>(
+    rt: &R,
     alloc: Global,
     root: &mut Root,
     child: usize,
     number: u32,
     demands: [i64; 2],
-) -> Result<bool, Fail>
+) -> bool
     requires steps { root.old.auction.cache.steps ≡ 2 }
     ensures steps { root.new.auction.cache.steps ≡ 2 }
 {
-    let bid = bid_of(alloc, demands)?;
-    Ok(child < MOST_NODES && root.learn(child, number, Some(&bid)).is_ok())
-}
-
-/// Whether clearing has this answer.
-fn clears(root: &mut Root, due: Result<Cleared, RootFault>) -> bool
-    ensures { root.new.auction.cache.steps ≡ root.old.auction.cache.steps }
-{
-    root.clear() == due
+    assert!(rt; child < MOST_NODES);
+    root.learn(child, number, Some(&bid_of(rt, alloc, demands)))
+        .is_ok()
 }
 
 /// Whether a child is told this step, number and index.
@@ -85,11 +80,12 @@ fn tells(root: &Root, index: u32, step: u32, numbers: (Option<u32>, Option<u32>)
         && prices.for_child(2).is_none()
 }
 
-/// Whether a child is let go under this number.
-fn lets_go(root: &mut Root, child: usize, number: u32) -> bool
+/// The number under which a child is let go.
+fn let_go<R: Abort>(rt: &R, root: &mut Root, child: usize) -> u32
     ensures { root.new.auction.cache.steps ≡ root.old.auction.cache.steps }
 {
-    child < MOST_NODES && root.expire(child) == number
+    assert!(rt; child < MOST_NODES);
+    root.expire(child)
 }
 
 /// What a root would come back with: the last index, and the first two children's numbers.
@@ -98,33 +94,37 @@ fn stored(root: &Root) -> (u32, [u32; 2]) {
     (root.last(), [numbers[0], numbers[1]])
 }
 
-fn is_right(alloc: Global, root: &mut Root, row: Row) -> Result<bool, Fail>
+/// A call answers as its row says.
+fn answers<R: Abort>(rt: &R, alloc: Global, root: &mut Root, case: (&str, usize), row: Row)
     requires { root.old.auction.cache.steps ≡ 2 }
     ensures { root.new.auction.cache.steps ≡ 2 }
 {
     match row {
-        Row::Learns(child, number, demands) => learns(alloc, root, child, number, demands),
-        Row::Clears(index, step, numbers) => {
-            Ok(clears(root, Ok(Cleared { index, step })) && tells(root, index, step, numbers))
+        Row::Learns(child, number, demands) => {
+            let have = learns(rt, alloc, root, child, number, demands);
+            same(rt, case, have, true)
         }
-        Row::Refuses(fault) => Ok(clears(root, Err(fault))),
-        Row::Tells(index, step, numbers) => Ok(tells(root, index, step, numbers)),
-        Row::TellsNothing => Ok(root.prices().is_none()),
-        Row::LetsGo(child, number) => Ok(lets_go(root, child, number)),
-        Row::Stores(last, numbers) => Ok(stored(root) == (last, numbers)),
+        Row::Clears(index, step, numbers) => {
+            same(rt, case, root.clear(), Ok(Cleared { index, step }));
+            same(rt, case, tells(root, index, step, numbers), true)
+        }
+        Row::Refuses(fault) => same(rt, case, root.clear(), Err(fault)),
+        Row::Tells(index, step, numbers) => {
+            same(rt, case, tells(root, index, step, numbers), true)
+        }
+        Row::TellsNothing => same(rt, case, root.prices().is_none(), true),
+        Row::LetsGo(child, number) => same(rt, case, let_go(rt, root, child), number),
+        Row::Stores(last, numbers) => same(rt, case, stored(root), (last, numbers)),
     }
 }
 
-/// The place of the first row that is wrong.
-fn first_wrong(alloc: Global, root: &mut Root, rows: &[Row]) -> Result<Option<usize>, Fail>
+/// Each call of a script answers as its row says.
+fn all_answer<R: Abort>(rt: &R, alloc: Global, root: &mut Root, name: &str, rows: &[Row])
     requires { root.old.auction.cache.steps ≡ 2 }
 {
     for (place, row) in rows.iter().enumerate() {
-        if !is_right(alloc, root, *row)? {
-            return Ok(Some(place));
-        }
+        answers(rt, alloc, root, (name, place), *row);
     }
-    Ok(None)
 }
 
 /// Two clearings.
@@ -196,37 +196,33 @@ const SCRIPTS: &[(&str, u32, [u32; 2], &[Row])] = &[
     ("indices end", 4_294_967_295, [6, 3], RUNS_OUT),
 ];
 
-fn first_wrong_from(
-    alloc: Global,
-    last: u32,
-    numbers: [u32; 2],
-    rows: &[Row],
-) -> Result<Option<usize>, Fail> {
-    let mut root = back(alloc, last, numbers)?;
-    first_wrong(alloc, &mut root, rows)
+/// A root that comes back answers its script.
+fn script_is_right<R: Abort>(rt: &R, alloc: Global, script: &(&str, u32, [u32; 2], &[Row])) {
+    let mut root = back(rt, alloc, script.1, script.2);
+    all_answer(rt, alloc, &mut root, script.0, script.3);
 }
 
 #[test]
-fn roots_that_come_back_answer_their_scripts(rt: HostRuntime) -> Result<(), Fail> {
-    for (name, last, numbers, rows) in SCRIPTS {
-        let wrong = first_wrong_from(rt.alloc(), *last, *numbers, *rows)?;
-        same(&rt, *name, wrong, None);
+fn roots_that_come_back_answer_their_scripts(rt: HostRuntime) {
+    for script in SCRIPTS {
+        script_is_right(&rt, rt.alloc(), script);
     }
-    Ok(())
 }
 
-fn first_wrong_of_new(alloc: Global, rows: &[Row]) -> Result<Option<usize>, Fail> {
-    let mut root = Root::new(alloc, 2)?;
-    first_wrong(alloc, &mut root, rows)
+fn new_root_answers<R: Abort>(rt: &R, alloc: Global, name: &str, rows: &[Row]) {
+    let mut root = Root::new(alloc, 2).expect(rt, "memory");
+    all_answer(rt, alloc, &mut root, name, rows);
 }
 
 #[test]
-fn new_roots_answer_their_scripts(rt: HostRuntime) -> Result<(), Fail> {
-    let twice = first_wrong_of_new(rt.alloc(), CLEARS_TWICE)?;
-    same(&rt, "a root clears what it learnt", twice, None);
-    let gone = first_wrong_of_new(rt.alloc(), LETS_GO)?;
-    same(&rt, "a root lets a child go", gone, None);
-    Ok(())
+fn new_roots_answer_their_scripts(rt: HostRuntime) {
+    new_root_answers(
+        &rt,
+        rt.alloc(),
+        "a root clears what it learnt",
+        CLEARS_TWICE,
+    );
+    new_root_answers(&rt, rt.alloc(), "a root lets a child go", LETS_GO);
 }
 
 #[test]

@@ -4,12 +4,11 @@ ghost use Rattle.std.specs.Prelude.{◌≡◌, ◌≤◌};
 ghost use Rattle.pm_io.specs.Causes.{Rose};
 
 use crate::same::same;
-use crate::wire::{STREAMS, input_of};
+use crate::wire::{STREAMS, Stream, input_of, sink_of};
 use pm_io::{MemSink, MemSource, Memory, Wire};
 use pm_wire::{Served, serve_market};
 use std::alloc::{AllocError, Global};
 use std::process::Abort;
-use std::test::Fail;
 
 /// Memory of the system that refuses the request of one number, from 1.
 #[derive(Drop)]
@@ -72,60 +71,62 @@ fn due_with(refusals: u64, ended: Served) -> Served {
     }
 }
 
-/// Serves the input in pieces of 7 bytes, with memory that refuses the request of this number: a refusal ends it, with a beginning of
-/// the answers, and nothing else does.
-fn serves_scarcely<R: Abort>(
-    rt: &R,
+/// Serves a source with memory that refuses the request of this number; and how often it refused.
+fn served_scarcely(
     alloc: Global,
     refused: u64,
-    input: Vec<u8>,
-    wanted: (&str, Served, &[u8]),
-) -> Result<u64, Fail> {
-    let (name, ended, answers) = wanted;
-    let mut source = MemSource::new(input, 7, Vec::new(alloc));
-    let mut sink = MemSink::new(alloc, 1_048_576, 7, Vec::new(alloc))?;
+    source: &mut MemSource,
+    sink: &mut MemSink,
+) -> (Served, u64) {
     let mut memory = Scarce {
         alloc,
         asked: 0,
         refused,
         refusals: 0,
     };
-    let mut wire = Wire {
-        source: &mut source,
-        sink: &mut sink,
-    };
-    let have = serve_market(alloc, &mut memory, &mut wire);
-    same(rt, (name, refused), have, due_with(memory.refusals, ended));
-    same(rt, (name, refused), answers.starts_with(sink.bytes()), true);
-    Ok(memory.refusals)
+    let have = serve_market(alloc, &mut memory, &mut Wire { source, sink });
+    (have, memory.refusals)
+}
+
+/// Serves the input in pieces of 7 bytes, with memory that refuses the request of this number: a refusal ends it, with a beginning of
+/// the answers, and nothing else does.
+fn serves_scarcely<R: Abort>(
+    rt: &R,
+    alloc: Global,
+    refused: u64,
+    input: &[u8],
+    wanted: (&str, Served, &[u8]),
+) -> u64 {
+    let input = input.to_vec(alloc).expect(rt, "memory");
+    let mut source = MemSource::new(input, 7, Vec::new(alloc));
+    let mut sink = sink_of(rt, alloc, 7);
+    let (have, refusals) = served_scarcely(alloc, refused, &mut source, &mut sink);
+    let case = (wanted.0, refused);
+    same(rt, case, have, due_with(refusals, wanted.1));
+    same(rt, case, wanted.2.starts_with(sink.bytes()), true);
+    refusals
+}
+
+/// A stream is served while each of its first requests is refused in turn.
+fn stream_is_served<R: Abort>(rt: &R, alloc: Global, stream: &Stream) {
+    let input = input_of(rt, alloc, stream.1);
+    let answers = input_of(rt, alloc, stream.3);
+    for refused in 1..=24 {
+        serves_scarcely(rt, alloc, refused, &input, (stream.0, stream.2, &answers));
+    }
 }
 
 #[test]
-fn each_refusal_ends_the_service(rt: HostRuntime) -> Result<(), Fail> {
-    let alloc = rt.alloc();
-    for (name, parts, ended, answers) in STREAMS {
-        let input = input_of(alloc, parts)?;
-        let answers = input_of(alloc, answers)?;
-        for refused in 1..=24 {
-            let wanted = (*name, *ended, answers.as_slice());
-            serves_scarcely(&rt, alloc, refused, input.clone()?, wanted)?;
-        }
+fn each_refusal_ends_the_service(rt: HostRuntime) {
+    for stream in STREAMS {
+        stream_is_served(&rt, rt.alloc(), stream);
     }
-    Ok(())
 }
 
 /// The first request, for the first piece, is refused: nothing is answered.
 #[test]
-fn the_first_refusal_ends_the_service(rt: HostRuntime) -> Result<(), Fail> {
-    let alloc = rt.alloc();
-    let input = input_of(alloc, &[&[1, 0, 0]])?;
-    let refusals = serves_scarcely(
-        &rt,
-        alloc,
-        1,
-        input,
-        ("a part of Hello", Served::Refused, &[]),
-    )?;
+fn the_first_refusal_ends_the_service(rt: HostRuntime) {
+    let wanted = ("a part of Hello", Served::Refused, b"".as_slice());
+    let refusals = serves_scarcely(&rt, rt.alloc(), 1, &[1, 0, 0], wanted);
     same(&rt, "refusals", refusals, 1);
-    Ok(())
 }

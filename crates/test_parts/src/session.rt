@@ -1,27 +1,41 @@
 //! Tests of links, windows and ports: what waits, what is kept, and what a port drops.
 
-ghost use Rattle.std.specs.Prelude.{◌≡◌, length, IfOk};
+ghost use Rattle.std.specs.Prelude.{◌≡◌, length};
+ghost use Rattle.pm_session.specs.Links.{new_session};
 ghost use Rattle.pm_session.specs.Windows.{Keeps};
 
+use crate::bids::long_bid_of;
 use crate::same::same;
 use crate::shared::may_be_shared;
 use pm_bid::{ArrayBid, uncounted};
 use pm_session::{BidHead, Held, Link, Port, PriceUpdate, Prices, Record, Window};
 use std::alloc::Global;
 use std::process::Abort;
-use std::test::Fail;
 
 /// A load of 100 watts at ten steps.
-fn load(alloc: Global) -> Result<ArrayBid, Fail>
-    ensures { IfOk result (λ bid. length bid ≡ 10) }
+fn load<R: Abort>(rt: &R, alloc: Global) -> ArrayBid
+    ensures { length result ≡ 10 }
 {
-    let demands = vec![in alloc; 100; 10]?;
-    Ok(ArrayBid::new(demands, 10, &mut uncounted())?)
+    long_bid_of(rt, alloc, &[100; 10])
+}
+
+/// A bid of ten steps without power.
+fn no_power<R: Abort>(rt: &R, alloc: Global) -> ArrayBid
+    ensures { length result ≡ 10 }
+{
+    ArrayBid::zero(alloc, 10, &mut uncounted()).expect(rt, "memory")
+}
+
+/// A new link of ten steps.
+fn link_of<R: Abort>(rt: &R, alloc: Global) -> Link
+    ensures { result ≡ new_session 10 }
+{
+    Link::new(alloc, 10).expect(rt, "memory")
 }
 
 #[test]
-fn the_price_that_waits_is_given_once(rt: HostRuntime) -> Result<(), Fail> {
-    let mut link = Link::new(rt.alloc(), 10)?;
+fn the_price_that_waits_is_given_once(rt: HostRuntime) {
+    let mut link = link_of(&rt, rt.alloc());
     let price = PriceUpdate {
         step: 9,
         number: 1,
@@ -31,15 +45,13 @@ fn the_price_that_waits_is_given_once(rt: HostRuntime) -> Result<(), Fail> {
     same(&rt, "offered", link.offer_price(price), Ok(()));
     same(&rt, "first", link.take_price(), Some(price));
     same(&rt, "second", link.take_price(), None);
-    Ok(())
 }
 
 #[test]
-fn the_newest_bid_is_given_alone(rt: HostRuntime) -> Result<(), Fail> {
-    let alloc = rt.alloc();
-    let load = load(alloc)?;
-    let mut link = Link::new(alloc, 10)?;
-    let mut taken = ArrayBid::zero(alloc, 10, &mut uncounted())?;
+fn the_newest_bid_is_given_alone(rt: HostRuntime) {
+    let load = load(&rt, rt.alloc());
+    let mut link = link_of(&rt, rt.alloc());
+    let mut taken = no_power(&rt, rt.alloc());
     same(&rt, "load", link.offer_bid(1, Some(&load)), Ok(()));
     same(&rt, "gone", link.offer_bid(2, None), Ok(()));
     let gone = BidHead {
@@ -48,16 +60,14 @@ fn the_newest_bid_is_given_alone(rt: HostRuntime) -> Result<(), Fail> {
     };
     same(&rt, "first", link.take_bid(&mut taken), Some(gone));
     same(&rt, "second", link.take_bid(&mut taken), None);
-    Ok(())
 }
 
 /// A link that takes the load's bid gives in exchange what it had. A newer bid in its place gives the load's back.
 #[test]
-fn a_bid_is_given_in_exchange(rt: HostRuntime) -> Result<(), Fail> {
-    let alloc = rt.alloc();
-    let mut bid = load(alloc)?;
-    let mut newer = ArrayBid::zero(alloc, 10, &mut uncounted())?;
-    let mut link = Link::new(alloc, 10)?;
+fn a_bid_is_given_in_exchange(rt: HostRuntime) {
+    let mut bid = load(&rt, rt.alloc());
+    let mut newer = no_power(&rt, rt.alloc());
+    let mut link = link_of(&rt, rt.alloc());
     link.exchange_bid(1, &mut bid);
     link.exchange_bid(2, &mut newer);
     let mut counter = uncounted();
@@ -68,7 +78,6 @@ fn a_bid_is_given_in_exchange(rt: HostRuntime) -> Result<(), Fail> {
     };
     same(&rt, "newest", link.take_bid(&mut newer), Some(newest));
     same(&rt, "demand", newer.at(9, &mut counter), 0);
-    Ok(())
 }
 
 /// Answers number 1 with its record, after which there is room for 8 more.
@@ -84,32 +93,35 @@ fn gives_the_record(rt: &impl Abort, window: &mut Window, head: BidHead)
 }
 
 #[test]
-fn the_record_that_is_answered_is_kept(rt: HostRuntime) -> Result<(), Fail> {
+fn the_record_that_is_answered_is_kept(rt: HostRuntime) {
     let head = BidHead {
         number: 1,
         gone: false,
     };
-    let mut window = Window::new(rt.alloc(), 1)?;
+    let mut window = Window::new(rt.alloc(), 1).expect(&rt, "memory");
     same(&rt, "room", window.room(), 8);
     same(&rt, "sent", window.sent(1, &[head]), Ok(()));
     same(&rt, "room", window.room(), 7);
     gives_the_record(&rt, &mut window, head);
     gives_the_record(&rt, &mut window, head);
-    Ok(())
 }
 
 /// The step and the number of the price that the port holds.
 fn held(port: &Port) -> Option<(u32, u32)> {
-    port.held().map(|held| (held.step, held.number))
+    let held = port.held()?;
+    Some((held.step, held.number))
 }
 
-#[test]
-fn a_port_drops_the_price_of_a_former_session(rt: HostRuntime) -> Result<(), Fail> {
-    let price = |step, number, index| PriceUpdate {
+fn price(step: u32, number: u32, index: u32) -> PriceUpdate {
+    PriceUpdate {
         step,
         number,
         index,
-    };
+    }
+}
+
+#[test]
+fn a_port_drops_the_price_of_a_former_session(rt: HostRuntime) {
     let mut port = Port::new();
     port.joined(1);
     port.price(price(9, 1, 1));
@@ -121,7 +133,6 @@ fn a_port_drops_the_price_of_a_former_session(rt: HostRuntime) -> Result<(), Fai
     same(&rt, "former", held(&port), None);
     port.price(price(4, 3, 3));
     same(&rt, "newest", held(&port), Some((4, 3)));
-    Ok(())
 }
 
 /// Links, windows, records, ports and prices may be sent to threads and shared by them: it is

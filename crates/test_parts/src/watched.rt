@@ -5,11 +5,11 @@ ghost use Rattle.pm_io.specs.Memory.{numbers_up_to};
 ghost use Rattle.test_parts.specs.Watching.{HasWhatIsDue, GetsWhatIsDue, SameBytes};
 
 use crate::same::same;
-use crate::wire::{STREAMS, input_of};
+use crate::wire::{STREAMS, Stream, input_of, sink_of};
 use pm_io::{Failed, MemSink, MemSource, Peer, Sink, Source, SystemMemory};
 use pm_wire::{Served, serve_market};
 use std::alloc::Global;
-use std::test::Fail;
+use std::process::Abort;
 
 /// A source and a sink in memory. It asks that all whole frames that the source gave are answered before it gives more, and that
 /// the sink gets nothing but what is due for them.
@@ -64,24 +64,23 @@ fn serve_watched(alloc: Global, watch: &mut Watch) -> Served
 }
 
 /// A peer that asks at each moment for all that is due is served as any other, one byte a read and one a write.
+fn peer_is_served<R: Abort>(rt: &R, alloc: Global, stream: &Stream) {
+    let bytes = input_of(rt, alloc, stream.1);
+    let left = bytes.clone().expect(rt, "memory");
+    let mut watch = Watch {
+        source: MemSource::new(left, 1, Vec::new(alloc)),
+        bytes,
+        sink: sink_of(rt, alloc, 1),
+    };
+    let ended = serve_watched(alloc, &mut watch);
+    let answers = input_of(rt, alloc, stream.3);
+    let have = (ended, watch.sink.bytes());
+    same(rt, stream.0, have, (stream.2, answers.as_slice()));
+}
+
 #[test]
-fn a_peer_that_watches_is_served(rt: HostRuntime) -> Result<(), Fail> {
-    let alloc = rt.alloc();
-    for (name, parts, due, answers) in STREAMS {
-        let bytes = input_of(alloc, parts)?;
-        let mut watch = Watch {
-            source: MemSource::new(bytes.clone()?, 1, Vec::new(alloc)),
-            bytes,
-            sink: MemSink::new(alloc, 1_048_576, 1, Vec::new(alloc))?,
-        };
-        let ended = serve_watched(alloc, &mut watch);
-        let answers = input_of(alloc, answers)?;
-        same(
-            &rt,
-            name,
-            (ended, watch.sink.bytes()),
-            (*due, answers.as_slice()),
-        );
+fn a_peer_that_watches_is_served(rt: HostRuntime) {
+    for stream in STREAMS {
+        peer_is_served(&rt, rt.alloc(), stream);
     }
-    Ok(())
 }

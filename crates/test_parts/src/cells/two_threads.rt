@@ -11,7 +11,6 @@ use pm_cells::{
 };
 use std::alloc::{AllocError, Global};
 use std::process::Abort;
-use std::test::Fail;
 use std::thread::{Threads, join};
 
 const TURNS: u32 = 2000;
@@ -115,12 +114,12 @@ fn newest_is_taken(rt: &impl Abort, log: &LinkLog) {
 /// Whatever the two threads did, the newest bid and the newest price are left on the link, and both are taken then. A thread
 /// that was put aside within a call kept the other from the slot. So each end has one more turn when both are back.
 #[test]
-fn a_link_between_two_threads(rt: HostRuntime) -> Result<(), Fail> {
-    let (link, child, parent) = open_link(rt.alloc(), TURNS as usize + 1)?;
+fn a_link_between_two_threads(rt: HostRuntime) {
+    let room = TURNS as usize + 1;
+    let (link, child, parent) = open_link(rt.alloc(), room).expect(&rt, "memory");
     let (mut child, mut parent) = drive(&rt, &link, child, parent);
     child_turn(&link, &mut child);
     parent_turn(&link, &mut parent);
     take_waiting(&link, &mut child);
     newest_is_taken(&rt, &close_link(link, child, parent));
-    Ok(())
 }

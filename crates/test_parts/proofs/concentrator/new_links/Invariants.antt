@@ -4,7 +4,7 @@ use Rattle.pm_session.specs.Prices.{session_at}
 use Rattle.test_parts.proofs.concentrator.new_links.Given as goal
 
 abbrev pub invariant-loop-link : goal.invariant-loop-link
-invariant-loop-link l = record {
+invariant-loop-link g l = record {
   count : length l.links.items ≡ l._link;
   new : (child : ℕ) → child < l._link → (session_at l.links.items child).down.offered ≡ 0;
 }
