@@ -6,7 +6,7 @@ use Rattle.pm_base.specs.declared.limits.Limits.{Limits}
 use Rattle.pm_bid.specs.Limited.{NeverBind}
 use Rattle.pm_bid.specs.declared.head.BidHead.{BidHead}
 use Rattle.pm_relay.specs.Numbers.{child_number, head_number}
-use Rattle.pm_system.proofs.Worked.{numbers_of, noted}
+use Rattle.pm_system.proofs.WorkedValues.{numbers_of, noted}
 
 -- two powers that are within limits keep them
 pub two_keep : (limits : Limits) (a b : ℤ) → (limits.floor ≤ℤ a) × (a ≤ℤ limits.ceiling) →

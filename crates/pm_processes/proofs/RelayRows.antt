@@ -32,7 +32,7 @@ use Rattle.pm_services.specs.RelayWrites.{WaitingRelay, WritesPrice, WritesWaiti
 use Rattle.pm_services.specs.RelayWrites.{relay_bytes, stored_relay, bid_outs, bid_again_outs, waiting_with}
 use Rattle.pm_services.specs.RelayWrites.{drop_outs, down_outs, not_sent_reply, WritesResumed, WritesLimits, WritesExpire}
 use Rattle.pm_services.specs.RelayAnswers.{OpenRelay, ComesUp}
-use Rattle.pm_system.proofs.Worked.{reaches, reached, suffices, enough}
+use Rattle.pm_system.proofs.WorkedValues.{reaches, reached, suffices, enough}
 use Rattle.pm_processes.specs.Processes.{new_relay_service}
 use Rattle.pm_processes.specs.WorkedAnswers.{second_demand, sum_field, low_field, wide, wide_field, narrow, narrow_field}
 use Rattle.pm_processes.specs.WorkedAnswers.{small_bound, child_numbers, price_written, no_demand, holds, holds_one, holds_both, gone_under, bid_under}

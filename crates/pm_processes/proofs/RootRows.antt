@@ -20,7 +20,7 @@ use Rattle.pm_services.specs.Receipts.{downs}
 use Rattle.pm_services.specs.RootWrites.{WritesRoot, WritesRootBid, WritesRootBounded, WritesClear, root_bytes, root_bounds_after, stored_root, clearing_outs}
 use Rattle.pm_services.specs.RootWrites.{not_cleared_reply, clearing_again_outs}
 use Rattle.pm_services.specs.RootAnswers.{OpenRoot, RootComesUpBy}
-use Rattle.pm_system.proofs.Worked.{reaches, reached, suffices, enough}
+use Rattle.pm_system.proofs.WorkedValues.{reaches, reached, suffices, enough}
 use Rattle.pm_processes.specs.WorkedAnswers.{nine_basis, nine_field, numbers_field, price_written, first_demand, small_bound}
 use Rattle.pm_processes.specs.WorkedAnswers.{child_numbers, RootSays, RootTurns, HasIndexBeyond, IsRootHello, RootRows}
 use Rattle.pm_processes.specs.WorkedAnswers.{old_written, too_much_written, root_without, root_hears_bid}

@@ -17,7 +17,7 @@ use Rattle.pm_system.proofs.WorkedValues.{relay_up, comes_back, looks_on, has_ch
 use Rattle.pm_system.proofs.WorkedValues.{may_pass, may_clear, via}
 use Rattle.pm_system.proofs.WorkedCalls.{first_system, is_started, offered, told_relay, told_root, sent, cleared, passed, taken, bids, takes_bid}
 use Rattle.pm_system.proofs.WorkedCalls.{root_takes_bid, sends_bid, clears_market, passes_price, takes_price}
-pub use Rattle.pm_system.proofs.WorkedValues.{reaches, reached, suffices, enough, numbers_of, noted}
+use Rattle.pm_system.proofs.WorkedValues.{reaches, suffices}
 
 -- ---- the values
 
