@@ -20,6 +20,9 @@ from cogmaula.program import live_command
 TOP = Path(__file__).resolve().parents[3]
 MOSQUITTO = shutil.which("mosquitto") or shutil.which("mosquitto", path="/usr/sbin")
 SECONDS = int(os.environ.get("TEST_SECONDS", "60"))
+# The ports that this process gave, and how many processes share all ports.
+GIVEN: set[int] = set()
+PROCESSES = 16
 
 
 def require_broker():
@@ -38,13 +41,21 @@ def live_program():
 
 
 def free_port():
-    """A port at which nobody listens. It is below those that connections get, so a server that comes back has it again."""
-    for port in random.sample(range(10_000, 32_768), 100):
+    """A port at which nobody listens, and which no other test was given.
+
+    It is below those that connections get, so a server that comes back has it again. While it is down nobody else may take it:
+    this process gives no port twice, and processes of tests that run beside each other have different ports, by their numbers.
+    """
+    own = range(10_000 + os.getpid() % PROCESSES, 32_768, PROCESSES)
+    for port in random.sample(own, len(own)):
+        if port in GIVEN:
+            continue
         with socket.socket() as one:
             try:
                 one.bind(("127.0.0.1", port))
             except OSError:
                 continue
+            GIVEN.add(port)
             return port
     raise OSError("no free port was found")
 
