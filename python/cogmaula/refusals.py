@@ -5,7 +5,7 @@ Made of script/refusals.toml by `checks/run places write`.
 
 # By code: the meaning and the remedy. The program's script prints the same words.
 WORDS = {
-    1: ("the input is not UTF-8 or not JSON", "mend the JSON, for instance where the file was cut"),
+    1: ("the input is not UTF-8 or not JSON", "fix the JSON, for instance where the file was cut"),
     2: ("a value has the wrong type", "write whole numbers without a point, names in quotes, lists in brackets"),
     3: ("a member is missing", "add it; an empty list will do for nodes, phases and events"),
     4: ("a member is not known", "take it out, or look for a slip in its name"),
@@ -27,7 +27,7 @@ WORDS = {
     20: ("too many phases, events or changes", "split the script: 1,000 phases, 4,096 events in one, 20,000 changes"),
     22: ("a limited node is below a limited one", "take one of the two limits out"),
     23: ("the input of check or ask does not begin with the file's length", "write the length in bytes and a line feed before the file"),
-    24: ("a frame is bad; a Fault tells its offset", "mend the stream from that byte on"),
+    24: ("a frame is bad; a Fault tells its offset", "fix the stream from that byte on"),
     25: ("ask: a line behind the file is no target", "give whole numbers of watts, one a line, at most 100,000"),
 }
 
