@@ -110,6 +110,11 @@ print_help() {
             help_text
             ;;
         refusals) help_refusals ;;
+        status)
+            help_status "${2-}" && return
+            say "there is no exit status ${2-}: $called help lists them"
+            exit 2
+            ;;
         *)
             help_refusal "$1" && return
             say "there is no help on $1: $called help lists the commands, $called help refusals the codes"

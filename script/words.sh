@@ -24,7 +24,7 @@ help_statuses() {
   3  standard input could not be read
   4  the input is too long
   5  the input is refused: help refusals says why
-  6  standard output did not take the whole text
+  6  standard output did not take the whole text (full disk, closed pipe)
   7  memory did not suffice
   8  the arguments are not UTF-8
 END_OF_TABLE
@@ -57,7 +57,7 @@ usage: $called COMMAND < INPUT > OUTPUT
            is one node of a market across machines, by the program live: reads
            frames, writes frames
 
-  help     prints this text; help refusals, help CODE: what refusals mean
+  help     prints this text; help refusals, CODE, status CODE: what each means
   version  prints the version, and where the programs come from
 END_OF_HELP
     [ "$installed" = yes ] || cat <<END_OF_HELP
@@ -152,6 +152,31 @@ tell_status() {
     esac
 }
 # table end
+
+# Prints what to do about an exit status. Its status is 1 if there is no such status.
+# table remedies
+status_remedy() {
+    case "$1" in
+        0) echo "nothing; the text is whole" ;;
+        1) echo "of check: ask who made the trace for that line; else do what the line on standard error says" ;;
+        2) echo "$called help lists the commands and their arguments" ;;
+        3) echo "give it a file, as in $called run < $example" ;;
+        4) echo "split the cluster, the list of targets or the stream; $pages has the limits" ;;
+        5) echo "$called help CODE, with the code that the line of the refusal names" ;;
+        6) echo "look whether the disk is full or the reader has gone" ;;
+        7) echo "raise its limit (ulimit -v), end other programs, or split the cluster" ;;
+        8) echo "write them in UTF-8" ;;
+        *) return 1 ;;
+    esac
+}
+# table end
+
+# Prints what an exit status means and what to do. Its status is 1 if there is no such status.
+help_status() {
+    local remedy
+    remedy="$(status_remedy "$1")" || return 1
+    printf 'status %s: %s\nWhat to do: %s\nMore: %s\n' "$1" "$(help_statuses | sed -n "s/^  $1  //p")" "$remedy" "$pages"
+}
 
 # Says what a refusal means, by its code; if the code is not known here, where to look it up.
 tell_refusal() {

@@ -663,6 +663,12 @@ is "each code whole" 0 75 "" '(. script/words.sh; for code in {1..25}; do help_r
     grep -cE "^(refused [0-9]+|What to do|More): .+"'
 is "no such code" 2 "" "market: there is no help on 26: ./market help lists the commands, ./market help refusals the codes" \
     './market help 26'
+is "one status" 0 "status 6: standard output did not take the whole text (full disk, closed pipe)
+What to do: look whether the disk is full or the reader has gone
+More: docs/CLUSTER_FILE.md" "" "$bare"' "$top/market" help status 6'
+is "each status whole" 0 27 "" '(. script/words.sh; for code in {0..8}; do help_status "$code"; done) |
+    grep -cE "^(status [0-9]|What to do|More): .+"'
+is "no such status" 2 "" "market: there is no exit status 9: ./market help lists them" './market help status 9'
 is "the help of a node" 0 "$help" "" './market help relay'
 is "the help of the other nodes" 0 "$help
 $help" "" './market help auctioneer; ./market help device'

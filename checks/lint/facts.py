@@ -193,8 +193,13 @@ def statuses_of_help() -> str:
 
 
 def statuses_of_shell() -> str:
-    lines = "".join(f'        {code}) say "{status["said"]}" ;;\n' for code, status in statuses().items() if "said" in status)
+    lines = "".join(f'        {code}) say "{status["said"]}: {status["remedy"]}" ;;\n' for code, status in statuses().items() if "said" in status)
     return f'tell_status() {{\n    case "$1" in\n{lines}    esac\n}}\n'
+
+
+def remedies_of_shell() -> str:
+    lines = "".join(f'        {code}) echo "{status["remedy"]}" ;;\n' for code, status in statuses().items())
+    return f'status_remedy() {{\n    case "$1" in\n{lines}        *) return 1 ;;\n    esac\n}}\n'
 
 
 def statuses_of_page() -> str:
@@ -323,7 +328,7 @@ FILES: dict[str, Callable[[], str]] = {
     "python/cogmaula/live/statuses.py": statuses_of_package,
 }
 TABLES: dict[str, dict[str, Callable[[], str]]] = {
-    "script/words.sh": {"refusals": refusals_of_shell, "help": statuses_of_help, "statuses": statuses_of_shell},
+    "script/words.sh": {"refusals": refusals_of_shell, "help": statuses_of_help, "statuses": statuses_of_shell, "remedies": remedies_of_shell},
     "docs/CLUSTER_FILE.md": {"refusals": refusals_of_page, "lengths": too_long_of_page},
     "docs/COMMANDS.md": {"inputs": inputs_of_page, "statuses": statuses_of_page},
     "docs/SERVE.md": {"statuses": statuses_of_stream},

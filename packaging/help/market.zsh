@@ -18,7 +18,7 @@ commands=(
     '--help:what the commands are'
     '--version:the version'
 )
-topics=('refusals:what each refusal means')
+topics=('refusals:what each refusal means' 'status:what an exit status means')
 case "$CURRENT:$words[2]" in
     2:*) _describe command commands ;;
     3:help) _describe topic topics ;;
