@@ -51,6 +51,9 @@ def main(arguments: argparse.Namespace) -> int:
     cluster = Cluster.from_json(data)
     cluster.check(cli.program_of(arguments))
     logs.show("cogmaula simulate")
+    limited = [node.name for node in cluster.nodes if node.kind == "limited"]
+    if limited:
+        print(f"cogmaula: {_clears_otherwise(limited)}", file=sys.stderr)
     try:
         page = None if arguments.page is None else PageSettings(arguments.page)
         living = LivingCluster(cluster, arguments.live or live_command(), speed=arguments.speed, page=page, tell=_tell)
@@ -62,6 +65,15 @@ def main(arguments: argparse.Namespace) -> int:
     allow_files()
     living.run(arguments.minutes)
     return 0
+
+
+def _clears_otherwise(limited: list[str]) -> str:
+    """That a living market may clear at other prices than `market run`, by the names of the limited concentrators of a file."""
+    named = ", ".join(limited[:3]) + (f" and {len(limited) - 3} more" if len(limited) > 3 else "")
+    return (
+        f"{named} announce what their devices take, and in `market run` their sum moved within the limits:"
+        " prices may differ (docs/DEFINITIONS.md, Settled part)"
+    )
 
 
 def _tell(line: str) -> None:

@@ -131,13 +131,15 @@ def test_a_control_offers_what_is_new_and_keeps_what_it_is_told():
 def test_the_command(program, live, capsys, tmp_path):
     path = str(EXAMPLES / "balance.json")
     assert main(["simulate", path, "--minutes", "0.5"]) == 0
-    assert "00:00 price 2: 2 devices take 300 W and give 300 W" in capsys.readouterr().out
+    said = capsys.readouterr()
+    assert "00:00 price 2: 2 devices take 300 W and give 300 W" in said.out and "prices may differ" not in said.err
     assert main(["simulate", path, "--page", "0.0.0.0:80"]) == 2
     assert "no login" in capsys.readouterr().err
     wide = Cluster(Basis(0, 9, 10), [Limited("feeder", floor=0, ceiling=2_000_000_000)])
     wide.save(tmp_path / "wide.json")
     assert main(["simulate", str(tmp_path / "wide.json")]) == 2
-    assert "0 to 1000000000 watts" in capsys.readouterr().err
+    said = capsys.readouterr().err
+    assert "0 to 1000000000 watts" in said and "feeder announce what their devices take" in said
     (tmp_path / "wrong.json").write_text("{}")
     assert main(["simulate", str(tmp_path / "wrong.json")]) == 5
     with pytest.raises(SystemExit) as ended:
