@@ -21,7 +21,7 @@ VERSION := $(shell cat VERSION)
 tarball = build/market-$(VERSION).tar.gz
 package = build/market_$(VERSION)_amd64.deb
 
-.PHONY: help prove quick check prebuilt install uninstall installcheck dist deb clean
+.PHONY: help prove quick check site prebuilt install uninstall installcheck dist deb clean
 help: ## lists the targets, and the variables that say where to
 	@awk -F ':.*## ' '/^[a-z]+:.*## / { printf "make %-13s %s\n", $$1, $$2 }' Makefile
 	@echo
@@ -37,6 +37,9 @@ quick: ## runs the checks of pages, Python, the script and texts, in at most 8 m
 
 check: ## runs the gate: every proof, must-fail edit, test and check
 	.ci/run
+
+site: ## builds the site of the pages, with a search, into build/site/html; needs mkdocs
+	python3 -m checks.lint.site build/site
 
 prebuilt: ## puts the programs that were proved here into prebuilt/, with their stamps
 	@bash packaging/prebuilt.sh
@@ -56,6 +59,7 @@ dist: ## packs the committed sources into build/
 deb: ## builds a Debian package of the proved programs in build/
 	@bash packaging/deb.sh $(package)
 
-clean: ## removes what dist and deb made
+clean: ## removes what site, dist and deb made
+	rm -rf build/site
 	rm -f build/market-*.tar.gz build/market_*.deb
 	[ ! -d build ] || rmdir build

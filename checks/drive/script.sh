@@ -100,7 +100,7 @@ if os.path.exists("meanwhile"):
         open(source, "w").write(kept)
 END_OF_PROVE
 # The checks tell their arguments and a last line; that of the program tells its arguments alone.
-all="program prebuilt links traces serve live network memory hostile script install python pages schema pictures names places definitions edits"
+all="program prebuilt links traces serve live network memory hostile script install python pages site schema pictures names places definitions edits"
 folder_of() {
     case "$1" in
         cases | links | traces | serve | nodes | network | memory | hostile | python) echo "$top/checks/drive" ;;
@@ -113,7 +113,7 @@ stub() {
         echo 'import sys; print(*sys.argv[1:]); print("1 passed, 0 failed")' >"$(folder_of "$name")/$name.py"
     done
 }
-stub links traces serve nodes network memory hostile python pages schema pictures names places definitions edits
+stub links traces serve nodes network memory hostile python pages site schema pictures names places definitions edits
 for name in script install prebuilt; do
     echo 'echo "1 passed, 0 failed"' >"$top/checks/drive/$name.sh"
 done
@@ -503,7 +503,7 @@ due_of() {
         memory) echo crates/market/out/market crates/live/out/live ;;
         live) echo crates/live/out/live crates/market/out/market ;;
         network) echo crates/live/out/live ;;
-        python | pages | schema | pictures | names | places) echo ;;
+        python | pages | site | schema | pictures | names | places) echo ;;
         definitions) echo check ;;
         edits) echo --self-test ;;
         script | install | prebuilt) ;;
@@ -589,7 +589,7 @@ $place/market
 1 passed, 0 failed" "" "$alone"' checks/run traces | sed "s|$top/||g"'
 is "but not in the gate" 1 "no program is proved from the sources of today: checks/run program proves it first" "" \
     "$alone"' checks/run all >wrote 2>/dev/null; s=$?; sed -n "/^checks.run traces/{n;p}" wrote; (exit $s)'
-quick="program script install python pages schema pictures names places definitions edits"
+quick="program script install python pages site schema pictures names places definitions edits"
 forget
 is "the quick checks without rt" 0 "$(for name in $quick; do echo "checks/run $name"; done)" "" "$alone"' checks/run quick >wrote; s=$?; grep "^checks/run" wrote; (exit $s)'
 is "quick of something" 2 "" "checks/run quick takes no arguments; checks/run NAME may" 'checks/run quick traces'

@@ -123,7 +123,7 @@ def path_named(page: Path, words: str) -> Path | None:
     for folder in (page.parent, TOP):
         found = (folder / words).resolve()
         # What is built is there on some machines alone, so no page can link it.
-        is_built = "out" in found.parts[len(TOP.parts):]
+        is_built = bool(OTHERS & set(found.parts[len(TOP.parts):]))
         if found.exists() and found.is_relative_to(TOP) and found not in (TOP, page) and not is_built:
             return found
     return None
