@@ -55,6 +55,7 @@ class BidFault(Enum):
     OTHER_VERSION = auto()
     NO_FRAME = auto()
     OTHER_CHILD = auto()
+    ODD_NUMBER = auto()
     OLDER_NUMBER = auto()
     NUMBER_AGAIN = auto()
 
@@ -119,8 +120,11 @@ class Children:
         heard = self._newest.get(child)
         return heard is not None and isinstance(heard.frame, Gone)
 
-    def taken(self, child: int, message: Message) -> Heard | None:
-        """What a message on the topic of a child's bids tells, or None if it is not to be taken."""
+    def taken(self, child: int, message: Message, is_relay: bool) -> Heard | None:
+        """What a message on the topic of a child's bids tells, or None if it is not to be taken.
+
+        is_relay: whether the child is a relay; the odd numbers of a device are its parent's, and a bid under one could not be let go
+        """
         if not message.payload:
             return None
         session = message.properties.get(SESSION, "")
@@ -139,6 +143,10 @@ class Children:
             return None
         if frame.child != child:
             self._warn_once(child, BidFault.OTHER_CHILD, f"names child {frame.child}, and is not taken")
+            return None
+        if frame.number % 2 and not is_relay:
+            told = f"has the odd number {frame.number}, and those of a device are even: it is not taken"
+            self._warn_once(child, BidFault.ODD_NUMBER, told)
             return None
         return self._numbered(child, frame, message)
 

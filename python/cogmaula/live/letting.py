@@ -7,7 +7,7 @@ import time
 from collections.abc import Iterable
 
 from .broker_link import Message
-from .children import Children, Heard
+from .children import SORT, Children, Heard
 from .node_errors import BadMessage, BadSettings
 from .frames import AuctioneerResume, Bound, Expire, Gone, Old, RelayResume, TooMuch
 from .keeping import Keeping
@@ -78,6 +78,13 @@ class Letting:
             return False
         return child not in self._keeping.stored.relays if known is None or known.sort is None else known.sort == "device"
 
+    def _is_relay(self, child: int, message: Message) -> bool:
+        """Whether a message of a child is of a relay, by the settings of this node or else by the message."""
+        known = self._of_child.get(child)
+        if known is not None and known.sort is not None:
+            return known.sort == "relay"
+        return message.properties.get(SORT) == "relay"
+
     @property
     def has_waiting(self) -> bool:
         """Whether a bid waits until the pause of its child is over."""
@@ -109,7 +116,7 @@ class Letting:
             self._waiting[child] = message
             self.lapses.lives(child, now)
             return
-        heard = self._children.taken(child, message)
+        heard = self._children.taken(child, message, self._is_relay(child, message))
         if heard is not None and isinstance(heard.frame, Gone):
             self._pricing.clear(child)
         if heard is None or (message.retained and not heard.is_new):
@@ -127,6 +134,10 @@ class Letting:
         self._clear("refused", child)
         self._has_news()
         self._feed(heard.frame.to_bytes())
+        if heard.is_new and heard.frame.number <= lapsed:
+            # The service did not know of it, as after a restart: it is let go again, and the bid behind that is answered by an Old.
+            self._feed(Expire(child).to_bytes())
+            self._feed(heard.frame.to_bytes())
 
     def _pause_of(self, child: int) -> float:
         """The seconds that have to pass between two bids of a child that count."""
@@ -189,6 +200,8 @@ class Letting:
             self._log.warning(f"child {child} is not let go: it is a relay, or the place in which limits are given")
         elif child in self._lapsed:
             self._tell_lapse(child, "it was let go before")
+            self._has_news()
+            self._feed(Expire(child).to_bytes())
         elif not self._number(child):
             self._log.warning(f"child {child} is not let go: it has not bid in this session")
         else:

@@ -11,7 +11,8 @@ from typing import Any
 from .broker_link import Message
 from .children import SORT
 from .connection import REFUSED, connect, new_client, paho, user_properties_of, words_of, words_of_refusal
-from .node_errors import BadMessage, LiveError
+from .frames import RESUMES, AuctioneerResume, RelayResume, frame_of
+from .node_errors import BadFrame, BadMessage, LiveError
 from .given_limits import LimitsMessage
 from .messages import LapseMessage, StateMessage, object_of
 from .node_states import NodeStates
@@ -120,8 +121,17 @@ def _state_of(words: Words, topics: Topics, node: str) -> StateMessage | None:
     return state
 
 
-def _require_up(words: Words, topics: Topics, node: str, sorts: tuple[str, ...]) -> None:
-    """Raises LiveError unless a node is one of these sorts, and up."""
+def _number_in(resume: bytes, state: StateMessage, child: int) -> int:
+    """The number of a child in the newest sum of a parent, by its Resume at the broker; 0 without one that can be read."""
+    try:
+        frame = frame_of(resume, {} if state.sort is None else RESUMES[state.sort], 0)
+    except BadFrame:
+        return 0
+    return frame.numbers[child - 1] if isinstance(frame, RelayResume | AuctioneerResume) else 0
+
+
+def _require_up(words: Words, topics: Topics, node: str, sorts: tuple[str, ...]) -> StateMessage:
+    """The state of a node. Raises LiveError unless it is one of these sorts, and up."""
     try:
         state = _state_of(words, topics, node)
     except BadMessage as error:
@@ -132,14 +142,16 @@ def _require_up(words: Words, topics: Topics, node: str, sorts: tuple[str, ...])
         raise LiveError(f"{node} is a {state.sort}, and no {' or '.join(sorts)}")
     if state.state != "up":
         raise LiveError(f"{node} is down ({state.why}): start it first")
+    return state
 
 
 def drop(broker: BrokerSettings, node: str, child: int, seconds: float = 10.0) -> str:
     """Lets child CHILD of a node go, and says so in a line. Raises LiveError if the node does not, and why."""
     topics = Topics(broker.prefix)
     bid, lapsed = topics.bid(node, child), topics.at(node, "lapsed", child)
-    with Words(broker, [topics.of(node, "state"), bid, lapsed], seconds) as words:
-        _require_up(words, topics, node, ("relay", "auctioneer"))
+    resume = topics.of(node, "resume")
+    with Words(broker, [topics.of(node, "state"), bid, lapsed, resume], seconds) as words:
+        state = _require_up(words, topics, node, ("relay", "auctioneer"))
         payload, properties, _ = words.newest(bid)
         if payload and properties.get(SORT) == "relay":
             raise LiveError(f"child {child} of {node} is a relay, which counts for all below it: let its devices go at it")
@@ -149,6 +161,16 @@ def drop(broker: BrokerSettings, node: str, child: int, seconds: float = 10.0) -
             f"{node} has not let child {child} go in {seconds:g} s: its log says why, or this login may not write {node}/drop",
         )
         told = LapseMessage.of(words.told(lapsed))
+
+        def number() -> int:
+            return _number_in(words.newest(resume)[0], state, child)
+
+        # It is gone in a sum that has an odd number of it, and back in one with a greater number.
+        words.wait(
+            lambda: number() % 2 == 1 or number() > told.number,
+            f"{node} has let child {child} go as of number {told.number}, and in {seconds:g} s it made no sum without it: read its state and log, "
+            "and say it again",
+        )
         return f"child {child} of {node} is let go as of number {told.number}: {told.why}"
 
 

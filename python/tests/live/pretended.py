@@ -24,6 +24,8 @@ LATER = Session("fedcba9876543210", "2026-01-31T07:00:00.000Z")
 MOMENT = "2026-01-31T06:30:00.000Z"
 VERSION = str(messages.VERSION)
 MARKED = (("time", MOMENT), ("session", SESSION.id), ("version", VERSION))
+# What a bid of a relay has, whose numbers may be odd.
+OF_RELAY = (*MARKED, ("sort", "relay"))
 
 
 def settings(sort, folder, **more):
@@ -157,11 +159,11 @@ class Joined:
         return self.link
 
     def begun(self, *retained):
-        """Lets the connection settle, with the basis and these topics and payloads retained."""
+        """Lets the connection settle, with the basis and these topics and payloads retained, and their properties if they are others than MARKED."""
         if self.node.settings.sort != "auctioneer":
             self.link.comes(BASIS_TOPIC, basis_payload())
-        for topic, payload in retained:
-            self.link.comes(topic, payload, retained=True)
+        for topic, payload, *properties in retained:
+            self.link.comes(topic, payload, *properties, retained=True)
         self.link.settles()
         return self.turned()
 

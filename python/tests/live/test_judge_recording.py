@@ -11,7 +11,7 @@ import shutil
 
 import pytest
 from markets import falls_at
-from pretended import BASIS_TOPIC, LATER, SESSION, VERSION, auctioneer_resume, basis_payload, bid, numbers, price, relay_resume, saved
+from pretended import BASIS_TOPIC, LATER, OF_RELAY, SESSION, VERSION, auctioneer_resume, basis_payload, bid, numbers, price, relay_resume, saved
 from recorded import Lines, RecordedMarket, contents_of, files_of
 
 from cogmaula.judge import judge
@@ -37,7 +37,7 @@ def frames_in(folder, *words):
 
 def test_a_node_records_its_start_and_each_frame(joined, tmp_path):
     folder = tmp_path / "recordings"
-    one = joined("relay", record=str(folder)).begun(("market/street/bid/1", bid(1, 1, 5, -3).to_bytes()))
+    one = joined("relay", record=str(folder)).begun(("market/street/bid/1", bid(1, 1, 5, -3).to_bytes(), OF_RELAY))
     sent = bid(3, 1, 5, -3)
     one.writes(FIRST, sent)
     one.link.comes("market/auctioneer/price/3", price(3, 1, 7, 1).to_bytes())
@@ -84,7 +84,7 @@ def test_a_judge_reads_both_forms_alike(recorded, live, tmp_path):
 
 
 def test_a_node_without_a_folder_records_nothing(joined, tmp_path):
-    one = joined("relay").begun(("market/street/bid/1", bid(1, 1, 5, -3).to_bytes()))
+    one = joined("relay").begun(("market/street/bid/1", bid(1, 1, 5, -3).to_bytes(), OF_RELAY))
     one.writes(FIRST)
     one.node.serving.end("stopped")
     assert sorted(path.name for path in tmp_path.iterdir()) == ["relay"]
@@ -136,9 +136,9 @@ class Noted:
 def test_all_is_safe_before_a_resume_is_stored_and_recorded_before_it_is_published(joined, tmp_path, monkeypatch):
     one = joined("auctioneer", record=str(tmp_path / "recordings")).begun()
     noted = Noted(one, monkeypatch)
-    one.link.comes("market/auctioneer/bid/3", bid(3, 1, 21, -3).to_bytes(), [("session", one.node.session.id), ("version", VERSION)])
+    one.link.comes("market/auctioneer/bid/3", bid(3, 2, 21, -3).to_bytes(), [("session", one.node.session.id), ("version", VERSION)])
     one.turned()
-    one.writes(auctioneer_resume(1, numbers((3, 1))), price(3, 1, 1, 1))
+    one.writes(auctioneer_resume(1, numbers((3, 2))), price(3, 2, 1, 1))
     assert noted.done == [
         "in 02", "feed", "in 04", "feed",
         "out 19", "safe", "store", "stored", "publish auctioneer/resume",
@@ -150,7 +150,7 @@ def test_all_is_safe_before_a_resume_is_stored_and_recorded_before_it_is_publish
 def test_a_resume_that_waits_for_the_broker_is_not_yet_recorded(joined, tmp_path):
     folder = tmp_path / "recordings"
     saved(tmp_path, "relay", "street", FIRST)
-    one = joined("relay", record=str(folder)).begun(("market/street/bid/1", bid(1, 1, 5, -3).to_bytes()))
+    one = joined("relay", record=str(folder)).begun(("market/street/bid/1", bid(1, 1, 5, -3).to_bytes(), OF_RELAY))
     told, resume = price(1, 1, 7, 1), relay_resume(1, 1, 7, numbers((1, 1)))
     one.writes(told, resume)
     assert frames_in(folder, "out") == [("out", told.to_bytes().hex())]
@@ -182,7 +182,7 @@ def fails_at(monkeypatch, name, count):
 def test_a_full_disk_ends_the_node_before_anything_is_sent(joined, tmp_path, monkeypatch):
     folder = tmp_path / "recordings"
     one = joined("auctioneer", record=str(folder)).begun()
-    one.link.comes("market/auctioneer/bid/3", bid(3, 1, 21, -3).to_bytes(), [("session", one.node.session.id), ("version", VERSION)])
+    one.link.comes("market/auctioneer/bid/3", bid(3, 1, 21, -3).to_bytes(), [("session", one.node.session.id), ("version", VERSION), ("sort", "relay")])
     one.turned()
     count = len(one.link.sent)
     fails_at(monkeypatch, "write", 1)

@@ -13,6 +13,7 @@ from pretended import (
     BASIS_TOPIC,
     LATER,
     MOMENT,
+    OF_RELAY,
     SESSION,
     VERSION,
     PretendedControl,
@@ -66,7 +67,7 @@ def test_an_auctioneer_comes_back_with_its_session(joined, tmp_path):
     assert one.node.session == SESSION
     assert one.service.read == [resume.to_bytes()]
     assert one.said == []
-    one.link.comes("market/auctioneer/bid/3", bid(3, 1, 21, -3).to_bytes())
+    one.link.comes("market/auctioneer/bid/3", bid(3, 1, 21, -3).to_bytes(), OF_RELAY)
     one.turned()
     one.writes(price(3, 1, 7, 1))
     assert dict(one.link.newest["market/auctioneer/prices"].properties)["time"] == MOMENT

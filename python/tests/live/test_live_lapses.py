@@ -5,13 +5,15 @@ from __future__ import annotations
 import json
 
 import pytest
+from brokers import live_program, wait_until
 from pretended import BASIS_TOPIC, LATER, MARKED, basis_payload, bid, device_resume, gone, numbers, price, relay_resume, saved, state_payload
 
-from cogmaula.live import BadSettings
+from cogmaula.live import BadSettings, serving
 from cogmaula.live.frames import Expire, Old, Send, TooMuch
 from cogmaula.live.lapses import Lapses
 from cogmaula.live.messages import SiteMessage
 from cogmaula.live.node_settings import ChildSettings
+from cogmaula.live.service import Service
 from cogmaula.live.market_times import Times
 
 TIMES = Times(validity=100, heartbeat=25, grace=125)
@@ -406,3 +408,53 @@ def test_a_device_that_was_let_go_is_told_so_before_its_stored_setpoint(joined, 
     lapse = b'{"number": 5, "why": "w", "time": "2026-01-31T06:30:00.000Z"}'
     one = joined("device").begun(("market/street/lapsed/2", lapse))
     assert [json.loads(message).get("market") for message in one.control.told] == ["silent"]
+
+
+# Bids of a device that a restarted parent had heard and not counted, and bids under numbers of the parent.
+
+
+def served(joined_node, holds, what):
+    """Lets a node with a real service work until something holds."""
+    wait_until(lambda: (joined_node.turned(), joined_node.link.confirm(), holds())[-1], what)
+
+
+def test_a_dead_device_counts_nowhere_after_a_restart_of_its_parent(joined, tmp_path, monkeypatch):
+    """The record has bid 2 of it, bid 4 was heard and was in no sum yet, and the device was let go under 5. The broker still has bid 4."""
+    monkeypatch.setattr(serving, "Service", Service)
+    saved(tmp_path, "relay", "street", relay_resume(3, 0, 0, numbers((1, 2))), lapsed={1: 5})
+    one = joined("relay", live=live_program()).begun(("market/street/bid/1", bid(1, 4, 500, 500).to_bytes(), of("device", "house")))
+    own = "market/auctioneer/bid/3"
+    served(one, lambda: bid(3, 4, 0, 0).to_bytes() in one.link.of(own), "the sum has nothing of it")
+    assert one.node.serving.session.resume.numbers[0] == 5
+    assert Old(1, 5).to_bytes() in one.link.of("market/street/price/1"), "a device that lives hears it, and bids anew"
+    one.node.serving.end("stopped")
+
+
+def test_an_operator_lets_a_device_go_that_was_let_go_before(joined):
+    one = let_go(joined)
+    one.link.comes("market/street/drop/1", b"{}")
+    one.turned()
+    assert one.service.read[0] == Expire(1).to_bytes()
+    assert lapsed(one, 1)["why"] == "it was let go before"
+
+
+@pytest.mark.parametrize("frame", [bid(1, 5, 9, 9), gone(1, 7)], ids=["bid", "gone"])
+@pytest.mark.parametrize("sort", ["device", ""])
+def test_a_device_bids_under_no_number_of_its_parent(joined, frame, sort):
+    """Such a bid could never be let go."""
+    one = with_children(joined)
+    for _ in range(3):
+        one.link.comes("market/street/bid/1", frame.to_bytes(), of(sort, "house"))
+        one.turned()
+    assert frame.to_bytes() not in one.service.read
+    told = f"market/street/bid/1 has the odd number {frame.number}, and those of a device are even: it is not taken"
+    assert [line for line in one.said if "odd number" in line] == [told]
+
+
+def test_a_child_that_the_file_calls_a_device_is_one_whatever_it_says(joined):
+    one = with_children(joined, children=(ChildSettings(1, sort="device"), ChildSettings(2, sort="relay")))
+    one.link.comes("market/street/bid/1", bid(1, 5, 9, 9).to_bytes(), of("relay", "house"))
+    one.link.comes("market/street/bid/2", bid(2, 9, 9, 9).to_bytes(), of("device", "lane"))
+    one.turned()
+    assert bid(1, 5, 9, 9).to_bytes() not in one.service.read
+    assert bid(2, 9, 9, 9).to_bytes() in one.service.read

@@ -13,6 +13,7 @@ from pretended import (
     LATER,
     MARKED,
     MOMENT,
+    OF_RELAY,
     SESSION,
     VERSION,
     auctioneer_resume,
@@ -86,7 +87,7 @@ def test_nothing_behind_a_resume_that_cannot_be_stored_is_published(joined, monk
 
 @pytest.mark.parametrize("prices", FORMS)
 def test_a_relays_resume_waits_until_the_broker_has_the_prices_before_it(joined, prices):
-    one = joined("relay", prices=prices).begun(("market/street/bid/1", bid(1, 1, 5, -3).to_bytes()), ("market/street/bid/2", bid(2, 4, 16, 0).to_bytes()))
+    one = joined("relay", prices=prices).begun(("market/street/bid/1", bid(1, 1, 5, -3).to_bytes(), OF_RELAY), ("market/street/bid/2", bid(2, 4, 16, 0).to_bytes()))
     one.writes(RELAY_RESUME, bid(3, 1, 21, -3))
     one.link.confirm()
     one.turned()
@@ -110,7 +111,7 @@ def test_a_devices_resume_waits_until_the_broker_has_the_setpoint_before_it(join
 
 def test_prices_that_come_meanwhile_are_passed_over_for_the_newest(joined):
     """A service is fed a price, and asked to send, only once the broker has all that answers the price before."""
-    one = joined("relay").begun(("market/street/bid/1", bid(1, 1, 5, -3).to_bytes()))
+    one = joined("relay").begun(("market/street/bid/1", bid(1, 1, 5, -3).to_bytes(), OF_RELAY))
     passed = relay_resume(1, 1, 7, numbers((1, 1)))
     one.writes(NotChanged(), price(1, 1, 7, 1), passed)
     fed = len(one.service.read)
@@ -130,7 +131,7 @@ def test_prices_that_come_meanwhile_are_passed_over_for_the_newest(joined):
 
 
 def test_the_price_that_was_passed_over_is_fed_to_a_service_that_starts_anew(joined, monkeypatch):
-    one = joined("relay").begun(("market/street/bid/1", bid(1, 1, 5, -3).to_bytes()))
+    one = joined("relay").begun(("market/street/bid/1", bid(1, 1, 5, -3).to_bytes(), OF_RELAY))
     one.writes(price(1, 1, 7, 1), RELAY_RESUME)
     one.link.comes("market/auctioneer/price/3", price(3, 1, 8, 1).to_bytes())
     one.turned()
@@ -144,7 +145,7 @@ def test_the_price_that_was_passed_over_is_fed_to_a_service_that_starts_anew(joi
 
 
 def test_a_price_is_no_answer_to_a_relay_that_was_asked_to_send(joined):
-    one = joined("relay").begun(("market/street/bid/1", bid(1, 1, 5, -3).to_bytes()))
+    one = joined("relay").begun(("market/street/bid/1", bid(1, 1, 5, -3).to_bytes(), OF_RELAY))
     assert one.service.read[-1] == Send().to_bytes()
     one.link.confirms = True
     one.writes(price(1, 1, 7, 1), RELAY_RESUME)
@@ -159,8 +160,8 @@ def test_a_price_is_no_answer_to_a_relay_that_was_asked_to_send(joined):
 
 
 def test_what_a_service_wrote_and_was_not_handled_is_lost_with_it(joined):
-    one = joined("relay").begun(("market/street/bid/1", bid(1, 1, 5, -3).to_bytes()))
-    one.writes(price(1, 1, 7, 1), RELAY_RESUME, bid(3, 1, 21, -3))
+    one = joined("relay").begun(("market/street/bid/1", bid(1, 2, 5, -3).to_bytes()))
+    one.writes(price(1, 2, 7, 1), RELAY_RESUME, bid(3, 1, 21, -3))
     before = one.service
     before.ends()
     one.turned()
@@ -190,7 +191,7 @@ def test_the_state_tells_the_place_and_the_limits(joined, sort, more, due):
 
 
 def test_a_service_that_ends_starts_anew_from_its_newest_resume_with_all_that_it_hears(joined):
-    one = joined("relay").begun(("market/street/bid/1", bid(1, 1, 5, -3).to_bytes()))
+    one = joined("relay").begun(("market/street/bid/1", bid(1, 1, 5, -3).to_bytes(), OF_RELAY))
     one.link.comes("market/auctioneer/price/3", price(3, 1, 7, 1).to_bytes())
     one.turned()
     assert one.service.read == [b"", bid(1, 1, 5, -3).to_bytes(), Send().to_bytes(), price(3, 1, 7, 1).to_bytes()]
@@ -240,7 +241,7 @@ def test_a_service_that_cannot_be_started_is_told(joined, monkeypatch):
 def test_a_service_that_does_not_answer_is_ended(joined, monkeypatch, sort):
     one = joined(sort).begun()
     if sort == "auctioneer":
-        one.link.comes("market/auctioneer/bid/1", bid(1, 1, 5, -3).to_bytes(), [("session", one.node.session.id), ("version", VERSION)])
+        one.link.comes("market/auctioneer/bid/1", bid(1, 1, 5, -3).to_bytes(), [("session", one.node.session.id), ("version", VERSION), ("sort", "relay")])
     else:
         one.control.offer(b'{"power": [5, -3]}')
     one.turned()
@@ -285,7 +286,7 @@ def test_an_auctioneer_clears_after_news_and_tells_prices_with_time_and_session(
     one = joined("auctioneer", prices=prices).begun()
     session = one.node.session
     own = [("session", session.id), ("version", VERSION)]
-    one.link.comes("market/auctioneer/bid/3", bid(3, 1, 21, -3).to_bytes(), own)
+    one.link.comes("market/auctioneer/bid/3", bid(3, 1, 21, -3).to_bytes(), [*own, ("sort", "relay")])
     one.turned()
     assert one.service.read == [b"", bid(3, 1, 21, -3).to_bytes(), Clear().to_bytes()]
     resume = auctioneer_resume(1, numbers((3, 1)))
@@ -298,7 +299,7 @@ def test_an_auctioneer_clears_after_news_and_tells_prices_with_time_and_session(
 
 
 def test_answers_that_ask_for_patience(joined):
-    one = joined("relay").begun(("market/street/bid/1", bid(1, 1, 5, -3).to_bytes()))
+    one = joined("relay").begun(("market/street/bid/1", bid(1, 1, 5, -3).to_bytes(), OF_RELAY))
     sends = [frame for frame in one.service.read if frame == Send().to_bytes()]
     assert len(sends) == 1
     for frame, is_again in ((NotChanged(), False), (WindowFull(), True), (NotCaughtUp(), True), (Old(1, 1), False)):
@@ -314,7 +315,7 @@ def test_answers_that_ask_for_patience(joined):
 
 def test_who_is_awaited_is_told_once_in_a_while(joined, tmp_path):
     saved(tmp_path, "relay", "street", RELAY_RESUME)
-    one = joined("relay").begun(("market/street/bid/1", bid(1, 1, 5, -3).to_bytes()))
+    one = joined("relay").begun(("market/street/bid/1", bid(1, 1, 5, -3).to_bytes(), OF_RELAY))
     one.writes(NotCaughtUp(), NotCaughtUp())
     told = [line for line in one.said if "waits for the bids of children 2," in line]
     assert len(told) == 1
@@ -328,13 +329,13 @@ def test_no_number_is_left(joined):
 
 @pytest.mark.parametrize("prices", FORMS)
 def test_a_child_that_left_is_told_no_price_and_its_retained_price_is_cleared(joined, prices):
-    one = joined("relay", prices=prices).begun(("market/street/bid/1", bid(1, 1, 5, -3).to_bytes()))
+    one = joined("relay", prices=prices).begun(("market/street/bid/1", bid(1, 1, 5, -3).to_bytes(), OF_RELAY))
     one.writes(price(1, 1, 7, 1))
     one.link.comes("market/street/bid/1", gone(1, 2).to_bytes())
     one.turned()
     one.writes(price(1, 1, 8, 1))
     assert one.prices_told("street", 1) == [price(1, 1, 7, 1).to_bytes(), b""]
-    one.link.comes("market/street/bid/1", bid(1, 3, 5, -3).to_bytes())
+    one.link.comes("market/street/bid/1", bid(1, 3, 5, -3).to_bytes(), OF_RELAY)
     one.turned()
     one.writes(price(1, 3, 9, 0))
     assert one.prices_told("street", 1)[-1] == price(1, 3, 9, 0).to_bytes()
@@ -342,7 +343,7 @@ def test_a_child_that_left_is_told_no_price_and_its_retained_price_is_cleared(jo
 
 @pytest.mark.parametrize("prices", FORMS)
 def test_an_older_price_does_not_take_the_place_of_a_newer_one(joined, prices):
-    one = joined("relay", prices=prices).begun(("market/street/bid/1", bid(1, 1, 5, -3).to_bytes()))
+    one = joined("relay", prices=prices).begun(("market/street/bid/1", bid(1, 1, 5, -3).to_bytes(), OF_RELAY))
     for told in (price(1, 1, 7, 1), price(1, 1, 6, 0)):
         one.writes(told)
     assert one.prices_told("street", 1) == [price(1, 1, 7, 1).to_bytes()]
@@ -352,7 +353,7 @@ def test_prices_that_the_broker_retains_are_kept_if_the_child_is_there(joined):
     one = joined("relay").begun(
         ("market/street/price/1", price(1, 1, 7, 1).to_bytes()),
         ("market/street/price/2", price(2, 4, 7, 1).to_bytes()),
-        ("market/street/bid/2", gone(2, 5).to_bytes()),
+        ("market/street/bid/2", gone(2, 5).to_bytes(), OF_RELAY),
     )
     assert one.link.newest["market/street/price/1"].payload == price(1, 1, 7, 1).to_bytes()
     assert dict(one.link.newest["market/street/price/1"].properties) == dict(MARKED)
@@ -385,7 +386,7 @@ def test_a_bid_that_would_end_the_service_never_reaches_it(joined, payload, prop
 
 
 def test_a_child_behind_its_number_is_told_and_not_fed(joined):
-    one = joined("relay").begun(("market/street/bid/1", bid(1, 9, 5, -3).to_bytes()))
+    one = joined("relay").begun(("market/street/bid/1", bid(1, 9, 5, -3).to_bytes(), OF_RELAY))
     count = len(one.service.read)
     one.link.comes("market/street/bid/1", bid(1, 4, 5, -3).to_bytes())
     one.turned()
@@ -426,7 +427,7 @@ def test_a_price_that_would_end_the_service_never_reaches_it(joined, topic, payl
 
 @pytest.mark.parametrize("prices", FORMS)
 def test_a_relay_passes_the_time_of_the_clearing_on(joined, prices):
-    one = joined("relay", prices=prices).begun(("market/street/bid/1", bid(1, 1, 5, -3).to_bytes()))
+    one = joined("relay", prices=prices).begun(("market/street/bid/1", bid(1, 1, 5, -3).to_bytes(), OF_RELAY))
     for index in (7, 8, 6):
         one.link.comes("market/auctioneer/price/3", price(3, 1, index, 1).to_bytes(), [("time", f"time {index}"), ("session", SESSION.id)])
         one.turned()

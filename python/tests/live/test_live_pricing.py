@@ -5,7 +5,7 @@ from __future__ import annotations
 import time
 
 import pytest
-from pretended import BASIS, LATER, MARKED, bid, device_resume, gone, numbers, price, relay_resume
+from pretended import BASIS, LATER, MARKED, OF_RELAY, bid, device_resume, gone, numbers, price, relay_resume
 
 from cogmaula.live.frames import Dropped, Old, OtherBasis, Setpoint
 from cogmaula.live.price_table import PriceTable
@@ -57,7 +57,7 @@ def test_a_table_that_came_in_two_pieces_has_all_in_the_end(joined):
 @pytest.mark.parametrize("is_together", [True, False])
 def test_prices_of_several_clearings_are_told_as_if_each_came_alone(joined, prices, is_together):
     """An older one changes nothing behind a newer one, and a child that has left is told none, wherever it is in the piece."""
-    one = parent(joined, prices, ("market/street/bid/3", bid(3, 1, 5, -3).to_bytes()))
+    one = parent(joined, prices, ("market/street/bid/3", bid(3, 1, 5, -3).to_bytes(), OF_RELAY))
     one.link.comes("market/street/bid/3", gone(3, 2).to_bytes())
     frames = [price(3, 1, 7, 1), price(1, 1, 7, 1), price(2, 1, 7, 1), price(3, 1, 7, 1), price(2, 1, 8, 0), price(1, 1, 7, 1), price(1, 1, 8, 0)]
     for piece in [frames] if is_together else [[frame] for frame in frames]:
@@ -99,10 +99,10 @@ def test_a_table_that_the_broker_retains_is_told_again_without_children_that_lef
     assert dict(one.link.newest[TABLE].properties) == dict(MARKED)
     one.writes(price(1, 1, 6, 0))
     assert one.link.newest[TABLE].payload == table(7, 1, c1=1, c2=4).to_bytes(), "an older clearing does not take its place"
-    one.link.comes("market/street/bid/2", gone(2, 5).to_bytes())
+    one.link.comes("market/street/bid/2", gone(2, 5).to_bytes(), OF_RELAY)
     one.turned()
     assert one.link.newest[TABLE].payload == table(7, 1, c1=1).to_bytes()
-    one.link.comes("market/street/bid/1", gone(1, 5).to_bytes())
+    one.link.comes("market/street/bid/1", gone(1, 5).to_bytes(), OF_RELAY)
     one.turned()
     assert one.link.newest[TABLE].payload == b"", "without a child the topic is cleared"
 
