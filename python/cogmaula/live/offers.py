@@ -38,7 +38,7 @@ class Offers:
         self._validity = validity
         self._log = log
         self._kind = kind
-        self._answer = answer
+        self.answer = answer
         # The digest of the newest offer at the topic, and what the control offered last, with its reference.
         self.digest = ""
         self._offered: tuple[Wanted, int | None] | None = None
@@ -122,12 +122,17 @@ class Offers:
             self._drop(f"that of {message.time} is older than its validity")
             return
         self._until = until
-        self._answer("")
+        self.answer("")
         if isinstance(message.frame, Leave):
             self._offered = None
             self.want(message.frame)
         else:
             self._want_offer(message.frame, message.reference)
+
+    @property
+    def has_wanted(self) -> bool:
+        """Whether something is wanted of the agent that it has not answered."""
+        return self._wanted is not None
 
     @property
     def has_offered(self) -> bool:
@@ -145,7 +150,7 @@ class Offers:
 
     def _drop(self, why: str) -> None:
         self._log.warning(f"an offer is not taken: {why}")
-        self._answer(why)
+        self.answer(why)
 
     def _want_offer(self, frame: Wanted, reference: int | None) -> None:
         self._offered = frame, reference

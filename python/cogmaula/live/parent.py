@@ -90,10 +90,12 @@ class Parent:
         if type(number) is int:
             session.hear_lapse(number, why, time.monotonic())
 
-    def _take_refusal(self, _session: ServedSession, message: Message) -> None:
+    def _take_refusal(self, session: ServedSession, message: Message) -> None:
         """Takes that a bid of this child is too much. Raises BadMessage."""
         number, why = _word_of(message)
         self._log.warning(f"{self._name} does not take bid {number}: it is {why}. The one before counts")
+        if type(number) is int:
+            session.hear_refusal(number, why)
 
     def take_site(self, message: Message) -> None:
         """Takes the state of a site, which may be the parent's."""

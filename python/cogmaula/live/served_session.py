@@ -17,6 +17,7 @@ from .broker_link import Publication
 from .children import BIDS_OF_SUM, NODE, RELAYS, SORT, VALID, Children
 from .node_errors import OtherTerms
 from .frames import (
+    RESUMES,
     AuctioneerResume,
     Bid,
     DeviceResume,
@@ -38,6 +39,7 @@ from .frames import (
     Setpoint,
     TooMuch,
     WindowFull,
+    frame_of,
     size_of,
 )
 from .keeping import Keeping
@@ -46,6 +48,7 @@ from .limiting import Limiting
 from .node_parts import NodeParts
 from .price_feed import PriceFeed
 from .pricing import Pricing
+from .refused_bid import RefusedBid
 from .sessions import now_text
 from .store import Stored
 from .market_times import Times
@@ -78,6 +81,7 @@ class ServedSession:
         self.letting.begin(resume if isinstance(resume, RelayResume | AuctioneerResume) else None, kept, now)
         self.limiting = Limiting(parts, self.keeping, resume if isinstance(resume, RelayResume) else None)
         self.prices = PriceFeed()
+        self.refused_bid = RefusedBid(parts.offers, parts.offers.answer, parts.log)
         # An Old that says that the device was let go, and whether the service has still to be fed it.
         self._old: Old | None = None
         self._is_old_due = False
@@ -140,6 +144,19 @@ class ServedSession:
         if number > self.last:
             self._parts.beating.silence.let_go(number, f"{self._settings.parent} has let it go, {why}")
             self._parts.beating.renew(now)
+
+    def hear_refusal(self, number: int, why: str) -> None:
+        """Takes that the parent did not take this device's bid of this number, which counts if it is the newest."""
+        if isinstance(self.resume, DeviceResume) and number == self.last:
+            self.refused_bid.refuse(number, why, self.resume, self._before)
+
+    @property
+    def _before(self) -> DeviceResume | None:
+        """The Resume of the offer that counts if the newest is refused."""
+        if not self.stored.before:
+            return None
+        frame = frame_of(self.stored.before, RESUMES["device"], self._settings.basis.steps)
+        return frame if isinstance(frame, DeviceResume) else None
 
     def hear_price(self, price: Price, moment: str) -> None:
         """Takes a Price of the parent, unless a newer one came. `moment` is when its clearing was, "" if that was not told."""
@@ -275,6 +292,8 @@ class ServedSession:
                 self.limiting.out_of_limits(frame)
             case Dropped():
                 self.prices.not_taken(frame.number, frame.index)
+                if isinstance(self.resume, DeviceResume):
+                    self.refused_bid.dropped(frame.number, self.resume, self._before)
             case OtherBasis():
                 self.prices.not_taken(frame.number, frame.index)
                 self.other_basis += 1
@@ -330,6 +349,11 @@ class ServedSession:
             setpoint = None if isinstance(resume, ResumeGone) else self.stored.setpoint
             noted |= {"setpoint": setpoint, "references": references}
             noted |= self._offer(time.monotonic())
+            if isinstance(before, DeviceResume) and before.last < resume.last:
+                counts = self.refused_bid.offer_before(before, self._before)
+                noted["before"] = b"" if counts is None else counts.to_bytes()
+            elif isinstance(resume, ResumeGone):
+                noted["before"] = b""
         self._parts.recording.make_safe()
         if isinstance(resume, RelayResume | AuctioneerResume):
             self._parts.bids.make_safe(self.children.asked)

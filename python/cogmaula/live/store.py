@@ -65,6 +65,7 @@ class Stored:
     given:      of a relay, the limits that it was given last, None if it was given none in this session
     offer:      of a device, the digest of the newest offer at its topic, "" without one
     until:      of a device, until when its newest offer holds (RFC 3339), "" without an end
+    before:     of a device, the bytes of the Resume of the offer that counts if the newest is refused, b"" without one
     version:    of the form of the Resume
     """
 
@@ -79,6 +80,7 @@ class Stored:
     given: Given | None = None
     offer: str = ""
     until: str = ""
+    before: bytes = b""
     version: int = VERSION
 
 
@@ -151,6 +153,7 @@ class Store:
             "given": None if stored.given is None else vars(stored.given),
             "offer": stored.offer,
             "until": stored.until,
+            "before": stored.before.hex(),
         }
         behind = json.dumps(told).encode() + b"\n" + stored.frame
         first = FIRST_LINES[VERSION] + b"\n"
@@ -179,10 +182,11 @@ class Store:
             offer, until = str(told.get("offer", "")), str(told.get("until", ""))
             if until:
                 time_of(until)
+            before = bytes.fromhex(str(told.get("before", "")))
         except (ValueError, KeyError, IndexError, TypeError, AttributeError, BadMessage):
             raise damaged from None
         if length != len(frame):
             raise damaged
         if (node, sort) != (self.node, self.sort):
             raise BadStore(f"{path} is of the {sort} {node}, and this is the {self.sort} {self.node}: give another folder")
-        return Stored(session, basis, frame, str(time), setpoint, references, lapsed, relays, given, offer, until, version)
+        return Stored(session, basis, frame, str(time), setpoint, references, lapsed, relays, given, offer, until, before, version)

@@ -6,10 +6,10 @@ import json
 
 import pytest
 from brokers import live_program, wait_until
-from pretended import BASIS_TOPIC, LATER, MARKED, basis_payload, bid, device_resume, gone, numbers, price, relay_resume, saved, state_payload
+from pretended import BASIS_TOPIC, LATER, MARKED, SESSION, basis_payload, bid, device_resume, gone, numbers, price, relay_resume, saved, state_payload
 
 from cogmaula.live import BadSettings, serving
-from cogmaula.live.frames import Expire, Old, Send, TooMuch
+from cogmaula.live.frames import RESUMES, Expire, Old, Send, TooMuch, frame_of
 from cogmaula.live.lapses import Lapses
 from cogmaula.live.messages import SiteMessage
 from cogmaula.live.node_settings import ChildSettings
@@ -372,6 +372,43 @@ def test_a_bid_that_is_too_much_is_told_and_the_one_before_counts(joined):
 def test_a_child_is_told_that_its_bid_is_too_much(joined):
     one = joined("device").begun(("market/street/refused/2", b'{"number": 6, "why": "outside -300 to 500 watts", "time": "t"}'))
     assert "street does not take bid 6: it is outside -300 to 500 watts. The one before counts" in one.said
+
+
+BEFORE = device_resume(2, 1, (500, -300))
+TOO_MUCH = b'{"number": 4, "why": "outside -300 to 500 watts", "time": "t"}'
+
+
+@pytest.mark.parametrize("before", [BEFORE.to_bytes(), b"", device_resume(2, 1, (900, 900)).to_bytes()], ids=["kept", "lost", "refused"])
+def test_a_device_that_comes_back_with_a_refused_bid_offers_anew_what_counts(joined, tmp_path, monkeypatch, before):
+    """The parent counts bid 2, and prices answer it. The agent knows the offer of bid 4 alone. Without the other one the device leaves."""
+    monkeypatch.setattr(serving, "Service", Service)
+    saved(tmp_path, "device", "house", device_resume(4, 1, (900, 900)), before=before)
+    one = joined("device", live=live_program()).begun(("market/street/refused/2", TOO_MUCH))
+    assert json.loads(one.link.newest["market/house/answer"].payload)["why"] == "bid 4 is outside -300 to 500 watts: the one before counts"
+    one.link.comes("market/street/price/2", price(2, 2, 7, 1).to_bytes())
+    due = bid(2, 6, 500, -300) if before == BEFORE.to_bytes() else gone(2, 6)
+    served(one, lambda: due.to_bytes() in one.link.of("market/street/bid/2"), "the device bids again")
+    if before == BEFORE.to_bytes():
+        one.link.comes("market/street/price/2", price(2, 6, 8, 1).to_bytes())
+        served(one, lambda: one.control.told, "a setpoint")
+        assert json.loads(one.control.told[-1])["power"] == -300
+    one.node.serving.end("stopped")
+
+
+def test_a_device_keeps_the_offer_before_its_newest_unless_that_was_refused(joined):
+    one = joined("device").begun()
+    one.control.offer(b'{"power": [500, -300]}')
+    one.turned()
+    one.writes(device_resume(2, 0, (500, -300)), bid(2, 2, 500, -300))
+    for number, power, kept in ((4, 900, 2), (6, 800, 2), (8, 400, 6)):
+        one.control.offer(json.dumps({"power": [power, power]}).encode())
+        one.turned()
+        one.writes(device_resume(number, 0, (power, power)), bid(2, number, power, power))
+        stored = frame_of(one.node._store.load(SESSION).before, RESUMES["device"], 2)
+        assert stored.last == kept
+        if number == 4:
+            one.link.comes("market/street/refused/2", TOO_MUCH)
+            one.turned()
 
 
 # A device that was let go.

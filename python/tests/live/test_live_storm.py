@@ -164,6 +164,10 @@ def test_a_bid_beyond_its_bound_does_not_count(market, onlooker):
     market.settles_at(8, house=100, store=-150)
     assert market.controls["store"].has(bid=2), "the bid before it counts"
     wait_until(lambda: any("street does not take bid 4" in line for line in market.said["store"]), "the device says so")
+    market.stop("store")
+    market.start("store")
+    wait_until(lambda: "the one before counts" in onlooker.payload("market/store/answer").decode(), "the control is told")
+    wait_until(lambda: market.controls["store"].has(bid=6, power=-150), "a device that comes back makes the offer anew that counts")
     market.offers(store=falls_at(2, 0, -200))
     market.settles_at(2, house=200, store=-200)
     assert onlooker.payload("market/street/refused/2") == b""
