@@ -13,6 +13,7 @@ from .frames import BIDS, FIRST_FORM, RESUMES, AuctioneerResume, Bid, DeviceResu
 from .messages import VERSION, BasisMessage, SetpointMessage, StateMessage
 from .sessions import Session, new_session, now_text
 from .node_settings import Settings
+from .silence import Heartbeat
 from .store import Store, Stored
 
 
@@ -174,6 +175,21 @@ class Beginning:
                 f"{settings.name} has given number {number}, and the newest Resume here has {own}: another process runs as "
                 f"{settings.name}, or {self.store.path(session)} is an old copy"
             )
+
+    def starts(self, run: str) -> int:
+        """The greatest count of starts that the broker tells of this node, of other processes than this run; 0 without one.
+
+        A last will has the count that its process had before it knew of the broker's. So an auctioneer's own heartbeats count too.
+        """
+        state = self.state()
+        counts = [0 if state is None or state.run == run else state.starts]
+        message = self.seen.get(self.settings.own_topic("heartbeat")) if self.settings.sort == "auctioneer" else None
+        if message is not None and message.payload:
+            try:
+                counts.append(Heartbeat.of(message.payload).start)
+            except BadMessage as error:
+                self.log.warning(f"{message.topic} is not taken: {error}")
+        return max(counts)
 
     def state(self) -> StateMessage | None:
         """The state of this node that the broker retains, or None."""

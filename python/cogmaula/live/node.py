@@ -379,9 +379,9 @@ class Node:
 
     def _count_start(self) -> None:
         """Lets this start count more than each that the broker knows of, once in a process: the disk may be another one."""
-        known = self._beginning.state()
-        if self._is_first and known is not None and known.run != self._run_id and known.starts >= self._starts:
-            self._starts = self._store.next_start(known.starts)
+        known = self._beginning.starts(self._run_id)
+        if self._is_first and known >= self._starts:
+            self._starts = self._store.next_start(known)
         self._is_first = False
 
     def _require_alone(self, session: ServedSession) -> None:
