@@ -11,6 +11,8 @@ from __future__ import annotations
 import logging
 import os
 import sys
+import threading
+import time
 from collections.abc import Mapping, MutableMapping
 from typing import Any, TextIO
 
@@ -18,16 +20,47 @@ from typing import Any, TextIO
 PACKAGE = "cogmaula"
 # The priorities of syslog, by the least level that has them.
 PRIORITIES = ((logging.CRITICAL, 2), (logging.ERROR, 3), (logging.WARNING, 4), (logging.INFO, 6), (logging.NOTSET, 7))
+# The lines that one stranger may cause at once, the seconds after which it may cause one more, and how many strangers are told apart.
+BURST, BETWEEN, STRANGERS = 5, 60.0, 1_024
+# The most characters of a line that a stranger causes.
+LONGEST = 1_000
+
+
+class Allowances:
+    """How many lines each stranger may still cause: by its name, such as the topic that it writes. All calls may come from any thread."""
+
+    def __init__(self) -> None:
+        """Has heard of nobody."""
+        self._lock = threading.Lock()
+        # Of each stranger the lines left, when that was so, and how many were left out since its last line.
+        self._of: dict[str, tuple[float, float, int]] = {}
+
+    def takes(self, stranger: str, now: float) -> int | None:
+        """Whether a line of a stranger is to be written: how many of its lines before it were left out, or None if it is left out.
+
+        now: seconds of a clock that only rises
+        """
+        with self._lock:
+            # Those behind the most that are told apart are one.
+            name = stranger if stranger in self._of or len(self._of) < STRANGERS else ""
+            left, at, count = self._of.get(name, (float(BURST), now, 0))
+            left = min(float(BURST), left + (now - at) / BETWEEN)
+            if left < 1:
+                self._of[name] = left, now, count + 1
+                return None
+            self._of[name] = left - 1, now, 0
+            return count
 
 
 class NodeLog(logging.LoggerAdapter[logging.Logger]):
     """A log whose records carry the name of a node, and the name of a part of it, such as its page, before the text."""
 
-    def __init__(self, logger: logging.Logger, node: str = "", part: str = "") -> None:
-        """Takes the logger of the module, the node that the records are about, "" for none, and the part."""
+    def __init__(self, logger: logging.Logger, node: str = "", part: str = "", allowances: Allowances | None = None) -> None:
+        """Takes the logger of the module, the node that the records are about, "" for none, the part, and what strangers may still cause."""
         super().__init__(logger, {"node": node})
         self._node = node
         self._part = part
+        self._allowances = Allowances() if allowances is None else allowances
 
     def process(self, msg: Any, kwargs: MutableMapping[str, Any]) -> tuple[Any, MutableMapping[str, Any]]:
         """The text with the part before it, and the node as a member of the record."""
@@ -35,15 +68,22 @@ class NodeLog(logging.LoggerAdapter[logging.Logger]):
 
     def of_node(self, node: str) -> NodeLog:
         """The same log for lines about this node."""
-        return NodeLog(self.logger, node, self._part)
+        return NodeLog(self.logger, node, self._part, self._allowances)
 
     def of_part(self, part: str) -> NodeLog:
         """The same log for lines of a part."""
-        return NodeLog(self.logger, self._node, part)
+        return NodeLog(self.logger, self._node, part, self._allowances)
 
     def of_changes(self) -> NodeLog:
         """The same log, which leaves a line out that is the one before once more."""
-        return _ChangesLog(self.logger, self._node, self._part)
+        return _ChangesLog(self.logger, self._node, self._part, self._allowances)
+
+    def of_stranger(self, stranger: str) -> NodeLog:
+        """The same log for lines that somebody else causes, by a name such as the topic of the message.
+
+        `BURST` lines of one stranger are written at once, then one each `BETWEEN` seconds. The next line says how many were left out.
+        """
+        return _StrangerLog(self.logger, self._node, self._part, self._allowances, stranger)
 
 
 class _ChangesLog(NodeLog):
@@ -58,8 +98,35 @@ class _ChangesLog(NodeLog):
             super().log(level, msg, *args, **kwargs)
 
 
+class _StrangerLog(NodeLog):
+    """A log of what one stranger causes."""
+
+    def __init__(self, logger: logging.Logger, node: str, part: str, allowances: Allowances, stranger: str) -> None:
+        super().__init__(logger, node, part, allowances)
+        self._stranger = f"{node} {stranger}"
+
+    def log(self, level: int, msg: object, *args: object, **kwargs: Any) -> None:
+        """Writes a record, cut, unless the stranger has caused too many."""
+        left_out = self._allowances.takes(self._stranger, time.monotonic())
+        if left_out is not None:
+            text = str(msg)
+            cut = text if len(text) <= LONGEST else f"{text[:LONGEST]}.."
+            more = f" ({left_out} lines before it were left out)" if left_out else ""
+            super().log(level, f"{cut}{more}", *args, **kwargs)
+
+
+def printable(text: str) -> str:
+    """A text in which each character that ends a line, turns its direction or is not to be seen stands by its number."""
+    if text.isprintable():
+        return text
+    return "".join(char if char.isprintable() else char.encode("unicode_escape").decode() for char in text)
+
+
 class LineFormatter(logging.Formatter):
-    """Writes a record as a line: who writes, the node if it is another one, and the text. With priorities for systemd, if asked for."""
+    """Writes a record as a line: who writes, the node if it is another one, and the text. With priorities for systemd, if asked for.
+
+    A text may be a stranger's. So what is not printable in it is escaped, and it cannot begin another line.
+    """
 
     def __init__(self, writer: str, own: str = "", *, with_priorities: bool = False) -> None:
         """Takes who writes, such as "cogmaula hub", "" for nobody, and the name of the node that is not named in each line."""
@@ -71,8 +138,13 @@ class LineFormatter(logging.Formatter):
     def format(self, record: logging.LogRecord) -> str:
         """The line, or lines if the record has an exception."""
         node = getattr(record, "node", "")
-        text = f"{self._start}{f'{node}: ' if node and node != self._own else ''}{super().format(record)}"
-        return "\n".join(f"{prefix_of(record.levelno)}{line}" for line in text.split("\n")) if self._with_priorities else text
+        lines = f"{self._start}{f'{node}: ' if node and node != self._own else ''}{super().format(record)}".split("\n")
+        prefix = prefix_of(record.levelno) if self._with_priorities else ""
+        return "\n".join(f"{prefix}{printable(line)}" for line in lines)
+
+    def formatMessage(self, record: logging.LogRecord) -> str:  # noqa: N802 - the name is the library's
+        """The text of a record, in one line."""
+        return printable(super().formatMessage(record))
 
 
 class StandardError(logging.StreamHandler[TextIO]):

@@ -94,3 +94,38 @@ def test_in_the_journal_each_line_has_its_priority(capfd):
     lines = capfd.readouterr().err.splitlines()
     assert lines[:2] == ["<4>cogmaula hub: one", "<3>cogmaula hub: three"]
     assert all(line.startswith("<3>") for line in lines[1:]) and lines[-1] == "<3>ValueError: two"
+
+
+def test_a_stranger_causes_a_few_lines_and_the_next_one_says_how_many_were_left_out(caplog, monkeypatch):
+    """Lines of others are not left out, and no line is longer than it may be."""
+    now = [100.0]
+    monkeypatch.setattr(logs.time, "monotonic", lambda: now[0])
+    log = NodeLog(LOG.logger, "house")
+    for number in range(logs.BURST + 40):
+        log.of_stranger("market/x/bid/1").warning(f"wrong {number}")
+    log.of_part("page").of_stranger("market/x/bid/2").warning("y" * 2_000)
+    now[0] += logs.BETWEEN
+    log.of_stranger("market/x/bid/1").error("wrong again")
+    log.of_stranger("market/x/bid/1").error("and again")
+    said = [record.message for record in caplog.records]
+    assert said[:-2] == [f"wrong {number}" for number in range(logs.BURST)]
+    assert said[-2:] == [f"page: {'y' * logs.LONGEST}..", "wrong again (40 lines before it were left out)"]
+
+
+def test_strangers_without_end_take_no_memory_and_few_lines(caplog):
+    log = NodeLog(LOG.logger)
+    for number in range(3 * logs.STRANGERS):
+        log.of_stranger(f"market/{number}/state").warning("wrong")
+    assert len(caplog.records) == logs.STRANGERS + logs.BURST
+    assert len(log._allowances._of) == logs.STRANGERS + 1
+
+
+@pytest.mark.parametrize(("text", "line"), [
+    ("a\nerror: b", "a\\nerror: b"), ("\u2028", "\\u2028"), ("\u202etxt", "\\u202etxt"), ("\x1b[2J\x85\0", "\\x1b[2J\\x85\\x00"),
+    ("\ud800", "\\ud800"), ("\ufeff", "\\ufeff"), ("Zürich, 電", "Zürich, 電"),
+])
+def test_what_is_not_printable_stands_by_its_number(text, line, capsys):
+    """So no text begins another line, or turns one."""
+    logs.show("cogmaula hub", "hub", {})
+    LOG.warning(text)
+    assert capsys.readouterr().err == f"cogmaula hub: {line}\n"
