@@ -78,7 +78,7 @@ class Keeper:
                 self._database.open()
                 self._is_lost = False
             user = settings.user or "history"
-            client = new_client(settings, f"cogmaula.{settings.prefix.replace('/', '.')}.{user}", ended, words)
+            client = new_client(settings, f"cogmaula.{settings.prefix.replace('/', '.')}.{user}", ended, words, self._log)
             client.on_connect = lambda client, _data, _flags, code, _more: self._on_connect(client, code, words)
             client.on_message = lambda _it, _data, message: self._on_message(message, words)
             client.on_disconnect = lambda _it, _data, code, _more: words.append(words_of_end(code, self._is_there))

@@ -3,6 +3,7 @@
 from __future__ import annotations
 
 import json
+import math
 from collections.abc import Callable
 from dataclasses import dataclass, field
 from typing import Any
@@ -11,13 +12,15 @@ from ..live.broker_link import Message
 from ..live.children import SESSION, TIME
 from ..live.node_errors import BadFrame, BadMessage
 from ..live.frames import BIDS, PRICES, Bid, Gone, Price, frame_of
-from ..live.messages import BasisMessage, LapseMessage, SetpointMessage, SilentMessage, SiteMessage, StateMessage, object_of
+from ..live.messages import BasisMessage, LapseMessage, SetpointMessage, SilentMessage, SiteMessage, StateMessage, object_of, require_characters
 from ..live.price_table import PriceTable
 from ..live.sessions import time_of
 from ..live.topics import Topics
 
 # The bytes of a Bid before its demands, and those of each.
 BID_HEAD, DEMAND = 7, 4
+# The greatest number of a table.
+LAST_WHOLE = 2**63 - 1
 # The most watts of a measured power.
 MOST_MEASURED = 10**12
 
@@ -71,9 +74,26 @@ def rows_of(topics: Topics, message: Message) -> list[Told]:
     if not message.payload:
         return []
     try:
-        return _rows_of(topics, message)
+        found = _rows_of(topics, message)
     except BadFrame as error:
         raise BadMessage(str(error)) from None
+    for row in found:
+        _require_kept(row)
+    return found
+
+
+def _require_kept(told: Told) -> None:
+    """Raises BadMessage if a table cannot hold a value: a text with what is no character, or a number that is none of 64 bits."""
+    values = told.values if isinstance(told, Row) else told.will.values if isinstance(told, NodeLost) else vars(told)
+    for name, value in values.items():
+        if isinstance(value, str):
+            require_characters(value, name)
+        elif isinstance(value, int) and not -LAST_WHOLE - 1 <= value <= LAST_WHOLE:
+            raise BadMessage(f"{name} is no number of 64 bits")
+        elif isinstance(value, float) and not math.isfinite(value):
+            raise BadMessage(f"{name} is no number")
+        elif not isinstance(value, int | float | None):
+            raise BadMessage(f"{name} is no text and no number")
 
 
 def _rows_of(topics: Topics, message: Message) -> list[Told]:

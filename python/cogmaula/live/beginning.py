@@ -7,7 +7,7 @@ from dataclasses import dataclass, replace
 
 from ..logs import NodeLog
 from .broker_link import Message
-from .children import BIDS_OF_SUM, FORM, RELAYS, SESSION, TIME
+from .children import LONGEST_NUMBER, BIDS_OF_SUM, FORM, RELAYS, SESSION, TIME
 from .node_errors import BadFrame, BadMessage, NodeRefused, OtherTerms
 from .frames import BIDS, FIRST_FORM, RESUMES, AuctioneerResume, Bid, DeviceResume, Gone, RelayResume, Resume, ResumeGone, frame_of
 from .messages import VERSION, BasisMessage, SetpointMessage, StateMessage
@@ -247,7 +247,7 @@ class Beginning:
         setpoint = self._setpoint(session) if isinstance(resume, DeviceResume) else None
         time = message.properties.get(TIME, now_text())
         # Who is a relay is told with the Resume. What the disk has of children that were let go, and of limits, is not older than it.
-        relays = tuple(int(word) for word in message.properties.get(RELAYS, "").split() if word.isdecimal())
+        relays = tuple(int(word) for word in message.properties.get(RELAYS, "").split() if word.isdecimal() and len(word) <= LONGEST_NUMBER)
         known = Stored(session, self.settings.basis, b"", time) if stored is None else stored
         all_relays = tuple(sorted({*relays, *known.relays}))
         return replace(known, basis=self.settings.basis, frame=message.payload, time=time, setpoint=setpoint, relays=all_relays)

@@ -328,7 +328,7 @@ class Broker:
 
     def _made(self, ended: threading.Event, words: list[str]) -> Any:
         """A client of paho. Raises OSError if a file cannot be read."""
-        client = new_client(self.settings, self._client_id, ended, words)
+        client = new_client(self.settings, self._client_id, ended, words, self._log)
         will = self._will()
         client.will_set(will.topic, will.payload, 1, True)
         client.on_connect = lambda client, _data, _flags, code, _more: self._on_connect(client, code, words)

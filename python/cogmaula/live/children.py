@@ -21,6 +21,9 @@ SESSION, TIME, FORM, SORT, NODE, VALID = "session", "time", "version", "sort", "
 # Those of a parent's Resume: which children are relays, and which bids are in its newest sum.
 RELAYS, BIDS_OF_SUM = "relays", "bids"
 
+# The most digits of a number of 32 bits.
+LONGEST_NUMBER = 10
+
 
 @dataclass(frozen=True)
 class Heard:
@@ -205,7 +208,7 @@ def _known_of(words: str) -> dict[int, tuple[int, str]]:
     found = {}
     for word in words.split():
         parts = word.split(":")
-        if len(parts) == 3 and parts[0].isdecimal() and parts[1].isdecimal():
+        if len(parts) == 3 and all(part.isdecimal() and len(part) <= LONGEST_NUMBER for part in parts[:2]):
             found[int(parts[0])] = int(parts[1]), parts[2]
     return found
 

@@ -13,6 +13,7 @@ from typing import Any
 from ..errors import NoPackage
 from ..logs import NodeLog
 from .node_settings import BrokerSettings
+from .packet_guard import PacketGuard
 
 # The pauses between tries in seconds: the first, and the longest; each is twice the one before.
 FIRST_PAUSE, LONGEST_PAUSE = 1.0, 60.0
@@ -145,11 +146,12 @@ def user_properties_of(message: Any) -> dict[str, str]:
     return dict(found) if sum(len(name) + len(value) for name, value in found) <= LONGEST_PROPERTIES else {}
 
 
-def new_client(settings: BrokerSettings, client_id: str, ended: threading.Event, words: list[str]) -> Any:
-    """A client of paho with the login and the TLS of the settings, for one connection.
+def new_client(settings: BrokerSettings, client_id: str, ended: threading.Event, words: list[str], log: NodeLog) -> Any:
+    """A client of paho with the login and the TLS of the settings, for one connection. No packet ends it by what it says.
 
     ended: is set when the connection has ended
     words: get the reason, if it is known
+    log:   is told of packets that are dropped
 
     Raises OSError if a file cannot be read.
     """
@@ -162,6 +164,7 @@ def new_client(settings: BrokerSettings, client_id: str, ended: threading.Event,
     if settings.with_tls:
         client.tls_set(settings.ca, settings.certificate, settings.key)
     client.loop_forever = _ending(client.loop_forever, settings, ended, words)
+    PacketGuard(client, log, settings.address)
     return client
 
 

@@ -157,7 +157,9 @@ class Heard:
             return read(message.payload)
         except (BadFrame, BadMessage) as error:
             self._refuse(message, str(error))
-            return None
+        except Exception as error:  # noqa: BLE001 - one message takes no other from the page
+            self._refuse(message, f"it cannot be read: {type(error).__name__}")
+        return None
 
     def _refuse(self, message: Message, why: str) -> None:
         self.not_taken.append(NotTaken(message.topic, why))

@@ -40,6 +40,8 @@ def _whole(told: dict[str, Any], name: str, what: str) -> int:
     value = told.get(name)
     if type(value) is not int:
         raise BadMessage(f"{what} has no whole number {name}")
+    if not -LAST_REFERENCE <= value <= LAST_REFERENCE:
+        raise BadMessage(f"{what} has a number {name} beyond {LAST_REFERENCE}")
     return value
 
 
@@ -47,7 +49,14 @@ def _text(told: dict[str, Any], name: str, what: str) -> str:
     value = told.get(name)
     if not isinstance(value, str):
         raise BadMessage(f"{what} has no text {name}")
+    require_characters(value, f"{name} of {what}")
     return value
+
+
+def require_characters(text: str, what: str) -> None:
+    """Raises BadMessage if a text has half of a pair of UTF-16 or U+0000, which JSON may name: no file and no table holds them."""
+    if "\0" in text or not text.isascii() and any("\ud800" <= char <= "\udfff" for char in text):
+        raise BadMessage(f"{what} has a character that is none: U+0000, or half of a pair")
 
 
 def _whole_or_none(told: dict[str, Any], name: str, what: str) -> int | None:
@@ -56,7 +65,8 @@ def _whole_or_none(told: dict[str, Any], name: str, what: str) -> int | None:
 
 def _seconds(told: dict[str, Any], name: str, what: str) -> float:
     value = told.get(name)
-    if type(value) not in (int, float):
+    is_number = isinstance(value, int | float) and not isinstance(value, bool)
+    if not is_number or not -LAST_REFERENCE <= told[name] <= LAST_REFERENCE:
         raise BadMessage(f"{what} has no number of seconds {name}")
     return float(told[name])
 

@@ -20,7 +20,7 @@ from .broker import Broker
 from .broker_link import Arrived, Confirmed, Event, Link, Message, Publication, Settled
 from .control import Control, StandardControl
 from .counting import NodeFacts
-from .node_errors import LiveError, NodeRefused
+from .node_errors import BadFrame, BadMessage, LiveError, NodeRefused
 from .frames import CHILDREN, MOST, Leave
 from .messages import LOST, BasisMessage, StateMessage
 from .parent import Parent
@@ -234,7 +234,16 @@ class Node:
             case Came() | Ended():
                 self.serving.take(event)
             case _Offered():
-                self.serving.offers.take(event.data, time.monotonic())
+                self._take_offered(event.data)
+
+    def _take_offered(self, data: bytes) -> None:
+        """Takes a line of the control. What it says ends no node."""
+        try:
+            self.serving.offers.take(data, time.monotonic())
+        except (LiveError, OSError):
+            raise
+        except Exception as error:  # noqa: BLE001 - whatever a line leads to, the next one counts
+            self._log.of_stranger("the control").error(f"an offer is not taken: {type(error).__name__}: {error}")
 
     def _subscriptions(self) -> list[str]:
         """The topics that the node reads: what is for it, and its own, to go on from and to see that the broker takes them."""
@@ -304,13 +313,27 @@ class Node:
         for message in found:
             # A new basis ends the session.
             if self.serving.session is not None:
-                self._take_message(self.serving.session, message)
+                self._take_safely(self.serving.session, message)
 
     def _is_known(self, message: Message) -> bool:
         """Whether the broker tells again what it had kept and told before."""
         known = self._seen.get(message.topic)
         is_same = known is not None and (known.payload, known.properties) == (message.payload, message.properties)
         return is_same and message.retained and message.topic != self.settings.topics.basis
+
+    def _take_safely(self, session: ServedSession, message: Message) -> None:
+        """Takes a message of a node that is in a session. What it says ends no node: one that cannot be taken is dropped with a line.
+
+        Raises what ends a node for reasons of its own: another LiveError, such as that it is not alone, and OSError, such as of a full disk.
+        """
+        try:
+            self._take_message(session, message)
+        except (BadMessage, BadFrame) as error:
+            self._log.of_stranger(message.topic).warning(f"{message.topic} is not taken: {error}")
+        except (LiveError, OSError):
+            raise
+        except Exception as error:  # noqa: BLE001 - whatever a message leads to, the next one counts
+            self._log.of_stranger(message.topic).error(f"{message.topic} is not taken: {type(error).__name__}: {error}")
 
     def _take_message(self, session: ServedSession, message: Message) -> None:
         """Takes a message of a node that is in a session."""
@@ -436,7 +459,7 @@ class Node:
     def _take_all(self, session: ServedSession, messages: list[Message]) -> None:
         for message in messages:
             if message.topic != self.settings.topics.basis:
-                self._take_message(session, message)
+                self._take_safely(session, message)
 
     def _take_basis(self, session: ServedSession) -> None:
         """Takes the basis that the broker tells, in a session."""

@@ -3,11 +3,13 @@
 from __future__ import annotations
 
 import json
+import logging
 import threading
 import time
 from collections.abc import Callable
 from typing import Any
 
+from ..logs import NodeLog
 from .broker_link import Message
 from .children import SORT
 from .connection import REFUSED, connect, new_client, paho, user_properties_of, words_of, words_of_refusal
@@ -37,6 +39,7 @@ class Words:
         self._newest: dict[str, tuple[bytes, dict[str, str], bool]] = {}
         # The newest message of each topic that came since and is no clearing: one that is cleared at once is not missed.
         self._told: dict[str, bytes] = {}
+        self._log = NodeLog(logging.getLogger(__name__))
         self._words: list[str] = []
         self._ended = threading.Event()
         self._is_there = False
@@ -46,7 +49,7 @@ class Words:
         """Connects, and reads all that the broker retains."""
         settings = self._settings
         try:
-            client = self._client = new_client(settings, "", self._ended, self._words)
+            client = self._client = new_client(settings, "", self._ended, self._words, self._log)
             client.on_connect = lambda client, _data, _flags, code, _more: self._on_connect(client, code)
             client.on_message = lambda _it, _data, message: self._on_message(message)
             connect(client, settings)

@@ -9,6 +9,8 @@ from datetime import datetime, timedelta, timezone
 
 from .node_errors import BadMessage
 
+# The most characters of a text that is no time in a line.
+QUOTED = 64
 _ID = re.compile(r"[0-9a-f]{16}")
 
 
@@ -19,12 +21,16 @@ def time_text(moment: datetime) -> str:
 
 def time_of(text: str) -> datetime:
     """The moment that a text of RFC 3339 tells. Raises BadMessage."""
+    quoted = repr(text[:QUOTED])
     try:
         found = datetime.fromisoformat(text)
-    except ValueError:
-        raise BadMessage(f"{text!r} is no time as 2026-01-31T06:30:00Z") from None
+        if found.tzinfo is not None:
+            # In UTC it may be before the first year, or behind the last.
+            found.astimezone(timezone.utc)
+    except (ValueError, OverflowError):
+        raise BadMessage(f"{quoted} is no time as 2026-01-31T06:30:00Z") from None
     if found.tzinfo is None:
-        raise BadMessage(f"{text!r} has no zone: write 2026-01-31T06:30:00Z")
+        raise BadMessage(f"{quoted} has no zone: write 2026-01-31T06:30:00Z")
     return found
 
 

@@ -256,7 +256,7 @@ class SharedConnection:
     def _connect(self) -> None:
         """Makes a client and connects it, in a thread of its own: the nodes go on meanwhile."""
         try:
-            client = new_client(self.settings, self.client_id, threading.Event(), [])
+            client = new_client(self.settings, self.client_id, threading.Event(), [], self._log)
             will = self._life.will()
             client.will_set(will.topic, will.payload, 1, True)
             connect(client, self.settings)
@@ -371,7 +371,8 @@ class SharedConnection:
     def _on_message(self, message: Any) -> None:
         longest = self._topics_of_market.longest(message.topic)
         if len(message.payload) > longest:
-            self._log.warning(f"{message.topic[:200]}: a message of {len(message.payload)} bytes is not taken: at most {longest} are")
+            log = self._log.of_stranger(message.topic)
+            log.warning(f"{message.topic[:200]}: a message of {len(message.payload)} bytes is not taken: at most {longest} are")
             return
         found = message_of(message)
         if found.topic == self._life.topic:

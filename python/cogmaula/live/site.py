@@ -157,15 +157,16 @@ class Site:
         try:
             node.turn()
             self._plan(name, self._next_look(node, time.monotonic()))
-        except (LiveError, OSError) as error:
-            self._log.of_node(name).error(f"it ends: {error}")
+        except Exception as error:  # noqa: BLE001 - whatever is wrong with one node, the others go on
+            why = str(error) if isinstance(error, LiveError | OSError) else f"{type(error).__name__}: {error}"
+            self._log.of_node(name).error(f"it ends: {why}")
             del self.nodes[name]
-            self._end_node(node, str(error))
+            self._end_node(node, why)
 
     def _end_node(self, node: Node, why: str) -> None:
         try:
             node.end(why)
-        except (LiveError, OSError) as error:
+        except Exception as error:  # noqa: BLE001 - the others go on
             self._log.of_node(node.settings.name).error(str(error))
 
     def _end(self, why: str) -> None:
