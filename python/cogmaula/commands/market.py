@@ -13,15 +13,15 @@ from ..deploy import Member, add_device, fence_settings, init_market, read_tree
 from ..live.node_errors import BadSettings, LiveError
 from ..live.fencing import fence
 from ..live.given_limits import LimitsMessage
-from ..live.operating import drop, give_limits
+from ..live.operating import clear, drop, give_limits
 from ..live.node_settings import BrokerSettings, read_toml
 from ..live.toml_tables import value_of
 
 CALLS_PROGRAM = False
-HELP = "makes the files of a market at a broker, adds a device, lets a device go, fences a relay, or gives limits to one"
+HELP = "makes the files of a market at a broker, adds a device, lets a device go, clears a topic, fences a relay, or gives limits to one"
 MORE = (
     "init makes all files from one that names the tree, machines, limits and logins; add adds a device to them. They need openssl and"
-    " mosquitto. drop, fence and limits go to the broker of --config, whose table [broker] is as a node's, with a login that may do this;"
+    " mosquitto. drop, clear, fence and limits go to the broker of --config, whose table [broker] is as a node's, with a login that may do this;"
     " docs/LIVE.md names the rights. The exit status is 0 once it is done, 1 if it fails or a node refuses, and 2 for settings that are"
     " wrong."
 )
@@ -59,6 +59,8 @@ def add_arguments(parser: argparse.ArgumentParser) -> None:
     dropping = below.add_parser("drop", help="lets a device go at once: its bid does not count any more. It must take nothing")
     dropping.add_argument("node", metavar="NODE", help="the parent, a relay or the auctioneer")
     dropping.add_argument("child", metavar="CHILD", type=int, help="the device's number there")
+    clearing = below.add_parser("clear", help="clears what the broker retains under a topic")
+    clearing.add_argument("topic", metavar="TOPIC", help="the topic, such as market/street/bid/1")
     fencing = below.add_parser("fence", help="lets all devices of a relay go that is down: its parent counts nothing of it any more")
     fencing.add_argument("node", metavar="NODE", help="the relay, which has to be down for `grace`")
     fencing.add_argument("--out", metavar="FOLDER", required=True, help="the folder that init made, with the relay's own login")
@@ -68,7 +70,7 @@ def add_arguments(parser: argparse.ArgumentParser) -> None:
     giving.add_argument("--ceiling", type=int, metavar="WATTS", help="the greatest power; default that of its settings")
     giving.add_argument("--until", metavar="TIME", help="until when they hold, as 2026-01-31T18:00:00Z; default without an end")
     giving.add_argument("--reference", metavar="TEXT", help="a word of your own, which comes back with the answer")
-    for one in (dropping, fencing, giving):
+    for one in (dropping, clearing, fencing, giving):
         one.add_argument("--config", metavar="FILE", required=True, help="a TOML file with the table [broker]")
         one.add_argument("--seconds", type=float, default=10.0, metavar="SECONDS", help="waits so long for the answer; default 10")
 
@@ -102,12 +104,16 @@ def _drop(arguments: argparse.Namespace) -> str:
     return drop(_broker_of(arguments.config), arguments.node, arguments.child, arguments.seconds)
 
 
+def _clear(arguments: argparse.Namespace) -> str:
+    return clear(_broker_of(arguments.config), arguments.topic, arguments.seconds)
+
+
 def _fence(arguments: argparse.Namespace) -> str:
     with TemporaryDirectory() as state:
         return fence(_broker_of(arguments.config), fence_settings(Path(arguments.out), arguments.node, state), arguments.seconds)
 
 
-_WORDS = {"init": _init, "add": _add, "drop": _drop, "fence": _fence, "limits": _limits}
+_WORDS = {"init": _init, "add": _add, "drop": _drop, "clear": _clear, "fence": _fence, "limits": _limits}
 
 
 def main(arguments: argparse.Namespace) -> int:

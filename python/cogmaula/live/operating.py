@@ -14,7 +14,7 @@ from .broker_link import Message
 from .children import SORT
 from .connection import REFUSED, connect, new_client, paho, user_properties_of, words_of, words_of_refusal
 from .frames import RESUMES, AuctioneerResume, RelayResume, frame_of
-from .node_errors import BadFrame, BadMessage, LiveError
+from .node_errors import BadFrame, BadMessage, BadSettings, LiveError
 from .given_limits import LimitsMessage
 from .messages import LapseMessage, StateMessage, object_of
 from .node_states import NodeStates
@@ -39,6 +39,8 @@ class Words:
         self._newest: dict[str, tuple[bytes, dict[str, str], bool]] = {}
         # The newest message of each topic that came since and is no clearing: one that is cleared at once is not missed.
         self._told: dict[str, bytes] = {}
+        # The topics that were cleared since.
+        self._cleared: set[str] = set()
         self._log = NodeLog(logging.getLogger(__name__))
         self._words: list[str] = []
         self._ended = threading.Event()
@@ -79,6 +81,8 @@ class Words:
             self._newest[message.topic] = bytes(message.payload), properties, bool(message.retain)
             if message.payload and not message.retain:
                 self._told[message.topic] = bytes(message.payload)
+            elif not message.payload:
+                self._cleared.add(message.topic)
         self._came = time.monotonic()
 
     def also_read(self, topic: str) -> None:
@@ -96,6 +100,11 @@ class Words:
         """The newest message of a topic that the broker had not kept and that is no clearing, b"" if none came."""
         with self._lock:
             return self._told.get(topic, b"")
+
+    def is_cleared(self, topic: str) -> bool:
+        """Whether a clearing of a topic came."""
+        with self._lock:
+            return topic in self._cleared
 
     def publish(self, topic: str, payload: bytes, retain: bool) -> None:
         """Publishes a message."""
@@ -175,6 +184,20 @@ def drop(broker: BrokerSettings, node: str, child: int, seconds: float = 10.0) -
             "and say it again",
         )
         return f"child {child} of {node} is let go as of number {told.number}: {told.why}"
+
+
+def clear(broker: BrokerSettings, topic: str, seconds: float = 10.0) -> str:
+    """Clears what the broker retains under a topic, also what no client can read, and says so in a line.
+
+    Raises BadSettings if it is no topic of the market, and LiveError if it is not cleared.
+    """
+    if Topics(broker.prefix).longest(topic) == 0:
+        raise BadSettings(f"{topic!r} is no topic of a market below {broker.prefix}/: docs/LIVE.md lists them")
+    with Words(broker, [topic], seconds) as words:
+        words.publish(topic, b"", True)
+        late = f"{topic} is not cleared in {seconds:g} s: may this login read and write it?"
+        words.wait(lambda: words.is_cleared(topic), late)
+    return f"{topic} is cleared"
 
 
 def give_limits(broker: BrokerSettings, node: str, limits: LimitsMessage, seconds: float = 10.0) -> str:

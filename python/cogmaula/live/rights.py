@@ -1,6 +1,7 @@
 """Who may read and write which topic of a market at its broker: the one list, of which a broker's file of rights is made.
 
-What a login writes are exact topics, so that none can fill the broker with others. In what it reads a + may stand for one level.
+What a login writes are exact topics, so that none can fill the broker with others. An operator alone, who clears what members left, writes
+topics of each form that a market has. In what a login reads a + may stand for one level.
 """
 
 from __future__ import annotations
@@ -68,6 +69,19 @@ _OF_DEVICE_NUMBER: Words = (("read", "lapsed"),)
 # The state of a site comes behind those of its nodes, which it changes.
 SHOWN = ("basis", "+/state", "+/site", "+/bid/+", "+/price/+", "+/prices", "+/setpoint", "+/lapsed/+")
 KEPT = (*SHOWN, "+/limits/state", "+/measured")
+# What an operator may write below the prefix, to clear it. A broker cannot tell a clearing from
+# another message.
+CLEARED = (
+    "basis",
+    *(
+        f"+/{word}"
+        for word in (
+            *("state", "site", "resume", "heartbeat", "prices", "limits", "limits/state", "offer"),
+            *("setpoint", "measured", "answer"),
+            *(f"{word}/+" for word in ("bid", "price", "lapsed", "refused")),
+        )
+    ),
+)
 
 
 def _below(topics: Topics, node: str, words: Iterable[tuple[Access, str]]) -> list[Right]:
@@ -122,8 +136,10 @@ def rights_of_reader(topics: Topics) -> list[Right]:
 
 
 def rights_of_operator(topics: Topics, children: Iterable[tuple[str, int]]) -> list[Right]:
-    """What an operator may do: read all, and let these children go, each by its parent's name and its number."""
-    return [Right("read", f"{topics.prefix}/#"), *(Right("write", topics.at(parent, "drop", child)) for parent, child in children)]
+    """What an operator may do: read all, clear what a topic retains, and let these children go, each by its parent's name and its number."""
+    clears = [Right("write", f"{topics.prefix}/{form}") for form in CLEARED]
+    drops = [Right("write", topics.at(parent, "drop", child)) for parent, child in children]
+    return [Right("read", f"{topics.prefix}/#"), *drops, *clears]
 
 
 def rights_of_grid_operator(topics: Topics, relays: Iterable[str], sites: Iterable[str] = ()) -> list[Right]:

@@ -28,7 +28,11 @@ WRITES = {
     "store": ["store/state", "store/resume", "store/setpoint", "store/answer", "street/bid/2"],
     "house.control": ["house/offer", "house/measured"],
     "store.control": ["store/offer", "store/measured"],
-    "operator": ["auctioneer/drop/1", "street/drop/1", "street/drop/2"],
+    # All that some form of topic has: an operator clears them.
+    "operator": [
+        "auctioneer/drop/1", "street/drop/1", "street/drop/2",
+        *(topic for topic in TOPICS if topic.partition("/")[2] not in ("", "other", "other/other") and "/drop/" not in topic), "basis",
+    ],
     "gridoperator": ["street/limits"],
     "history": [],
 }
@@ -53,7 +57,7 @@ READS = {
 # A node reads what it writes.
 READS |= {login: [*READS[login], *WRITES[login]] for login in ("auctioneer", "street", "house", "store")}
 # What somebody may read and nobody writes: all else that is read is tried.
-UNWRITTEN = {"auctioneer/bid/2", "house/bid/1", "house/prices", "street/price/3", "street/price/x", "block/site", "block/state", "house/site"}
+UNWRITTEN = set()
 
 
 def publish_all(clients):

@@ -43,7 +43,7 @@ def made(tmp_path):
 
 
 def test_a_site_has_the_rights_of_its_nodes_and_no_other(made):
-    require_rights(made, of_site(WRITES), of_site(READS, NEAR), UNWRITTEN - {"block/site"})
+    require_rights(made, of_site(WRITES), of_site(READS, NEAR), UNWRITTEN)
 
 
 class StartedSite:

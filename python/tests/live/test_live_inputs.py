@@ -9,7 +9,7 @@ import threading
 
 import pytest
 from brokers import Mosquitto, Onlooker, live_program, require_broker, wait_until
-from example import ExampleMarket, example_broker
+from example import ExampleMarket, Member, example_broker
 from hypothesis import HealthCheck, given, settings
 from hypothesis import strategies as st
 from logged import log_to
@@ -32,6 +32,7 @@ from test_live_hostile import CONSTANT, begun, of_session
 from test_live_site import RunningSite, tables_of
 from told import village
 
+from cogmaula.cli import main
 from cogmaula.history import Keeper, open_database, rows_of
 from cogmaula.hub.agent_messages import Login, word_of
 from cogmaula.live import BrokerSettings
@@ -106,6 +107,31 @@ def test_no_character_of_a_bid_stops_the_parent(broker, market):
     said = market.said["street"]
     assert [line for line in said if "lost" in line or "ends the connection" in line] == []
     assert 0 < len([line for line in said if "cannot be read" in line]) <= 4 * len(REFUSED), said
+
+
+def test_an_operator_clears_a_topic_that_no_client_can_read(broker, market, tmp_path, capsys):
+    """Its login may do so, and that of a device may not."""
+    begun(market).stop("house")
+    publishes(broker.port, "house", "market/street/bid/1", b"x", REFUSED["a name"])
+    for login in ("operator", "house"):
+        words = f'port = {broker.port}\nuser = "{login}"\npassword_file = "{tmp_path}/word"\n'
+        (tmp_path / f"{login}.toml").write_text(f"[broker]\n{words}")
+
+    def clears(login, topic):
+        words = ["--config", str(tmp_path / f"{login}.toml"), "--seconds", "2"]
+        return main(["market", "clear", topic, *words])
+
+    assert clears("operator", "market/street/bid/1") == 0
+    assert clears("house", "market/street/price/1") == 1
+    assert clears("operator", "market/no/topic/at/all") == 2
+    told = capsys.readouterr()
+    assert told.out == "market/street/bid/1 is cleared\n"
+    assert "may this login read and write it?" in told.err and "is no topic of a market" in told.err
+    with Member(broker.port, "operator", "market/street/#") as operator:
+        wait_until(lambda: operator.payload("market/street/state"), "what is retained")
+        assert operator.payload("market/street/bid/2") and not operator.payload(
+            "market/street/bid/1"
+        )
 
 
 def test_no_character_of_an_offer_ends_a_site(tmp_path, live):
