@@ -42,10 +42,11 @@ def _tell_day(database: Database, day: datetime) -> int:
     database.close()
     out = csv.writer(sys.stdout, lineterminator="\n")
     out.writerow(["name", "set_watt_hours", "measured_watt_hours"])
-    for device in sorted(span.by_setpoint.keys() | span.by_measure.keys()):
-        out.writerow([device, *(f"{energies[device]:.1f}" if device in energies else "" for energies in (span.by_setpoint, span.by_measure))])
+    for device in sorted(span.by_market.keys() | span.by_measure.keys()):
+        out.writerow([device, *(f"{energies[device]:.1f}" if device in energies else "" for energies in (span.by_market, span.by_measure))])
     prices = "no price" if span.mean is None else f"prices {span.least} to {span.greatest}, {span.mean:.2f} in the mean"
-    print(f"{span.clearings} clearings, {prices}", file=sys.stderr)
+    different = f", {span.different} times a device wrote otherwise: cogmaula report names them" if span.different else ""
+    print(f"{span.clearings} clearings, {prices}{different}", file=sys.stderr)
     return 0
 
 

@@ -41,6 +41,7 @@ def add_arguments(parser: argparse.ArgumentParser) -> None:
     """Adds the arguments of report."""
     parser.add_argument("file", metavar="FILE", nargs="?", help="the cluster file")
     parser.add_argument("--history", metavar="DATABASE", help="in its place the history of a live market: sqlite:///FILE, a file's name, or postgresql://USER@HOST/NAME")
+    parser.add_argument("--measured", action="store_true", help="bills a day of the history by the powers that controls say they measured")
     parser.add_argument("--day", metavar="DATE", type=cli.moment, help="the day of the history, of this machine's zone or [ZONE]; default today")
     parser.add_argument("-o", "--output", metavar="PAGE", required=True, help="the page to write, such as day.html")
     parser.add_argument("--title", help="the title of the page; default the name of the file")
@@ -74,8 +75,8 @@ def main(arguments: argparse.Namespace) -> int:
     currency = None if arguments.currency is None else Currency(arguments.currency, arguments.per_kwh)
     if arguments.history is not None:
         return _report_history(arguments, currency)
-    if arguments.day is not None:
-        arguments.fail("--day goes with --history")
+    if arguments.day is not None or arguments.measured:
+        arguments.fail(f"--{'measured' if arguments.day is None else 'day'} goes with --history")
     supply = None if arguments.tariff is None else read_supply(arguments.tariff, zone_in(arguments.start))
     text = report(
         arguments.file,
@@ -105,7 +106,8 @@ def _report_history(arguments: argparse.Namespace, currency: Currency | None) ->
     try:
         database = open_database(url, is_reader=True)
         try:
-            text = history_page(database, arguments.day or datetime.now().astimezone(), arguments.title, currency)
+            day = arguments.day or datetime.now().astimezone()
+            text = history_page(database, day, arguments.title, currency, by_measure=arguments.measured)
         finally:
             database.close()
     except BadSettings as error:

@@ -1,4 +1,4 @@
-"""The account of each device over a span of a history: energies and amounts as whole numbers, by its measured or else its set power.
+"""The account of each device over a span of a history: energies and amounts as whole numbers, by the power that the market set.
 
 Times are milliseconds since 1970 in UTC, powers watts, prices price units. An energy is in watts times milliseconds, and an amount in
 price units times watts times milliseconds, so no sum is rounded.
@@ -15,20 +15,22 @@ MEASURED_HOLDS = 900_000
 # The milliseconds of a slot, of which a course has the energy of each device: a quarter of an hour.
 SLOT = 900_000
 
-Kind = Literal["set", "fallback", "lapse", "measured"]
+Kind = Literal["set", "fallback", "back", "lapse", "measured"]
 
 
 class Event(NamedTuple):
     """Something that changes what a device takes, or its price.
 
-    power: watts, 0 for a lapse
+    kind:  `set` by a price that answers a bid; `fallback`, while the market is silent, and `back`, its end; `lapse` if the device leaves or
+           is let go; `measured`
+    power: watts; None of a set power if the bid that the price answers is not known, and of a lapse and an end
     price: of a set power, None for all others
     """
 
     at: int
     device: str
     kind: Kind
-    power: int
+    power: int | None
     price: int | None
 
 
@@ -40,6 +42,8 @@ class Account:
     amount:       above 0 if the device pays
     unpriced:     the energy that was taken or given before the device was told a price, which the amount leaves out
     measured_for, set_for: for how many milliseconds its measured and its set power counted
+    claimed:      the energy of its fallbacks, by the device's word alone, which is in none of the others
+    unknown_for:  for how many milliseconds a price answered a bid that the history does not have: nothing counted
     """
 
     taken: int = 0
@@ -48,6 +52,8 @@ class Account:
     unpriced: int = 0
     measured_for: int = 0
     set_for: int = 0
+    claimed: int = 0
+    unknown_for: int = 0
 
     @property
     def basis(self) -> str:
@@ -81,6 +87,8 @@ class _Device:
 
     since: int
     set_power: int | None = None
+    is_unknown: bool = False
+    fallback: int | None = None
     price: int | None = None
     measured: int | None = None
     measured_until: int = 0
@@ -95,9 +103,13 @@ class _Device:
             case "measured":
                 self.measured, self.measured_until = event.power, event.at + MEASURED_HOLDS
             case "lapse":
-                self.set_power = None
-            case _:
-                self.set_power = event.power
+                self.set_power, self.is_unknown = None, False
+            case "fallback":
+                self.fallback = event.power
+            case "back":
+                self.fallback = None
+            case "set":
+                self.set_power, self.is_unknown, self.fallback = event.power, event.power is None, None
                 self.price = self.price if event.price is None else event.price
 
     def go_to(self, now: int) -> None:
@@ -108,10 +120,17 @@ class _Device:
             self._add(self.measured, until - self.since)
             self.since = until
         if self.since < now:
-            if self.set_power is not None:
-                self.account.set_for += now - self.since
-                self._add(self.set_power, now - self.since)
+            self._add_told(now - self.since)
             self.since = now
+
+    def _add_told(self, time: int) -> None:
+        if self.fallback is not None:
+            self.account.claimed += abs(self.fallback) * time
+        elif self.set_power is not None:
+            self.account.set_for += time
+            self._add(self.set_power, time)
+        elif self.is_unknown:
+            self.account.unknown_for += time
 
     def _add(self, power: int, time: int) -> None:
         energy, account = power * time, self.account

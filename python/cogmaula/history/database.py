@@ -24,7 +24,12 @@ class DatabaseLost(LiveError, OSError):
 
 
 class Database(Protocol):
-    """Where rows are kept. All calls may come from any thread, one at a time."""
+    """Where rows are kept. All calls may come from any thread, one at a time.
+
+    demand: the expression of what the bid of a row of `bids` takes at the step `told.step`, in watts
+    """
+
+    demand: str
 
     def open(self) -> None:
         """Connects, and makes the tables that are missing unless it only reads.
@@ -94,6 +99,26 @@ def _unknown(rows: Iterable[Told], sign: str, read: Callable[[str, tuple[Any, ..
     return [row.row(time.time()) for row in lost if not read(_IS_KNOWN.format(sign), (row.will.values["node"], row.will.values["run"])).fetchall()]
 
 
+# Bids whose number had another one before: a row of values, and a row of `told`.
+_REBID = """
+INSERT INTO rebids (session, parent, child, number, at, demands) SELECT {0}, {0}, {0}, {0}, {0}, {0}
+WHERE EXISTS (SELECT 1 FROM bids WHERE session = {0} AND parent = {0} AND child = {0} AND number = {0} AND demands IS NOT {0})
+ON CONFLICT DO NOTHING
+"""
+_REBIDS = """
+INSERT INTO rebids (session, parent, child, number, at, demands)
+SELECT told.session, told.parent, told.child, told.number, told.at, told.demands
+FROM json_populate_recordset(NULL::rebids, %s::json) AS told JOIN bids ON bids.session = told.session AND bids.parent = told.parent
+    AND bids.child = told.child AND bids.number = told.number AND bids.demands IS DISTINCT FROM told.demands
+ON CONFLICT DO NOTHING
+"""
+
+
+def _bids(rows: Iterable[Told]) -> list[dict[str, Any]]:
+    """The values of the bids among rows."""
+    return [row.values for row in rows if isinstance(row, Row) and row.table == "bids"]
+
+
 def _alike(rows: Iterable[Told]) -> Iterator[tuple[str, str, list[dict[str, Any]]]]:
     """The rows of each table with the same columns: the table, the names of the columns, and the values in their order."""
     found: dict[tuple[str, ...], list[dict[str, Any]]] = {}
@@ -111,6 +136,8 @@ def _require_version(found: list[tuple[Any, ...]]) -> None:
 
 class SqliteDatabase:
     """A file of SQLite. A reader may read it while it is written."""
+
+    demand = "json_extract(bids.demands, '$[' || told.step || ']')"
 
     def __init__(self, path: str, *, is_reader: bool = False) -> None:
         """Takes the file, and whether it is only read."""
@@ -153,6 +180,9 @@ class SqliteDatabase:
             connection.execute("BEGIN IMMEDIATE")
             try:
                 self._insert(connection, told)
+                for bid in _bids(told):
+                    key = tuple(bid[name] for name in ("session", "parent", "child", "number"))
+                    connection.execute(_REBID.format("?"), (*key, bid["at"], bid["demands"], *key, bid["demands"]))
                 self._insert(connection, _unknown(told, "?", connection.execute))
                 for statement, parameters in _downs(told, "?"):
                     connection.execute(statement, parameters)
@@ -190,6 +220,8 @@ class SqliteDatabase:
 
 class PostgresDatabase:
     """A database of PostgreSQL."""
+
+    demand = "CAST(CAST(bids.demands AS json) ->> CAST(told.step AS integer) AS bigint)"
 
     def __init__(self, url: str, *, is_reader: bool = False) -> None:
         """Takes its URL, and whether it is only read. A password is in ~/.pgpass or PGPASSWORD rather than in the URL.
@@ -235,6 +267,8 @@ class PostgresDatabase:
         try:
             with self._required().transaction():
                 self._insert(told)
+                if bids := _bids(told):
+                    self._connection.execute(_REBIDS, [json.dumps(bids)])
                 self._insert(_unknown(told, "%s", self._connection.execute))
                 for statement, parameters in _downs(told, "%s"):
                     self._connection.execute(statement, parameters)

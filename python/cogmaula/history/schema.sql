@@ -4,6 +4,7 @@
 --
 -- sessions:  those of the auctioneer, with the basis; the view clearings has its clearings
 -- bids:      demands is a JSON list, NULL if the child left
+-- rebids:    the second bid of a number, as a device that lies sends it; the first one is in bids
 -- prices:    what a parent gave a child; number is that of the bid that it answers, at is when the market cleared
 -- setpoints, fallbacks, lapses, states: what devices and parents said; of each node of a site also that the site is down.
 --            at is by the sender's clock, of a last will by the history's: the broker has had it from the connection's begin on
@@ -14,6 +15,10 @@ CREATE TABLE IF NOT EXISTS sessions (
     session TEXT PRIMARY KEY, begun DOUBLE PRECISION NOT NULL, least BIGINT NOT NULL, greatest BIGINT NOT NULL, steps BIGINT NOT NULL
 );
 CREATE TABLE IF NOT EXISTS bids (
+    session TEXT, parent TEXT, child BIGINT, number BIGINT, at DOUBLE PRECISION, demands TEXT,
+    PRIMARY KEY (session, parent, child, number)
+);
+CREATE TABLE IF NOT EXISTS rebids (
     session TEXT, parent TEXT, child BIGINT, number BIGINT, at DOUBLE PRECISION, demands TEXT,
     PRIMARY KEY (session, parent, child, number)
 );
@@ -41,6 +46,7 @@ CREATE TABLE IF NOT EXISTS states (
     alarm TEXT NOT NULL, silent DOUBLE PRECISION, why TEXT NOT NULL, session TEXT NOT NULL, PRIMARY KEY (node, run, at, state)
 );
 CREATE TABLE IF NOT EXISTS measured (device TEXT, at DOUBLE PRECISION, power BIGINT NOT NULL, PRIMARY KEY (device, at));
+CREATE INDEX IF NOT EXISTS bids_gone ON bids (at) WHERE demands IS NULL;
 CREATE INDEX IF NOT EXISTS setpoints_at ON setpoints (at);
 CREATE INDEX IF NOT EXISTS prices_at ON prices (at);
 CREATE INDEX IF NOT EXISTS measured_at ON measured (at);

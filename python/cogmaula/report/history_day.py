@@ -61,13 +61,16 @@ def _midnight_after(begin: datetime) -> datetime:
     return end.astimezone() if end.tzinfo is None else end
 
 
-def day_of(database: Database, day: datetime, title: str | None = None, currency: Currency | None = None) -> Day:
+def day_of(
+    database: Database, day: datetime, title: str | None = None, currency: Currency | None = None, *, by_measure: bool = False
+) -> Day:
     """What a history tells of a day. Raises DatabaseLost."""
     # A history is of a live market, whose modules the page of a file does without.
     from ..history.span_course import course_of
 
     begin, end = day_span(day)
-    course = course_of(database, round(begin.timestamp() * 1000), round(end.timestamp() * 1000))
+    span = round(begin.timestamp() * 1000), round(end.timestamp() * 1000)
+    course = course_of(database, *span, by_measure=by_measure)
     return Day(title or f"The market on {begin:%Y-%m-%d}", begin, end, course, currency or Currency())
 
 
@@ -97,12 +100,15 @@ def _slot_prices(held: list[tuple[int, int]]) -> SlotPrices:
     return SlotPrices(Fraction(sum(price * time for price, time in held), time), min(prices), max(prices))
 
 
-def history_page(database: Database, day: datetime, title: str | None = None, currency: Currency | None = None) -> str:
+def history_page(
+    database: Database, day: datetime, title: str | None = None, currency: Currency | None = None, *, by_measure: bool = False
+) -> str:
     """The page of a day of a history, in HTML that needs no script and no network.
 
     day:      a moment of the day; without a zone it is of this machine's
     title:    the page's title, by default the day
     currency: the unit of money, and what a kilowatt-hour costs at price 1; price units times kilowatt-hours if it is not given
+    by_measure: bills go by what controls say that they measured, as far as they say so; else by bids and prices alone
 
     Raises DatabaseLost, and NoPackage without matplotlib.
     """
@@ -110,4 +116,4 @@ def history_page(database: Database, day: datetime, title: str | None = None, cu
         from . import history_sections
     except ImportError:
         raise NoPackage("a report needs matplotlib: on Debian, apt-get install python3-matplotlib") from None
-    return history_sections.page_of(day_of(database, day, title, currency))
+    return history_sections.page_of(day_of(database, day, title, currency, by_measure=by_measure))

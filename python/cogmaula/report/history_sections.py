@@ -47,7 +47,9 @@ def facts(day: Day) -> Iterator[tuple[str, str]]:
     yield "taken", f"{kilowatt_hours(sum(account.taken for account in accounts))} kWh"
     yield "given", f"{kilowatt_hours(sum(account.given for account in accounts))} kWh"
     yield "all devices pay", f"{money(day.money(sum(account.amount for account in accounts)))} {day.currency.unit}"
-    yield "billed by measured power alone", str(sum(account.is_measured for account in accounts))
+    if course.by_measure:
+        yield "billed by measured power alone", str(sum(account.is_measured for account in accounts))
+    yield "told otherwise by devices", number(course.different)
 
 
 def kilowatt_hours(energy: int) -> str:
@@ -111,7 +113,8 @@ def powers(day: Day) -> Iterator[str]:
         yield markup.words("The history has no power of this day.")
         return
     rows = {name: mean_powers(day, energies) for name, energies in rows_of(day).items()}
-    caption = "The mean power of each quarter of an hour, measured or else set: taken above 0, given below."
+    kind = "measured or else set" if day.course.by_measure else "as the market set it"
+    caption = f"The mean power of each quarter of an hour, {kind}: taken above 0, given below."
     if len(day.course.energies) > MOST_NAMED:
         caption += " Devices are added up by the node above them."
     yield markup.figure(svg_of(draw_powers(hours_of(day), rows), "powers"), caption, caption)
@@ -176,13 +179,20 @@ def relay_row(day: Day, name: str, relay: Relay) -> list[str]:
     return [name, *ends, watts(round(min(loads))), watts(round(max(loads))), lasting(relay.ceiling_for), lasting(relay.floor_for)]
 
 
+BY_FRAMES = (
+    "Each device is billed by the power that the market set it: what its bid has at the price that answers the bid, from the clearing on. "
+    "Nothing counts that a device says of itself."
+)
+BY_MEASURE = (
+    "Each device is billed by the power that its control says it measured, and by the power that the market set it where none was measured. "
+    "A measured power counts until the next one, for 15 minutes at most."
+)
+
+
 def bills(day: Day) -> Iterator[str]:
     """The bill of each device, and that of each hour."""
     unit, accounts = day.currency.unit, day.course.accounts
-    yield markup.words(
-        f"Each device is billed by its measured power, and by its set power where none was measured, at the newest price that it was told. "
-        f"A measured power counts until the next one, for 15 minutes at most. Amounts are in {unit}: above 0 if the device pays."
-    )
+    yield markup.words(f"{BY_MEASURE if day.course.by_measure else BY_FRAMES} Amounts are in {unit}: above 0 if the device pays.")
     head = ["device", "billed by", "taken (kWh)", "given (kWh)", f"amount ({unit})"]
     rows = [account_row(day, name, account) for name, account in list(accounts.items())[:MOST_ROWS]]
     whole = Account(*(sum(getattr(account, name) for account in accounts.values()) for name in ("taken", "given", "amount")))
@@ -193,6 +203,30 @@ def bills(day: Day) -> Iterator[str]:
     yield markup.table("By hour, all devices", ["from", "taken (kWh)", "given (kWh)", f"amount ({unit})"], list(hour_rows(day)))
     if unpriced := sum(account.unpriced for account in accounts.values()):
         yield markup.words(f"{kilowatt_hours(unpriced)} kWh were taken or given before the device was told a price. No amount has them.", "warning")
+    if claimed := sum(account.claimed for account in accounts.values()):
+        yield markup.words(f"{kilowatt_hours(claimed)} kWh were fallbacks, by the devices' word alone. No energy and no amount has them.", "warning")
+    for name, account in accounts.items():
+        if account.unknown_for:
+            yield markup.words(f"{name}: for {lasting(account.unknown_for)} the history lacks the bid that was answered. Nothing counts.", "warning")
+
+
+def differences(day: Day) -> Iterator[str]:
+    """What devices wrote of themselves that the market does not bear out."""
+    course = day.course
+    if not course.different:
+        yield markup.words("None: each setpoint that a device wrote is what its bid has at the price that it was told.")
+        return
+    yield markup.words(
+        "A device writes its own setpoint and its own place. No account goes by them. Here is where they differ from bids and prices: an error "
+        "of the device's node, or a lie."
+    )
+    rows = [
+        [one.device, day.time(one.at) if one.at else "", one.what, *("not known" if power is None else watts(power) for power in (one.told, one.due))]
+        for one in course.differences
+    ]
+    yield long_table("What devices wrote otherwise", ["device", "at", "what", "wrote", "due"], rows)
+    if course.different > len(rows):
+        yield markup.words(f"The table has the first {len(rows)} of {course.different}.", "soft")
 
 
 def account_row(day: Day, name: str, account: Account) -> list[str]:
@@ -218,9 +252,10 @@ def hour_rows(day: Day) -> Iterator[list[str]]:
 def cautions(_: Day) -> Iterator[str]:
     """What the page does not show."""
     yield markup.words(
-        "The history has what the broker told. A set power counts until the next setpoint, until the control was told its fallback, which "
-        "counts then, or until the device was let go. Nobody measured that a device did as it was told, unless its row says so. Prices are "
-        "as they were told; the judge decides from recordings whether they are right."
+        "The history has what the broker told. A set power counts until the next price that answers another bid or has another step, until the "
+        "device leaves or is let go, or while it falls back because a node above it was down or silent. When a device leaves, its own clock "
+        "says. That a device did as it was told is not known. Prices are as they were told; the judge decides from recordings whether they "
+        "are right."
     )
 
 
@@ -237,5 +272,6 @@ SECTIONS: list[tuple[str, str, bool, Callable[[Day], Iterable[str]]]] = [
     ("limits", "Limits", True, limits),
     ("powers", "Who took what", False, powers),
     ("bills", "Bill", True, bills),
+    ("differences", "What devices wrote otherwise", True, differences),
     ("notes", "What this page does not show", False, cautions),
 ]

@@ -193,24 +193,30 @@ def test_rows_are_kept_once_and_all_or_none(url):
 
 
 def test_energies_and_prices_of_a_span(url):
-    """From 0 s to 3600 s: a takes 1000 W from -100 s to 1800 s and then 200 W, so 600 Wh; it measured 400 W from 900 s on, so 300 Wh.
-    b gives 60 W from 3000 s on, so 10 Wh. What is behind the end does not count."""
+    """From 0 s to 3600 s, by bids and prices: a takes 1000 W from -100 s to 1800 s and then 200 W, so 600 Wh; it measured 400 W from 900 s
+    on, so 300 Wh. b gives 60 W from 3000 s on, so 10 Wh. What is behind the end does not count, nor what a writes as its setpoint."""
     database = open_database(url)
 
-    def setpoint(device, at, power, clearing):
-        return Row("setpoints", {**KEY, "device": device, "clearing": clearing, "number": 2, "step": 0, "price": 0, "power": power, "at": at})
+    def price(child, at, clearing, step):
+        key = {**KEY, "parent": "root", "child": child, "clearing": clearing}
+        return Row("prices", {**key, "number": 2, "step": step, "price": 4 * step + 4, "at": at})
 
-    def price(at, clearing, value):
-        return Row("prices", {**KEY, "parent": "root", "child": 1, "clearing": clearing, "number": 2, "step": 0, "price": value, "at": at})
+    def node(name, sort, parent, child):
+        place = {"sort": sort, "parent": parent, "child": child}
+        return Row("states", {"node": name, "run": "0", "at": 0.0, "state": "up", "alarm": "", "why": "", "session": "", **place})
 
-    database.put([setpoint("a", -100.0, 1000, 1), setpoint("a", 1800.0, 200, 2), setpoint("a", 4000.0, 9, 4), setpoint("b", 3000.0, -60, 3)])
-    database.put([Row("measured", {"device": "a", "at": 900.0, "power": 400})])
-    database.put([price(0.0, 1, 4), price(1800.0, 2, 8), price(3600.0, 3, 90)])
-    database.put([Row("states", {"node": "root", "run": "0", "at": 0.0, "state": "up", "sort": "auctioneer", "alarm": "", "why": "", "session": ""})])
+    bids = {1: [1000, 200, 9], 2: [0, 0, -60]}
+    database.put([Row("bids", {**KEY, "parent": "root", "child": child, "number": 2, "at": -200.0, "demands": str(told)}) for child, told in bids.items()])
+    database.put([price(1, -100.0, 1, 0), price(1, 1800.0, 2, 1), price(1, 4000.0, 4, 2), price(2, 3000.0, 3, 2)])
+    numbers = {"clearing": 2, "number": 2, "step": 1, "price": 8, "power": -67_380, "at": 1800.0}
+    database.put([Row("setpoints", {**KEY, "device": "a", **numbers}), Row("measured", {"device": "a", "at": 900.0, "power": 400})])
+    database.put([Row("sessions", {**KEY, "begun": -300.0, "least": 4, "greatest": 12, "steps": 3})])
+    database.put([node("root", "auctioneer", None, None), node("a", "device", "root", 1), node("b", "device", "root", 2)])
     span = span_of(database, 0.0, 3600.0)
-    assert span.by_setpoint == {"a": 600.0, "b": -10.0}
+    assert span.by_market == {"a": 600.0, "b": -10.0}
     assert span.by_measure == {"a": 300.0}
-    assert (span.clearings, span.least, span.mean, span.greatest) == (2, 4, 6.0, 8)
+    assert span.different == 1
+    assert (span.clearings, span.least, span.mean, span.greatest) == (2, 8, 10.0, 12)
     assert span_of(database, 10**6, 10**6 + 1).clearings == 0
 
 
