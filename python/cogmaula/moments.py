@@ -31,6 +31,20 @@ def later(start: datetime, minutes: float) -> datetime:
     return (start.astimezone(UTC) + timedelta(minutes=minutes)).astimezone(start.tzinfo)
 
 
+def minutes_between(begin: datetime, end: datetime) -> float:
+    """The minutes that pass from one moment to another, below 0 if the second comes first.
+
+    Two moments of one zone are not subtracted as they are: Python would count what the clock shows, and so an hour too many or too
+    few over a switch. Raises ValueError if only one of them has a zone.
+    """
+    if (begin.tzinfo is None) != (end.tzinfo is None):
+        zoned, plain = (end, begin) if begin.tzinfo is None else (begin, end)
+        raise ValueError(f"{zoned.isoformat()} has a zone and {plain.isoformat()} has none: give both a zone, or none")
+    if begin.tzinfo is not None:
+        begin, end = begin.astimezone(UTC), end.astimezone(UTC)
+    return (end - begin) / timedelta(minutes=1)
+
+
 def zone_of(name: str) -> ZoneInfo:
     """The time zone of a name such as Europe/Berlin. Raises ValueError if there is none."""
     try:

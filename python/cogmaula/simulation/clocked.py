@@ -3,9 +3,10 @@
 from __future__ import annotations
 
 from dataclasses import dataclass, field
-from datetime import datetime, timedelta
+from datetime import datetime
 from math import exp
 
+from ..moments import later
 from .profiles import Profile, value_at
 
 # What a litre of water takes to become a degree warmer, in watt-hours.
@@ -23,7 +24,7 @@ class Clocked:
 
     def _passes(self, minutes: float) -> None:
         if self._now is not None:
-            self._now += timedelta(minutes=minutes)
+            self._now = later(self._now, minutes)
 
     def _given(self, profile: Profile) -> float:
         """What a profile has at the model's moment. Raises ValueError if the model has no moment yet and the profile needs it."""

@@ -6,6 +6,8 @@ from collections.abc import Callable, Sequence
 from dataclasses import dataclass
 from datetime import datetime
 
+from ..moments import minutes_between
+
 Profile = float | Callable[[datetime], float]
 
 
@@ -18,9 +20,9 @@ def value_at(profile: Profile, now: datetime) -> float:
 class Held:
     """Values that each hold for so many minutes, one behind another from a start on, as a measured table has them.
 
-    start:   when the first value begins; with a zone if the moments of the simulation have one
-    repeats: whether the values begin again behind the last, as those of a typical day; else the first holds before the start, and
-             the last behind the end
+    start:   when the first value begins; with a zone if the moments of the simulation have one, and whatever their zone is
+    repeats: whether the values begin again behind the last, as those of a typical day, and so go by the clock of the start's zone: on the
+             day of a switch an hour is left out or comes twice. Else the first holds before the start, and the last behind the end
     """
 
     start: datetime
@@ -34,6 +36,15 @@ class Held:
             raise ValueError(f"{len(self.values)} values of {self.minutes} minutes: give one or more, each above 0 minutes")
 
     def __call__(self, now: datetime) -> float:
-        """The value that holds at a moment."""
-        at = int((now - self.start).total_seconds() // (60 * self.minutes))
-        return float(self.values[at % len(self.values) if self.repeats else min(max(at, 0), len(self.values) - 1)])
+        """The value that holds at a moment. Raises ValueError if only one of it and the start has a zone."""
+        if self.repeats:
+            return float(self.values[int(self._by_the_clock(now) // self.minutes) % len(self.values)])
+        at = int(minutes_between(self.start, now) // self.minutes)
+        return float(self.values[min(max(at, 0), len(self.values) - 1)])
+
+    def _by_the_clock(self, now: datetime) -> float:
+        """The minutes from the start on, as the clock of its zone counts them."""
+        zone = self.start.tzinfo
+        if zone is None or now.tzinfo is None:
+            return minutes_between(self.start, now)
+        return minutes_between(self.start.replace(tzinfo=None), now.astimezone(zone).replace(tzinfo=None))

@@ -5,6 +5,7 @@ from __future__ import annotations
 from dataclasses import dataclass, field
 from datetime import datetime, time, timedelta
 
+from ..moments import minutes_between
 from .clocked import Clocked
 from .device import Bid, between, up_to
 
@@ -57,7 +58,7 @@ class Vehicle(Clocked):
         if self._leaves is None or not self.missing:
             return 0
         takes = int(min(self.power, self.missing * 60 / self.interval))
-        due, left = self.missing / self.power, (self._leaves - now) / timedelta(hours=1)
+        due, left = self.missing / self.power, minutes_between(now, self._leaves) / 60
         # Once its bid has held it would be too late.
         is_last = due > left - self.interval / 60
         return takes if is_last else up_to(between(self.prices, due / left), takes)
@@ -70,13 +71,20 @@ class Vehicle(Clocked):
 
     def _comes_or_goes(self, now: datetime) -> None:
         """Departs and arrives, by the clock."""
-        if self._leaves is not None and now >= self._leaves:
+        if self._leaves is not None and minutes_between(now, self._leaves) <= 0:
             self.unmet += self.missing
             self.missing, self._leaves = 0.0, None
-        clock = now.time()
-        is_over_midnight = self.departure < self.arrival
-        is_there = clock >= self.arrival or clock < self.departure if is_over_midnight else self.arrival <= clock < self.departure
-        if is_there and self._leaves is None:
-            tomorrow = timedelta(days=1 if is_over_midnight and clock >= self.arrival else 0)
-            self._leaves = datetime.combine(now.date() + tomorrow, self.departure, now.tzinfo)
+        if self._leaves is None and (leaves := self._end_of_stay(now)) is not None:
+            self._leaves = leaves
             self.missing = self.missing or self.needed
+
+    def _end_of_stay(self, now: datetime) -> datetime | None:
+        """When it departs if it is there at a moment, else None. Of an hour that a clock shows twice the first counts."""
+        nights = 1 if self.departure < self.arrival else 0
+        for late in range(nights + 1):
+            day = now.date() - timedelta(days=late)
+            arrives = datetime.combine(day, self.arrival, now.tzinfo)
+            leaves = datetime.combine(day + timedelta(days=nights), self.departure, now.tzinfo)
+            if minutes_between(arrives, now) >= 0 and minutes_between(now, leaves) > 0:
+                return leaves
+        return None
