@@ -163,6 +163,80 @@ def test_the_use_of_a_battery(program: Program) -> None:
     assert figures.shifted_kWh["store"] == 2.5 and figures.self_consumption == figures.self_sufficiency == 1
 
 
+def priced(device: Battery, prices: list[int], minutes: int, *more: Any) -> Cluster:
+    """A battery beside an exchange that has these prices, a tick each, and further devices and events for each tick."""
+    at = [[(price - 1, 50_000), (price, -50_000)] for price in prices]
+    nodes, events = more or ((), [()] * len(prices))
+    one = Cluster(Basis(0, 40, 41), [Manual("exchange", points=at[0]), device, *nodes])
+    phases = [one.join_all(), Tick(minutes)]
+    for points, told in zip(at[1:], events[1:], strict=True):
+        phases += [Events([State("exchange", points=points), *told]), Tick(minutes)]
+    return one.with_phases(*phases)
+
+
+def test_shares_of_a_site_whose_battery_trades_with_the_grid(program: Program) -> None:
+    """By hand, an hour each: the battery of 2 kW buys 2 kWh beside the house's 1 kWh; then it takes 2 kWh of 3 kWh of sun, of which
+    the house takes 1; then it gives its 4 kWh, half of them the sun's: 1 kWh to the house, and 3 are sold.
+
+    So 1.5 of 3 kWh of the sun are sold, and 1 + 0.5 of 3 kWh of the house are bought. By bought and sold alone both shares were 0.
+    """
+    store = Battery("store", capacity=4000, charge=2000, discharge=4000, spread=0, start=0)
+    site = [Load("house", start=1000), Solar("roof", start=0)]
+    events: list[Any] = [(), [State("roof", 3000)], [State("roof", 0)]]
+    done = run(priced(store, [1, 1, 40], 60, site, events), program=program)
+    assert done.held.powers[:, 1].tolist() == [2000, 2000, -4000]
+    figures = done.figures("exchange")
+    assert (figures.bought_kWh, figures.sold_kWh) == (3, 3)
+    assert (figures.self_consumption, figures.self_sufficiency) == (0.5, 0.5)
+
+
+def test_shares_that_cannot_be_known(program: Program) -> None:
+    """A manual device that takes and gives may be a battery, beside a connection too."""
+    nodes = [Manual("exchange", points=[(19, 5000), (20, -5000)]), Manual("box", demand=[500] * 41), Load("house", start=1000)]
+    one = Cluster(Basis(0, 40, 41), nodes)
+    steady = run(one.with_phases(one.join_all(), Tick(60)), program=program).figures("exchange")
+    assert steady.self_sufficiency == 0
+    turned = Events([State("box", demand=[-500] * 41)])
+    both = run(one.with_phases(one.join_all(), Tick(60), turned, Tick(60)), program=program).figures("exchange")
+    assert (both.self_consumption, both.self_sufficiency) == (None, None)
+    assert "not known" in both._repr_html_()
+
+
+def test_what_is_left_in_batteries_has_a_value(program: Program) -> None:
+    """By hand: 2 kWh more at the mean price of 1 and 3; by its plain rule the battery gives the house 1 kWh in the first hour."""
+    store = Battery("store", capacity=8000, charge=2000, discharge=2000, spread=0, start=1000)
+    done = run(priced(store, [1, 3], 60, [Load("house", start=1000)], [(), ()]), program=program)
+    assert done.held.powers[:, 1].tolist() == [2000, 2000]
+    figures = done.figures("exchange", currency="EUR", per_kwh=0.5)
+    assert (figures.left_kWh, figures.left_value, figures.left_plain_value) == (4, 4, -1)
+    assert (figures.cost_at_connection, figures.cost_plain) == (0.5 * (3 * 1 + 3 * 3), 0.5 * (0 * 1 + 1 * 3))
+
+
+def test_churn_is_not_shifted(program: Program) -> None:
+    """By hand: 100 Wh in and 100 Wh out, six times in an hour of five minutes each: nothing is at another time than before."""
+    store = Battery("store", capacity=1000, charge=1200, discharge=1200, spread=0, start=500)
+    done = run(priced(store, [1, 40] * 6, 5), program=program)
+    assert done.held.powers[:, 1].tolist() == [1200, -1200] * 6
+    figures = done.figures("exchange")
+    use = figures.batteries["store"]
+    assert (use.flips, use.ticks, use.churned_kWh, use.cycles) == (11, 12, pytest.approx(0.6), pytest.approx(0.6))
+    assert figures.shifted_kWh["store"] == 0 and figures.left_kWh == 0
+
+
+def test_the_head_warns_of_a_battery_that_turns_at_almost_each_tick(program: Program) -> None:
+    """The warning has the cure, and the cure works: with a spread of 30 the same battery does not turn."""
+    from cogmaula.report import report
+
+    page, calm = (
+        report(priced(Battery("store", capacity=1000, charge=1200, discharge=1200, spread=spread, start=500), [12, 24] * 6, 5),
+               connection="exchange", program=program)
+        for spread in (0, 30)
+    )
+    assert "store turned from charging to discharging or back at 11 of 12 ticks, in 14.4 cycles a day" in page
+    assert "A greater spread" in page and "kWh</p><p class=\"soft\">shifted by" not in page
+    assert "turned from charging" not in calm
+
+
 def test_limits_in_figures(program: Program) -> None:
     """A load of 300 W below a ceiling of 200 W: outside for the 45 minutes that it lasts."""
     nodes = [Limited("feeder", floor=-100, ceiling=200), Load("house", parent="feeder", start=300)]

@@ -29,6 +29,9 @@ class BatteryUse:
     least, mean, most, last: its charge, from 0 to 1
     cycles:                  what was taken out of its charge, divided by its capacity
     cycles_a_day:            the same for a day
+    flips:                   how often it went from charging to discharging or back, from a tick to the next
+    ticks:                   of the run
+    churned_kWh:             what it took and gave back within an hour of the run, and so did not shift
     """
 
     least: float
@@ -37,6 +40,9 @@ class BatteryUse:
     last: float
     cycles: float
     cycles_a_day: float
+    flips: int = 0
+    ticks: int = 0
+    churned_kWh: float = 0.0
 
 
 @dataclass(frozen=True)
@@ -50,21 +56,24 @@ class Figures:
     cost_at_connection:   what the exchange of the market costs at the prices that the connection asks for it
     cost_plain:           the same for the exchange that the devices have by their plain rules, without a market
     cost_without_battery: the same if the batteries were not there
+    left_kWh:             what the batteries hold more at the end than at the begin, by what they took and gave
+    left_value:           what that is worth at the market's mean price over the time; costs have nothing of it
+    left_plain_value:     the same by plain rules
     bought_kWh, sold_kWh: what the devices took from outside, and gave
     consumed_kWh:         what the devices other than batteries and objectives took
     produced_kWh:         what they delivered
-    self_consumption:     the share of what was produced that was not sold
-    self_sufficiency:     the share of what was consumed that was not bought
+    self_consumption:     the share of what was produced that was not sold, tick by tick and through the batteries (`figures.own_shares`)
+    self_sufficiency:     the share of what was consumed that was not bought, alike
     peak_bought, peak_sold: the greatest powers from outside and to it
     sold_above_kWh:       what was sold at a higher price than the connection asks
     bought_below_kWh:     what was bought at a lower price than the connection asks
     batteries:            the use of each battery
     shifted_kWh:          for each device with a plain rule the energy at another time than by that rule; of a battery, which by this
-                          count would rest, half of what it took and delivered
+                          count would rest, half of what it took and delivered, each hour's net
     minutes_outside:      for how long each limited group was outside its limits
 
-    Figures that need the connection are None without one. Shares are None if nothing was produced or consumed, or if the cluster has
-    manual devices and none is named as the connection. Plain rules are models beside the proved market (`figures.plain`).
+    Figures that need the connection are None without one. Shares are None if nothing was produced or consumed, if the cluster has
+    manual devices and none is named as the connection, or if another manual device takes and gives, as a battery does. Plain rules are models beside the proved market (`figures.plain`).
     """
 
     unit: str
@@ -74,6 +83,9 @@ class Figures:
     cost_at_connection: float | None
     cost_plain: float | None
     cost_without_battery: float | None
+    left_kWh: float
+    left_value: float
+    left_plain_value: float | None
     bought_kWh: float
     sold_kWh: float
     consumed_kWh: float
@@ -100,6 +112,7 @@ class Figures:
         yield "cost at the connection's prices", self.cost_at_connection, self.unit
         yield "cost by plain rules (a model, not proved)", self.cost_plain, self.unit
         yield "cost by plain rules without batteries (a model, not proved)", self.cost_without_battery, self.unit
+        yield "left in batteries, at the mean price", self.left_value, self.unit
         yield "bought", self.bought_kWh, "kWh"
         yield "sold", self.sold_kWh, "kWh"
         yield "consumed", self.consumed_kWh, "kWh"
@@ -115,7 +128,7 @@ class Figures:
 
     def _repr_html_(self) -> str:
         """The figures of the site as a table of a notebook."""
-        told = ((name, f"{value:,.2f}" if isinstance(value, float) else "unknown" if value is None else str(value), unit) for name, value, unit in self.rows())
+        told = ((name, f"{value:,.2f}" if isinstance(value, float) else "not known" if value is None else str(value), unit) for name, value, unit in self.rows())
         lines = "".join(f"<tr><th>{escape(name)}</th><td>{escape(value)}</td><td>{escape(unit)}</td></tr>" for name, value, unit in told)
         return f"<table><tbody>{lines}</tbody></table>"
 

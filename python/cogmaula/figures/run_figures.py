@@ -13,12 +13,12 @@ from ..held import Held
 from ..moments import later
 from ..money import WATT_MINUTES, Currency
 from ..nodes import Battery, Limited
-from ..phases import Tick
 from ..runs import Run
-from ..states import snapshots
+from .own_shares import own_shares
 from .plain_rules import WITHOUT_RULE, plain_powers
 from .supplier_tariffs import connection_in, prices_asked
 from .figure_values import BatteryUse, Figures, NoConnection, Peak
+from .stores import Stores, churn_of, flips_of
 
 
 def figures_of(run: Run, connection: str | None = None, currency: Currency | None = None) -> Figures:
@@ -35,11 +35,14 @@ def figures_of(run: Run, connection: str | None = None, currency: Currency | Non
     plain = plain_powers(run.cluster, held, connection)
     costs = UNKNOWN if connection is None else Costs.of(run, connection, [exchange, *site.without_market(run, plain)])
     own = [at for at, device in enumerate(run.cluster.devices) if device.kind not in ("battery", "objective") and device.name != connection]
-    # Of a manual device nobody knows whether it is one of the site, unless another one is named as the connection.
-    knows_site = connection is not None or not any(device.kind == "manual" for device in run.cluster.devices)
+    stores = Stores.of(run.cluster, held, held.powers)
+    shares = own_shares(run.cluster, held, stores, connection)
     consumed, produced = (total(numpy.maximum(sign * held.powers[:, own], 0).sum(axis=1), held) for sign in (1, -1))
     bought, sold = (total(numpy.maximum(sign * exchange, 0), held) for sign in (1, -1))
     paid = sum(account.amount for name, account in run.bill.devices.items() if name != connection)
+
+    def worth(watt_hours: int) -> float:
+        return float(money.price(mean_price(held)) * watt_hours / 1000)
 
     def in_money(amount: int | None) -> float | None:
         return None if amount is None else float(money.money(amount))
@@ -55,17 +58,20 @@ def figures_of(run: Run, connection: str | None = None, currency: Currency | Non
         cost_at_connection=in_money(costs.market),
         cost_plain=in_money(costs.plain),
         cost_without_battery=in_money(costs.without_battery),
+        left_kWh=stores.left / 1000,
+        left_value=worth(stores.left),
+        left_plain_value=None if connection is None else worth(Stores.of(run.cluster, held, plain).left),
         bought_kWh=bought / WATT_MINUTES,
         sold_kWh=sold / WATT_MINUTES,
         consumed_kWh=consumed / WATT_MINUTES,
         produced_kWh=produced / WATT_MINUTES,
-        self_consumption=share_kept(produced, sold) if knows_site else None,
-        self_sufficiency=share_kept(consumed, bought) if knows_site else None,
+        self_consumption=shares.self_consumption,
+        self_sufficiency=shares.self_sufficiency,
         peak_bought=peak_of(run, exchange),
         peak_sold=peak_of(run, -exchange),
         sold_above_kWh=hours(costs.sold_above),
         bought_below_kWh=hours(costs.bought_below),
-        batteries=batteries_of(run),
+        batteries=batteries_of(run, stores),
         shifted_kWh=shifted_of(run, plain, connection),
         minutes_outside=minutes_outside_of(run),
     )
@@ -136,9 +142,9 @@ def total(powers: Any, held: Held) -> int:
     return int((powers * held.minutes).sum())
 
 
-def share_kept(whole: int, away: int) -> float | None:
-    """The share of an energy that stayed, from 0 to 1."""
-    return None if whole == 0 else max(0.0, float(1 - Fraction(away, whole)))
+def mean_price(held: Held) -> Fraction:
+    """The market's mean price over the time."""
+    return Fraction(total(held.prices[:, 0], held), max(1, int(held.minutes.sum())))
 
 
 def peak_of(run: Run, powers: Any) -> Peak:
@@ -150,30 +156,20 @@ def peak_of(run: Run, powers: Any) -> Peak:
     return Peak(int(powers[at]), later(run.start, begin))
 
 
-def batteries_of(run: Run) -> dict[str, BatteryUse]:
+def batteries_of(run: Run, stores: Stores) -> dict[str, BatteryUse]:
     """How each battery was used over the ticks."""
-    batteries = [device for device in run.cluster.devices if isinstance(device, Battery)]
-    if not batteries or not run.cluster.minutes:
-        return {}
-    charges, drops = {battery.name: list[int]() for battery in batteries}, {battery.name: 0 for battery in batteries}
-    before = {battery.name: battery.start for battery in batteries}
-    for phase, now in zip(run.cluster.phases, snapshots(run.cluster, run.ends), strict=True):
-        for battery in batteries:
-            charge = now.states[battery.name]
-            assert isinstance(charge, int)
-            if isinstance(phase, Tick):
-                charges[battery.name].append(charge)
-                drops[battery.name] += max(0, before[battery.name] - charge)
-            before[battery.name] = charge
-    minutes = run.held.minutes
-    found = {}
-    for battery in batteries:
-        shares = numpy.array(charges[battery.name]) / battery.capacity
-        cycles = drops[battery.name] / battery.capacity
+    held, found = run.held, dict[str, BatteryUse]()
+    if not run.cluster.minutes:
+        return found
+    for at, (battery, column) in enumerate(zip(stores.nodes, stores.columns, strict=True)):
+        shares, powers = stores.after[:, at] / battery.capacity, held.powers[:, column]
+        cycles = int(numpy.maximum(stores.before[:, at] - stores.after[:, at], 0).sum()) / battery.capacity
         # Between both ends whatever the rounding.
-        mean = min(max(float((shares * minutes).sum() / minutes.sum()), float(shares.min())), float(shares.max()))
-        a_day = cycles * 1440 / run.cluster.minutes
-        found[battery.name] = BatteryUse(float(shares.min()), mean, float(shares.max()), float(shares[-1]), cycles, a_day)
+        mean = min(max(float((shares * held.minutes).sum() / held.minutes.sum()), float(shares.min())), float(shares.max()))
+        found[battery.name] = BatteryUse(
+            float(shares.min()), mean, float(shares.max()), float(shares[-1]), cycles, cycles * 1440 / run.cluster.minutes,
+            flips_of(powers), len(powers), churn_of(powers, held) / WATT_MINUTES,
+        )
     return found
 
 
@@ -184,8 +180,9 @@ def shifted_of(run: Run, plain: Any, connection: str | None) -> dict[str, float]
         if device.kind in (*WITHOUT_RULE, "objective") or device.name == connection:
             continue
         # A battery that follows its plain rule shifts too, so it is compared with one that rests.
-        against = 0 if isinstance(device, Battery) else plain[:, at]
-        found[device.name] = total(numpy.abs(held.powers[:, at] - against), held) / 2 / WATT_MINUTES
+        is_battery, powers = isinstance(device, Battery), held.powers[:, at]
+        moved = total(numpy.abs(powers if is_battery else powers - plain[:, at]), held) / 2
+        found[device.name] = (moved - (churn_of(powers, held) if is_battery else 0)) / WATT_MINUTES
     return found
 
 

@@ -13,6 +13,8 @@ from .words import count, duration, hours, kilowatt_hours, moment, money_of
 
 # A battery with fewer cycles a day than this is hardly used.
 FEW_CYCLES = 0.1
+# A battery that turns at more than this share of the ticks, and so often at least, moves energy to and fro.
+OFTEN_TURNS, MOST_TURNS = 1 / 3, 10
 # So many names are told in a sentence.
 MOST_TOLD = 3
 
@@ -50,18 +52,32 @@ def cost(found: Findings) -> str:
     if figures.cost_at_connection is None:
         lines.append(markup.words("Name the connection to the supplier (--connection) to compare this with the cost without the market.", "soft"))
     else:
-        rows = [[name, amount(currency, value)] for name, value in compared(figures)]
-        lines.append(markup.plain_table(["At the connection's prices", currency.unit], rows))
+        rows = [[name, amount(currency, value), amount(currency, None if value is None else value - left)] for name, value, left in compared(figures)]
+        if figures.batteries:
+            lines.append(markup.plain_table(["At the connection's prices", currency.unit, "less what is left"], rows))
+        else:
+            lines.append(markup.plain_table(["At the connection's prices", currency.unit], [row[:2] for row in rows]))
+    if figures.batteries:
+        lines.append(markup.words(f"{left_words(found)}.", "soft"))
     return "\n".join(lines)
 
 
-def compared(figures: Figures) -> list[tuple[str, float | None]]:
-    """The costs that are compared, all at the prices that the connection asks."""
+def compared(figures: Figures) -> list[tuple[str, float | None, float]]:
+    """The costs that are compared, all at the prices that the connection asks, and what is left in the batteries at the end of each."""
     return [
-        ("the run", figures.cost_at_connection),
-        ("by plain rules *", figures.cost_plain),
-        ("without batteries *", figures.cost_without_battery),
+        ("the run", figures.cost_at_connection, figures.left_value),
+        ("by plain rules *", figures.cost_plain, figures.left_plain_value or 0.0),
+        ("without batteries *", figures.cost_without_battery, 0.0),
     ]
+
+
+def left_words(found: Findings) -> str:
+    """What the batteries hold more or less at the end than at the begin, and what it is worth."""
+    figures = found.figures
+    more, value = figures.left_kWh, money_of(found.currency, abs(figures.left_value))
+    if not more:
+        return "The batteries hold as much at the end as at the begin"
+    return f"The batteries hold {hours(abs(more))} kWh {'more' if more > 0 else 'less'} at the end than at the begin: {value} at the mean price"
 
 
 def amount(currency: Currency, value: float | None) -> str:
@@ -91,6 +107,7 @@ def warnings(found: Findings) -> Iterator[str]:
         )
     if figures.bought_below_kWh:
         yield f"{hours(figures.bought_below_kWh)} of {hours(figures.bought_kWh)} kWh that were bought are billed below the connection's price of purchase."
+    yield from turning(found)
     idle = [name for name, battery in figures.batteries.items() if battery.cycles_a_day < FEW_CYCLES]
     if idle and found.run.cluster.minutes >= 1440:
         told = ", ".join(idle[:MOST_TOLD]) + (f" and {count(len(idle) - MOST_TOLD, 'more')}" if len(idle) > MOST_TOLD else "")
@@ -98,6 +115,28 @@ def warnings(found: Findings) -> Iterator[str]:
             f"Hardly used, with less than {FEW_CYCLES} cycles a day: {told}. A battery charges with its whole power or not at all, "
             "so a power that is left over and smaller than that charges none of it. Several small ones in its place can follow."
         )
+
+
+def turning(found: Findings) -> Iterator[str]:
+    """A warning of batteries that go from charging to discharging and back at almost each tick."""
+    uses = found.figures.batteries.items()
+    restless = sorted(((use, name) for name, use in uses if use.flips >= max(MOST_TURNS, OFTEN_TURNS * use.ticks)), key=lambda one: -one[0].flips)
+    if not restless:
+        return
+    (worst, name), more = restless[0], len(restless) - 1
+    told = f"{name} turned from charging to discharging or back at {worst.flips} of {worst.ticks} ticks, in {number(worst.cycles_a_day, 1)} cycles a day"
+    churned = sum(use.churned_kWh for use, _ in restless)
+    alike = f", and {count(more, 'other')} alike" if more else ""
+    yield (
+        f"{told}{alike}. "
+        f"{hours(churned)} kWh were taken and given back within an hour: they shifted nothing, and wear a battery. "
+        "A greater spread keeps it at rest between its prices, and slices or longer ticks make it turn less often."
+    )
+
+
+def share_words(share: float | None, what: str) -> str:
+    """A share of what was produced or consumed."""
+    return "not known" if share is None else f"{number(100 * share, 1)} % of what was {what}"
 
 
 def facts(found: Findings) -> Iterator[tuple[str, str]]:
@@ -113,10 +152,10 @@ def facts(found: Findings) -> Iterator[tuple[str, str]]:
         yield "Sold", f"{hours(figures.sold_kWh)} kWh"
         yield "Consumed", f"{hours(figures.consumed_kWh)} kWh"
         yield "Produced", f"{hours(figures.produced_kWh)} kWh"
-    if figures.self_consumption is not None:
-        yield "Self-consumption", f"{number(100 * figures.self_consumption, 1)} % of what was produced"
-    if figures.self_sufficiency is not None:
-        yield "Self-sufficiency", f"{number(100 * figures.self_sufficiency, 1)} % of what was consumed"
+    if figures.produced_kWh:
+        yield "Self-consumption", share_words(figures.self_consumption, "produced")
+    if figures.consumed_kWh:
+        yield "Self-sufficiency", share_words(figures.self_sufficiency, "consumed")
     for word, peak in (("Peak from outside", figures.peak_bought), ("Peak to outside", figures.peak_sold)):
         if peak.at is not None:
             yield word, f"{watts(peak.power_W)} at {moment(found, peak.at)}"

@@ -231,9 +231,12 @@ def use(found: Findings) -> Iterator[str]:
     figures, unit = found.figures, found.currency.unit
     tables = []
     if figures.cost_plain is not None:
-        rows = [["the market's bill", money(figures.cost)]]
-        rows += [[f"at the connection's prices, {name}", money(value or 0)] for name, value in compared(figures)]
-        tables.append(markup.table("What it costs, and would cost", ["cost", f"amount ({unit})"], rows))
+        costs = [("the market's bill", figures.cost, figures.left_value)]
+        costs += [(f"at the connection's prices, {name}", value or 0.0, left) for name, value, left in compared(figures)]
+        rows = [[name, money(value), money(left), money(value - left)] for name, value, left in costs]
+        head = ["cost", f"amount ({unit})", "left in batteries", "less what is left"]
+        tables.append(markup.table("What it costs, and would cost", head, rows) if figures.batteries else
+                      markup.table("What it costs, and would cost", head[:2], [row[:2] for row in rows]))
     if figures.batteries:
         head = ["battery", "charge, least (%)", "mean (%)", "greatest (%)", "at the end (%)", "cycles", "cycles a day"]
         use = [
@@ -254,8 +257,8 @@ def use(found: Findings) -> Iterator[str]:
     yield markup.beside(*tables) if len(tables) < 3 else markup.beside(tables[0] + tables[2], tables[1])
     yield markup.words(
         "Costs at the connection's prices: what the connection asks for the power that is bought or sold over each tick, as the program answers. "
-        "What a battery holds more or less at the end than at the begin is not paid for in any of them. "
-        "Of a battery, half of what it took and delivered counts as shifted."
+        "What the batteries hold more at the end than at the begin is worth the market's mean price, and stands beside each cost. "
+        "Of a battery, half of what it took and delivered counts as shifted, but not what it took and gave back within an hour."
     )
 
 
