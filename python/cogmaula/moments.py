@@ -45,6 +45,39 @@ def minutes_between(begin: datetime, end: datetime) -> float:
     return (end - begin) / timedelta(minutes=1)
 
 
+# The minutes of a day of a clock that is not changed.
+DAY = 1440
+
+
+def clock_marks(start: datetime, width: int, last: float) -> list[float]:
+    """When the clock of a start has moved on by so many minutes, again and again: the minutes that have passed then, above 0 and below a last.
+
+    Whole days count from midnight, and all else from the start. So a day of a clock that is changed has 23 or 25 hours. What a
+    clock leaves out has no mark, and of what it shows twice the first counts.
+    """
+    begin = start.replace(tzinfo=None)
+    if width % DAY == 0:
+        begin = datetime.combine(begin.date(), time())
+    found, at = list[float](), 0
+    # A clock is at most a day apart from one that is never changed.
+    while (shown := begin + timedelta(minutes=width * at)) - begin < timedelta(minutes=last + 2 * DAY):
+        moment = shown.replace(tzinfo=start.tzinfo)
+        passed = minutes_between(start, moment)
+        if 0 < passed < last and later(moment, 0).replace(tzinfo=None) == shown:
+            found.append(passed)
+        at += 1
+    return found
+
+
+def month_marks(start: datetime, last: float) -> list[float]:
+    """The minutes that have passed, from 0 to a last, when a month of the start's clock begins."""
+    found, year, month = list[float](), start.year, start.month
+    while (passed := minutes_between(start, datetime(year, month, 1, tzinfo=start.tzinfo))) <= last:
+        found += [passed] if passed >= 0 else []
+        year, month = year + month // 12, month % 12 + 1
+    return found
+
+
 def zone_of(name: str) -> ZoneInfo:
     """The time zone of a name such as Europe/Berlin. Raises ValueError if there is none."""
     try:

@@ -8,6 +8,7 @@ import sys
 import textwrap
 from dataclasses import replace
 from datetime import datetime
+from zoneinfo import ZoneInfo
 from fractions import Fraction
 from html import unescape
 from html.parser import HTMLParser
@@ -40,7 +41,8 @@ from cogmaula.report.long_course import Course
 from cogmaula.report.grouping import rows_of
 from cogmaula.report.markup import STYLE
 from cogmaula.report.svg import inline
-from cogmaula.report.charts import number, watts
+from cogmaula.moments import later
+from cogmaula.report.charts import Hours, number, watts
 from cogmaula.report.words import duration
 
 FEEDER = Cluster(
@@ -443,3 +445,45 @@ def test_runs_know_their_program(program: Program) -> None:
     """A run without ends has empty groups."""
     done = run(Cluster(Basis(0, 1, 2), [Limited("g", floor=0, ceiling=0)]), program=program)
     assert isinstance(done, Run) and groups_of(done, [])[0].violations == ()
+
+
+BERLIN = ZoneInfo("Europe/Berlin")
+
+
+def test_the_days_of_a_year_are_those_of_the_clock() -> None:
+    """By hand for Europe/Berlin in 2026: the 88th day has 23 hours, the 298th has 25, and all others begin at midnight."""
+    start = datetime(2026, 1, 1, tzinfo=BERLIN)
+    course = Course.of([15 * (at + 1) for at in range(35_040)], start)
+    lengths = numpy.diff(course.edges).tolist()
+    assert (len(lengths), lengths[87], lengths[297], sorted(set(lengths))) == (365, 23, 25, [23, 24, 25])
+    # Means of days are of calendar days: each row has the number of its day, and so has its mean.
+    days = numpy.array([later(start, 15 * at).timetuple().tm_yday for at in range(35_040)])
+    assert course.mean(days).tolist() == course.least(days).tolist() == course.greatest(days).tolist() == list(range(1, 366))
+    axis = Hours(start, course)
+    assert [axis.label(at) for at in axis.places()] == [f"1 {month}" for month in "Jan Mar May Jul Sep Nov Jan".split()]
+
+
+def test_bills_of_days_are_those_of_the_clock(program: Program) -> None:
+    """The day of the switch has 23 hours and so 23 kWh at 1 kW; hours are as long as ever; parts of a day go by the clock."""
+    one = Cluster(Basis(0, 9, 10), [Load("house", start=1000)])
+    done = run(one.with_phases(one.join_all(), *[Tick(60)] * 71), start=datetime(2026, 3, 28, tzinfo=BERLIN), program=program)
+    assert [span.bill.devices["house"].taken // 60_000 for span in bills_of(done, 1440)] == [24, 23, 24]
+    assert [span.end - span.begin for span in bills_of(done, 2880)] == [47 * 60, 24 * 60]
+    assert [(span.end - span.begin) // 60 for span in bills_of(done, 360)] == [6, 6, 6, 6, 5, 6, 6, 6, 6, 6, 6, 6]
+    assert {span.end - span.begin for span in bills_of(done, 60)} == {60}
+    # A run that begins at noon has half a day first.
+    late = run(done.cluster, start=datetime(2026, 3, 28, 12), program=program)
+    assert [(span.end - span.begin) // 60 for span in bills_of(late, 1440)] == [12, 24, 24, 11]
+
+
+@pytest.mark.parametrize(
+    ("day", "hours", "labels"),
+    [
+        ((2026, 3, 29), 23, ["00:00", "03:00", "06:00", "09:00", "12:00", "15:00", "18:00", "21:00", "00:00"]),
+        ((2026, 10, 25), 25, ["00:00", "06:00", "12:00", "18:00", "00:00"]),
+        ((2026, 6, 1), 24, ["00:00", "03:00", "06:00", "09:00", "12:00", "15:00", "18:00", "21:00", "00:00"]),
+    ],
+)
+def test_the_axis_of_a_day_of_the_switch_goes_by_the_clock(day: tuple[int, int, int], hours: int, labels: list[str]) -> None:
+    axis = Hours(datetime(*day, tzinfo=BERLIN), Course.of([60 * (at + 1) for at in range(hours)]))
+    assert [axis.label(at) for at in axis.places()] == labels

@@ -37,6 +37,8 @@ class Span:
 def bills_of(run: Run, minutes: int, connection: str | None = None) -> Iterator[Span]:
     """The bills of a run over spans of so many minutes, in order. It needs numpy, which comes with pandas.
 
+    Spans of more than an hour go by the clock of the run's start, and those of whole days from midnight to midnight.
+
     connection: a device whose account is one with that of the grid: together they are the supplier
 
     Raises ValueError if the minutes are below 1, what `Program.answer` raises, and ProgramFault if the spans do not add up to the bill
@@ -44,7 +46,7 @@ def bills_of(run: Run, minutes: int, connection: str | None = None) -> Iterator[
     """
     if minutes < 1:
         raise ValueError(f"a span of {minutes} minutes: a span has at least one")
-    spans = list(spans_of(intervals_of(run.cluster), minutes))
+    spans = list(spans_of(intervals_of(run.cluster), minutes, run.start))
     places = {int(end): at + 1 for at, end in enumerate(run.held.ends)}
     firsts = [places.get(begin, 0) for begin, *_ in spans]
     bills = run.held.bills(firsts)

@@ -20,7 +20,7 @@ from matplotlib.figure import Figure
 from matplotlib.patches import StepPatch
 from matplotlib.ticker import FixedLocator, FuncFormatter, MaxNLocator
 
-from ..moments import later
+from ..moments import clock_marks, later, month_marks
 from .long_course import Course
 from .svg import COLOURS, LIMIT, LINE, SETTINGS, new_figure
 
@@ -28,6 +28,8 @@ from .svg import COLOURS, LIMIT, LINE, SETTINGS, new_figure
 MOST_STACKED = 8
 # So many limited groups' prices are drawn beside that of the market.
 MOST_LINES = 7
+# The distances of labels that go by the clock: whole hours, and days.
+WHOLE_HOURS = (1, 2, 3, 6, 12, 24, 48, 96, 168)
 # So many names are beside each other above a figure.
 MOST_BESIDE = 3
 
@@ -53,16 +55,21 @@ class Hours:
         return f"{day}\n{time:%H:%M}" if time.hour or time.minute else day
 
     def places(self) -> list[float]:
-        """Where the axis has labels, at most nine: at equal distances, or of more than two months at the firsts of months."""
+        """Where the axis has labels, at most nine: at equal distances of the clock, or of more than two months at the firsts of months."""
         last = float(self.edges[-1])
         if last > 60 * 24:
-            days = range(int(last // 24) + 1)
-            # From the first midnight on, by the calendar.
-            midnight = -(self.start.hour + self.start.minute / 60) % 24
-            firsts = [midnight + 24 * day for day in days if later(self.start, round((midnight + 24 * day) * 60)).day == 1]
-            return [first for first in firsts[:: 1 + (len(firsts) - 1) // 9] if first <= last]
+            firsts = [passed / 60 for passed in month_marks(self.start, last * 60)]
+            return firsts[:: 1 + (len(firsts) - 1) // 9]
         width = next((width for width in (0.25, 0.5, 1, 2, 3, 6, 12, 24, 48, 96, 168) if last / width <= 8.01), last / 8)
-        return [float(tick) for tick in numpy.arange(0, last + width / 100, width)]
+        if width not in WHOLE_HOURS:
+            return [float(tick) for tick in numpy.arange(0, last + width / 100, width)]
+        # The end of the axis has a label too.
+        marks = [passed / 60 for passed in clock_marks(self.start, round(width * 60), last * 60 + 0.5)]
+        return marks if width >= 24 and not self._begins_at_midnight else [0.0, *marks]
+
+    @property
+    def _begins_at_midnight(self) -> bool:
+        return (self.start.hour, self.start.minute) == (0, 0)
 
 
 def number(value: float, digits: int = 0) -> str:

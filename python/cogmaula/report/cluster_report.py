@@ -92,7 +92,7 @@ def findings_of(
         connection,
         bill_with_supplier(done, connection),
         figures_of(done, connection, currency),
-        Course.of([interval.end for interval in intervals]),
+        Course.of([interval.end for interval in intervals], done.start),
         tuple(intervals),
         tuple(groups_of(done, intervals)),
         tuple(spans),

@@ -4,9 +4,15 @@ from __future__ import annotations
 
 from collections.abc import Iterator, Sequence
 from dataclasses import dataclass
+from datetime import datetime
 
 from ..cluster import Cluster
+from ..data_frames import START
+from ..moments import clock_marks
 from ..phases import Tick
+
+# Spans of so many minutes at most are equally long, whatever the clock shows.
+HOUR = 60
 
 
 @dataclass(frozen=True)
@@ -32,14 +38,26 @@ def intervals_of(cluster: Cluster) -> list[Interval]:
     return found
 
 
-def spans_of(intervals: Sequence[Interval], minutes: int) -> Iterator[tuple[int, int, int, int]]:
+def spans_of(intervals: Sequence[Interval], minutes: int, start: datetime = START) -> Iterator[tuple[int, int, int, int]]:
     """The intervals in spans of so many minutes: the begin and the end of each, its first phase, and the one behind its last.
 
     Phases count from 0. The phases of events before a tick belong to the span of the tick.
     A span is made of whole ticks. If a tick goes past the end of a span, the span goes with it.
+    Spans of more than an hour go by the clock of the start, and whole days from midnight to midnight.
     """
     begin = first = 0
+    marks = iter(ends_of_spans(minutes, intervals[-1].end, start) if intervals else ())
+    mark = next(marks, 0.0)
     for at, interval in enumerate(intervals):
-        if interval.end >= (begin // minutes + 1) * minutes or at == len(intervals) - 1:
+        if interval.end >= mark or at == len(intervals) - 1:
             yield begin, interval.end, first, interval.phases + 1
             begin, first = interval.end, interval.phases + 1
+            while mark <= begin and at < len(intervals) - 1:
+                mark = next(marks)
+
+
+def ends_of_spans(minutes: int, last: int, start: datetime) -> Sequence[float]:
+    """The minutes after the start at which spans end, the last of them at the end of all."""
+    if minutes <= HOUR:
+        return range(minutes, last + minutes, minutes)
+    return [*clock_marks(start, minutes, last), float(last)]

@@ -4,9 +4,13 @@ from __future__ import annotations
 
 from collections.abc import Sequence
 from dataclasses import dataclass
+from datetime import datetime
 from typing import Any
 
 import numpy
+
+from ..data_frames import START
+from ..moments import DAY, clock_marks
 
 # Above so many intervals a figure shows means. They are of hours, and of days if there are more hours than this.
 MOST_INTERVALS = 2000
@@ -26,13 +30,15 @@ class Course:
     word: str
 
     @staticmethod
-    def of(ends: Sequence[float]) -> Course:
-        """The course of intervals that end so many minutes after the start."""
+    def of(ends: Sequence[float], start: datetime = START) -> Course:
+        """The course of intervals that end so many minutes after the start. Days are those of the start's clock."""
         fine = numpy.array([0, *ends]) / 60
         if len(ends) <= MOST_INTERVALS:
             return Course(fine, fine, "")
-        width, word = (1, "hour") if fine[-1] <= MOST_INTERVALS else (24, "day")
-        return Course(fine, numpy.unique([*numpy.arange(0, fine[-1], width), fine[-1]]), word)
+        if fine[-1] <= MOST_INTERVALS:
+            return Course(fine, numpy.unique([*numpy.arange(0, fine[-1], 1), fine[-1]]), "hour")
+        midnights = numpy.array(clock_marks(start, DAY, float(fine[-1]) * 60)) / 60
+        return Course(fine, numpy.array([0, *midnights, fine[-1]]), "day")
 
     def mean(self, values: Any) -> Any:
         """The mean over the time of each interval that is shown; values are in the last axis."""

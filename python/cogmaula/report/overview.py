@@ -23,7 +23,7 @@ def draw_overview(run: Run, connection: str | None = None) -> Figure:
     if connection is not None:
         connection_in(run.cluster, connection)
     held = run.held
-    hours = Hours(run.start, Course.of(held.ends.tolist() or [1]))
+    hours = Hours(run.start, Course.of(held.ends.tolist() or [1], run.start))
     with matplotlib.rc_context(SETTINGS):
         figure = Figure(figsize=(9, 7.5), layout="constrained")
         price, devices, outside = figure.subplots(3, 1, sharex=True)
