@@ -2,7 +2,7 @@
 
 A `Program` is only ever one that was proved: the installed command, whose installer takes no other, or the program of a
 checkout whose stamp says that it was proved from the sources of today, there or by the gate elsewhere. Nothing here can tell
-whether a program that is named by a path was proved: who names it has to know. `live_command` finds the program `live` of the nodes.
+whether a program that is named by a path was proved: who names it has to know. `live_program` finds the program `live` of the nodes.
 """
 
 from __future__ import annotations
@@ -11,6 +11,7 @@ import os
 import re
 import shutil
 import subprocess
+from collections.abc import Callable
 from contextlib import nullcontext
 from dataclasses import dataclass, field
 from functools import cache
@@ -23,6 +24,8 @@ from .errors import Invalid, MarketError, NoProgram, OutOfMemory, Place, Program
 VARIABLE, LIVE_VARIABLE = "COGMAULA_MARKET", "COGMAULA_LIVE"
 # Where a checkout has its program: proved here, or prebuilt.
 PLACES = ("crates/{0}/out/{0}", "prebuilt/x86_64-linux/{0}")
+# The folder of a release's programs in `prebuilt`.
+HERE = "x86_64-linux"
 REFUSED = re.compile(rb"refused (\d+) (document|basis|node|phase|event|line)((?: \d+)*?)(?: item (\d+))?\n")
 TOO_LONG = re.compile(rb"too long, more than (\d+) bytes\n")
 INVALID = re.compile(rb"invalid line (\d+)\n")
@@ -53,7 +56,7 @@ class Program:
         3. the installed command `market` on the PATH;
         4. the checkout that this package lies in.
 
-        A path is that of the installed command, of a checkout or its script, or of the program itself.
+        A path is that of the installed command, of a checkout or its script, of the program itself, or of a folder that has it.
 
         Raises NoProgram if none is proved there.
         """
@@ -164,20 +167,35 @@ def _is_checkout(folder: Path) -> bool:
     return all((folder / word).is_file() for word in ("market", "crates.txt", "script/program.sh"))
 
 
-def _named(path: Path) -> Program:
-    """The program that a user's path names."""
+def _checkout_of(path: Path) -> Path | None:
+    """The checkout that a path names: itself, its script, or one of its programs; None if it is no checkout's."""
     if _is_checkout(path):
-        return _of_checkout(path)
+        return path
+    real = path.resolve()
+    if _is_checkout(real) or (_is_checkout(real.parent) and real.name == "market"):
+        return real if _is_checkout(real) else real.parent
+    for place in PLACES:
+        for name in ("market", "live"):
+            inner = Path(place.format(name))
+            above = real.parents[len(inner.parts) - 1] if len(real.parts) > len(inner.parts) else None
+            if above is not None and real == above / inner and _is_checkout(above):
+                return above
+    return None
+
+
+def _named(path: Path) -> Program:
+    """The program that a user's path names: a checkout, an installed command, a program, or a folder that has one."""
     if not path.exists():
         raise NoProgram(f"{path} does not exist")
+    checkout = _checkout_of(path)
+    if checkout is not None:
+        return _of_checkout(checkout)
+    if path.is_dir():
+        for place in (path / "market", path / HERE / "market"):
+            if place.is_file():
+                return _named(place)
+        raise NoProgram(f"{path} is no program: a folder without market, and no checkout")
     real = path.resolve()
-    if _is_checkout(real.parent) and real.name == "market":
-        return _of_checkout(real.parent)
-    for place in PLACES:
-        inner = Path(place.format("market"))
-        above = real.parents[len(inner.parts) - 1] if len(real.parts) > len(inner.parts) else None
-        if above is not None and real == above / inner and _is_checkout(above):
-            return _of_checkout(above)
     return _installed(real) or _made(real, f"named as {path}")
 
 
@@ -231,15 +249,79 @@ def _beside_package() -> Program:
     return _of_checkout(folder)
 
 
-def live_command() -> str:
-    """The program `live`, looked for in this order: the environment variable COGMAULA_LIVE, `live` on the PATH, the checkout that this
-    package lies in. If there is none, it is the name `live`, which then cannot be started."""
+def live_program(program: Program | None = None) -> str:
+    """The program `live`, looked for in this order:
+
+    1. the path in the environment variable COGMAULA_LIVE;
+    2. `live` on the PATH;
+    3. beside this program `market`, or beside that of COGMAULA_MARKET, or beside the installed command;
+    4. the checkout that this package lies in.
+
+    A path is that of the program, of a checkout or of a folder that has it. Raises NoProgram, which says where it looked.
+    """
     named = os.environ.get(LIVE_VARIABLE)
-    if named or shutil.which("live"):
-        return named or "live"
+    if named:
+        return live_at(named)
+    if found := shutil.which("live"):
+        return found
+    looked = ["no command live is on the PATH"]
+    looks: list[Callable[[], str]] = [_market_named, lambda: _on_path().path, _own_checkout]
+    # What answers as a program may have no path.
+    if (beside := getattr(program, "path", None)) is not None:
+        looks.insert(0, lambda: str(beside))
+    for look in looks:
+        try:
+            return _live_beside(Path(look()))
+        except NoProgram as error:
+            looked.append(str(error))
+    told = "; ".join(dict.fromkeys(looked))
+    raise NoProgram(f"no program live is at hand: {told}. Install market, prove it by ./market prove live, or name it by --live or {LIVE_VARIABLE}")
+
+
+def live_at(path: str) -> str:
+    """The program `live` that a path names: the program, a checkout or a folder that has it. Raises NoProgram.
+
+    A path that is no folder is left as it is, since it may be a command on the PATH.
+    """
+    return _live_beside(Path(path).absolute()) if Path(path).is_dir() else path
+
+
+def _market_named() -> str:
+    """The path in COGMAULA_MARKET."""
+    named = os.environ.get(VARIABLE)
+    if not named:
+        raise NoProgram(f"{VARIABLE} is not set")
+    return named
+
+
+def _own_checkout() -> str:
+    """The checkout that this package lies in."""
     folder = Path(__file__).resolve().parents[2]
+    if not _is_checkout(folder):
+        raise NoProgram("the package lies in no checkout")
+    return str(folder)
+
+
+def _live_beside(path: Path) -> str:
+    """The program `live` of a checkout, or beside a program `market` or an installed command. Raises NoProgram."""
+    if not path.exists():
+        raise NoProgram(f"{path} does not exist")
+    checkout = _checkout_of(path)
+    if checkout is not None:
+        return _of_checkout(checkout, "live").path
+    real = path.resolve()
+    installed = None if real.is_dir() else _installed(real)
+    places = [folder / "live" for folder in ([real, real / HERE] if real.is_dir() else [Path(installed.path if installed else real).parent])]
+    for place in places:
+        if place.is_file() and os.access(place, os.X_OK):
+            return str(place)
+    raise NoProgram(f"there is no {places[0]}")
+
+
+def live_command() -> str:
+    """The program that `live_program` finds; the name `live` if there is none, which then cannot be started."""
     try:
-        return _of_checkout(folder, "live").path if _is_checkout(folder) else "live"
+        return live_program()
     except NoProgram:
         return "live"
 

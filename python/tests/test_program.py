@@ -15,8 +15,9 @@ from pathlib import Path
 import pytest
 from conftest import CASES, EXAMPLES, TOP
 
-from cogmaula import Invalid, MarketError, NoProgram, OutOfMemory, Place, Program, ProgramFault, Refused, TooLong, Unreadable
-from cogmaula.program import LIVE_VARIABLE, VARIABLE, found_program, live_command
+from cogmaula import Basis, Invalid, MarketError, NoProgram, OutOfMemory, Place, Program, ProgramFault, Refused, TooLong, Unreadable
+from cogmaula.program import LIVE_VARIABLE, VARIABLE, found_program, live_at, live_command, live_program
+from cogmaula.simulation import Manual, simulate
 
 FILE = (EXAMPLES / "balance.json").read_bytes()
 REPORT = (EXAMPLES / "balance.txt").read_bytes()
@@ -110,6 +111,7 @@ def test_a_prebuilt_program_of_the_sources(tmp_path, monkeypatch):
     # The program of the nodes.
     monkeypatch.setattr("cogmaula.program.__file__", str(folder / "python/cogmaula/program.py"))
     monkeypatch.delenv(LIVE_VARIABLE, raising=False)
+    monkeypatch.delenv(VARIABLE)
     monkeypatch.setenv("PATH", "/usr/bin:/bin")
     assert live_command() == str(place / "live")
     monkeypatch.setenv(LIVE_VARIABLE, "/opt/live")
@@ -122,6 +124,44 @@ def test_a_prebuilt_program_of_the_sources(tmp_path, monkeypatch):
     with pytest.raises(NoProgram, match="no program is proved here"):
         Program.find(place / "market")
     assert live_command() == "live"
+
+
+@pytest.mark.parametrize("place", [".", "market", "prebuilt", "prebuilt/x86_64-linux", "prebuilt/x86_64-linux/market"])
+def test_the_documented_install_can_simulate(checkout, place, tmp_path, monkeypatch):
+    """The package is installed elsewhere, and COGMAULA_MARKET names a checkout or a folder: `live` is found beside the market.
+
+    At price 8 the bid is 5 - 40/9 W, less than one.
+    """
+    pretend_installed(tmp_path, monkeypatch)
+    monkeypatch.setenv(VARIABLE, str(TOP / place))
+    assert Program.find() == checkout
+    assert Path(live_program()).name == "live" and live_command() == live_program()
+    assert simulate([Manual("a", [(0, 5), (9, 0)])], Basis(0, 9, 10), ticks=1).ends[0].price == 8
+
+
+def pretend_installed(tmp_path, monkeypatch):
+    """Only the environment may name a program."""
+    monkeypatch.delenv(LIVE_VARIABLE, raising=False)
+    monkeypatch.setenv("PATH", "/usr/bin:/bin")
+    monkeypatch.setattr("cogmaula.program.__file__", str(tmp_path / "a/b/c/program.py"))
+    found_program.cache_clear()
+
+
+def test_programs_of_a_folder_of_ones_own(program, tmp_path, monkeypatch):
+    """A folder with both programs, named for the market or for live; `live` also beside a program that is named by `program`."""
+    pretend_installed(tmp_path, monkeypatch)
+    monkeypatch.delenv(VARIABLE)
+    shutil.copy(program.path, tmp_path / "market")
+    with pytest.raises(NoProgram, match=f"no program live is at hand: no command live is on the PATH; there is no {tmp_path}/live; .*name it by --live"):
+        live_program(Program.find(tmp_path))
+    script(tmp_path / "live", "#!/bin/sh\n")
+    assert Program.find(tmp_path).path == str(tmp_path / "market")
+    assert live_program(Program.find(tmp_path)) == live_at(str(tmp_path)) == str(tmp_path / "live")
+    monkeypatch.setenv(LIVE_VARIABLE, str(tmp_path))
+    assert live_program() == str(tmp_path / "live")
+    monkeypatch.delenv(LIVE_VARIABLE)
+    with pytest.raises(NoProgram, match=f"{VARIABLE} is not set; no command market is on the PATH; the package lies in no checkout"):
+        live_program()
 
 
 def test_a_prebuilt_program_of_other_bytes(tmp_path):

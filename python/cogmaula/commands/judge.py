@@ -7,7 +7,7 @@ import json
 import sys
 
 from .. import cli
-from ..program import LIVE_VARIABLE, live_command
+from ..program import LIVE_VARIABLE, live_at, live_program
 
 HELP = "judges the recordings of the nodes of a market across machines"
 MORE = (
@@ -30,7 +30,7 @@ def main(arguments: argparse.Namespace) -> int:
     """Judges the folder."""
     from ..judge import judge, judge_and_trace
 
-    live = arguments.live or live_command()
+    live = live_at(arguments.live) if arguments.live else live_program()
     traced = None
     if arguments.trace is None:
         verdict = judge(arguments.folder, live)

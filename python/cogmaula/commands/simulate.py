@@ -10,7 +10,7 @@ from .. import cli, logs
 from ..cluster import Cluster, bytes_of
 from ..live.node_errors import BadSettings
 from ..live.page_settings import PageSettings
-from ..program import LIVE_VARIABLE, live_command
+from ..program import LIVE_VARIABLE, live_at, live_program
 from .hub import allow_files
 
 HELP = "lets a cluster file live: its devices as models in a market of proved nodes, by the clock"
@@ -56,7 +56,7 @@ def main(arguments: argparse.Namespace) -> int:
         print(f"cogmaula: {_clears_otherwise(limited)}", file=sys.stderr)
     try:
         page = None if arguments.page is None else PageSettings(arguments.page)
-        living = LivingCluster(cluster, arguments.live or live_command(), speed=arguments.speed, page=page, tell=_tell)
+        living = LivingCluster(cluster, live_at(arguments.live) if arguments.live else live_program(), speed=arguments.speed, page=page, tell=_tell)
     except BadSettings as error:
         print(f"cogmaula: {error}", file=sys.stderr)
         return cli.MISUSED

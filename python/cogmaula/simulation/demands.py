@@ -13,7 +13,7 @@ from types import TracebackType
 
 from ..cluster import Basis
 from ..live.frames import BASIS, AnyOffer, Bid, DeviceResume, Gone, Hello, Leave, Offer, ResumeGone, frames_of, size_of
-from ..program import live_command
+from ..program import Program, live_at, live_program
 from .device import Demands
 from .streams import LONGEST, ROOM, Stream, open_live
 
@@ -36,14 +36,14 @@ class _Agent(Stream):
 class BidMaker:
     """Makes demands of offers, from its start to its end: `with BidMaker(basis) as maker`."""
 
-    def __init__(self, basis: Basis, live: str | None = None) -> None:
-        """Takes the basis of the market, and the program `live`, by default that of the install or the checkout.
+    def __init__(self, basis: Basis, live: str | None = None, program: Program | None = None) -> None:
+        """Takes the basis of the market, and the program `live`, by default the one beside the program of the market.
 
-        The program is started by the first offer that is none by demands.
+        The program is looked for and started by the first offer that is none by demands.
         """
         self._hello = Hello(basis.min, basis.max, basis.steps).to_bytes()
-        self._agent = _Agent(live or live_command())
-        self._has_begun = False
+        self._live, self._program = live, program
+        self._agent: _Agent | None = None
         self._written = 0
         # To an offer come a Resume and a Bid, and to a Leave a ResumeGone and a Gone.
         self._answer = struct.Struct(f">BII{BASIS}{basis.steps}iBHI{basis.steps}i")
@@ -59,7 +59,7 @@ class BidMaker:
 
     def close(self) -> None:
         """Ends its process."""
-        if self._has_begun:
+        if self._agent is not None:
             self._agent.close()
 
     def demands(self, offers: Mapping[str, AnyOffer]) -> dict[str, Demands]:
@@ -73,13 +73,20 @@ class BidMaker:
         self._made |= {name: (offer, given[name]) for name, offer in new.items()}
         return {name: self._made[name][1] for name in offers}
 
+    def _started(self) -> _Agent:
+        """A new process. Raises NoProgram and ProgramFault."""
+        self._agent = None
+        agent = _Agent(live_at(self._live) if self._live else live_program(self._program))
+        agent.start()
+        return agent
+
     def _ask(self, offers: Sequence[AnyOffer]) -> list[Demands]:
         """The demands of as many offers as an agent keeps."""
         data = b"".join(frame.to_bytes() for offer in offers for frame in frames_of(offer)) + Leave().to_bytes()
-        if not self._has_begun or self._written + len(data) > LONGEST - ROOM:
+        if self._agent is None or self._written + len(data) > LONGEST - ROOM:
             self.close()
-            self._agent.start()
-            self._has_begun, self._written, data = True, 0, self._hello + data
+            self._agent, data = self._started(), self._hello + data
+            self._written = 0
         self._written += len(data)
         self._agent.write(data)
         answers = self._agent.read_all(len(offers) * self._answer.size)

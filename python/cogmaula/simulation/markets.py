@@ -16,7 +16,7 @@ from typing import TypeGuard
 
 from ..cluster import Basis
 from ..live.frames import CHILDREN, WRITES, Bid, Clear, Fault, Frame, Hello, Price, RelayResume, Send, Splitter, are_limits
-from ..program import Program, chosen, live_command
+from ..program import Program, chosen, live_at, live_program
 from .device import Demands
 from .streams import LONGEST, PIECE, ROOM, Stream, open_live
 
@@ -193,7 +193,7 @@ class Market:
         devices: the names of all devices
         groups:  which of them are held within limits together; a device is in one group at most
         program: the proved program, by default the one that `Program.find()` finds
-        live:    the program of the groups' relays, by default that of the install or the checkout
+        live:    the program of the groups' relays, by default the one beside the program of the market
 
         Raises ValueError for names and groups that do not fit, NoProgram and ProgramFault.
         """
@@ -207,8 +207,9 @@ class Market:
             self._auctioneer = _Auctioneer(chosen(program), basis)
             stack.callback(self._auctioneer.close)
             self._relays: dict[str, _Relay] = {}
+            found = "" if not groups else live_at(live) if live else live_program(program)
             for child, group in enumerate(groups, 1):
-                self._relays[group.name] = _Relay(group, child, basis, live or live_command())
+                self._relays[group.name] = _Relay(group, child, basis, found)
                 stack.callback(self._relays[group.name].close)
             self._stack = stack.pop_all()
 

@@ -56,7 +56,7 @@ def simulate(
     groups:    devices that are held within limits together
     keep_bids: whether `cluster` of the result has what was bid, which takes much memory
     program:   the proved program, by default the one that `Program.find()` finds
-    live:      the proved program of the groups' relays and of bids by points or by a state, by default that of the install or the checkout
+    live:      the proved program of the groups' relays and of bids by points or by a state, by default the one beside the program of the market
 
     Raises BadBid if a device bids what no market takes, ValueError for names, groups and counts that do not fit, NoProgram and
     ProgramFault.
@@ -65,7 +65,7 @@ def simulate(
         raise ValueError(f"{ticks} ticks of {minutes} minutes: give 1 or more of each")
     begin, names = moment_of(start, data_frames.START), [device.name for device in devices]
     rows: list[_Row] = []
-    with Market(basis, names, groups, program=program, live=live) as market, BidMaker(basis, live) as maker:
+    with Market(basis, names, groups, program=program, live=live) as market, BidMaker(basis, live, program) as maker:
         for tick in range(ticks):
             now = later(begin, tick * minutes)
             bids = tuple(maker.demands({device.name: offer_of(device.bid(now), basis, device.name) for device in devices}).values())
