@@ -48,18 +48,23 @@ class Guard:
         """Takes the limits and a log. Nothing is written before the first setpoint, or `silence`."""
         self._limits = limits
         self._log = log
-        self._heard = now
+        self._ends = now + limits.silence
+        self._ended = f"no setpoint came for {limits.silence:g} s"
         self._wanted: int | None = None
         self.is_silent = False
         # What was written last, and when; and since when it runs or rests, as far as that is known.
         self.written: int | None = None
         self._written_at = self._since = -float("inf")
-        self._is_lost = False
+        self.is_lost = False
         self._warned = ""
 
-    def hear(self, power: int, now: float) -> None:
-        """Takes a setpoint of the market."""
-        self._heard, self._wanted = now, power
+    def hear(self, power: int, now: float, holds: float | None = None) -> None:
+        """Takes a setpoint of the market, which holds for so many seconds, and never longer than `silence`."""
+        if holds is None or holds >= self._limits.silence:
+            holds, self._ended = self._limits.silence, f"no setpoint came for {self._limits.silence:g} s"
+        else:
+            self._ended = "the setpoint has ended, and no newer one came"
+        self._ends, self._wanted = now + holds, power
         if self.is_silent:
             self.is_silent = False
             self._log.info("a setpoint has come: the fallback is over")
@@ -67,15 +72,20 @@ class Guard:
         self._warn_once("" if bounded == power else f"the setpoint is {power} W, and the device takes {bounded} W: it is within {self._range}")
 
     def fall_back(self, why: str) -> None:
-        """Takes the market's word that it is silent."""
+        """Takes the market's word that it is silent, or that the device leaves it."""
         if not self.is_silent:
             self.is_silent = True
             self._log.warning(f"{why}: the device takes its fallback, {self._limits.fallback} W")
 
+    @property
+    def has_fallen_back(self) -> bool:
+        """Whether the device has its fallback, as far as is known: only then it may leave the market."""
+        return self.is_silent and self.written == self._limits.fallback and not self.is_lost
+
     def due(self, now: float) -> int | None:
         """The power that has to be written now, in watts, None if nothing has to."""
-        if now - self._heard >= self._limits.silence:
-            self.fall_back(f"no setpoint came for {self._limits.silence:g} s")
+        if now >= self._ends:
+            self.fall_back(self._ended)
         if self.is_silent:
             return self._if_new(self._limits.fallback, now)
         if self._wanted is None or now - self._written_at < self._limits.pace:
@@ -85,19 +95,19 @@ class Guard:
         return self._if_new(power, now)
 
     def _if_new(self, power: int, now: float) -> int | None:
-        """The power, None if the device has it."""
-        is_known = power == self.written and not self._is_lost and now - self._written_at < self._limits.renew
-        return None if is_known else power
+        """The power, None if the device has it. A device that may have lost it gets it again at its pace."""
+        again = self._limits.pace if self.is_lost else self._limits.renew
+        return None if power == self.written and now - self._written_at < again else power
 
     def wrote(self, power: int, now: float) -> None:
         """Notes that the device has this power now."""
         if self.written is None or bool(power) != bool(self.written):
             self._since = now
-        self.written, self._written_at, self._is_lost = power, now, False
+        self.written, self._written_at, self.is_lost = power, now, False
 
     def lose(self) -> None:
         """Notes that the device may have lost what was written, since it did not answer."""
-        self._is_lost = True
+        self.is_lost = True
 
     def fixed(self, now: float) -> int | None:
         """The power that the device has to offer at every price, since it may not yet stop or start; None if it is free."""

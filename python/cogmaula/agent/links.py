@@ -10,7 +10,7 @@ import socket
 import ssl
 import threading
 import time
-from collections.abc import Callable
+from collections.abc import Callable, Mapping
 from dataclasses import dataclass
 from datetime import datetime, timezone
 from pathlib import Path
@@ -34,10 +34,16 @@ AGAIN, WRITTEN, SILENCE, PIECE = 2.0, 5.0, 120.0, 65_536
 
 @dataclass(frozen=True)
 class Setpoint:
-    """The market's word: take so many watts. `price` is in price units."""
+    """The market's word: take so many watts. `price` is in price units.
+
+    holds:     for how many seconds from now, None if that was not told
+    reference: the number of the offer that it answers, None if that was not told
+    """
 
     power: int
     price: int
+    holds: float | None = None
+    reference: int | None = None
 
 
 @dataclass(frozen=True)
@@ -64,8 +70,8 @@ class Link(Protocol):
     def start(self, take: Callable[[Word], None], log: NodeLog) -> None:
         """Calls `take` with each word of the market from now on, from any thread; first of all with the basis."""
 
-    def offer(self, offer: AnyOffer | None) -> None:
-        """Offers this, None to leave. The newest offer counts, also after a connection was lost."""
+    def offer(self, offer: AnyOffer | None) -> int:
+        """Offers this, None to leave, and gives the offer's number. The newest offer counts, also after a connection was lost."""
 
     def close(self) -> None:
         """Ends the connection."""
@@ -94,7 +100,7 @@ class HubLink:
         self._host, self._port = host.strip("[]"), int(port)
         self._lock = threading.Lock()
         self._newest: bytes | None = None
-        self._number = 0
+        self._number = first_number()
         self._is_new = self._is_closed = False
         # A byte here wakes the thread.
         self._wakes, self._woken = socket.socketpair()
@@ -107,12 +113,14 @@ class HubLink:
         self._thread = threading.Thread(target=self._work, daemon=True)
         self._thread.start()
 
-    def offer(self, offer: AnyOffer | None) -> None:
+    def offer(self, offer: AnyOffer | None) -> int:
         """See Link."""
         with self._lock:
             self._number += 1
-            self._newest, self._is_new = b"".join(json.dumps(words).encode() + b"\n" for words in _words_of(offer, self._number)), True
+            number = self._number
+            self._newest, self._is_new = b"".join(json.dumps(words).encode() + b"\n" for words in _words_of(offer, number)), True
         self._wake()
+        return number
 
     def close(self) -> None:
         """See Link. What was offered last is sent before."""
@@ -207,7 +215,7 @@ class HubLink:
         update, market = told.get("priceUpdate"), told.get("marketUpdate")
         if isinstance(update, dict):
             try:
-                self._take(Setpoint(int(update["power"]), int(update["price"])))
+                self._take(setpoint_of(update, "bidNumber", is_kept=False))
             except (KeyError, TypeError, ValueError):
                 raise BadMessage("a priceUpdate of the hub has no power or no price") from None
         elif isinstance(market, dict) and market.get("market") == "silent":
@@ -242,6 +250,25 @@ def _words_of(offer: AnyOffer | None, number: int) -> list[dict[str, Any]]:
     return [*kinds, {"bidUpdate": {"bidNumber": number, **bid}}]
 
 
+def first_number() -> int:
+    """A number before those of this run's offers: above those of runs before, unless the clock was set back meanwhile."""
+    return time.time_ns() // 1_000_000
+
+
+def setpoint_of(told: Mapping[str, Any], reference: str, is_kept: bool) -> Setpoint:
+    """The setpoint that members tell. Raises KeyError, TypeError, ValueError and BadMessage.
+
+    reference: the member with the number of the offer that it answers
+    is_kept:   whether a broker had kept it, and nobody knows for how long; then the clock of the day says what is left of it
+    """
+    holds, number = told.get("holds"), told.get(reference)
+    seconds = None if holds is None else float(holds)
+    if is_kept:
+        left = (time_of(told["until"]) - datetime.now(timezone.utc)).total_seconds()
+        seconds = left if seconds is None else min(seconds, left)
+    return Setpoint(int(told["power"]), int(told["price"]), seconds, None if number is None else int(number))
+
+
 class NodeLink:
     """The topics of the device's node at a broker: the agent is its control. See Link."""
 
@@ -252,6 +279,7 @@ class NodeLink:
         self._node, self._topics = node, {kind: f"{prefix}/{name}" for kind, name in kinds.items()}
         self._states = NodeStates(Topics(prefix), lambda topic: self._client.also_read(topic))
         self._newest: queue.Queue[str | None] = queue.Queue()
+        self._number = first_number()
         self._sending: threading.Thread | None = None
 
     def start(self, take: Callable[[Word], None], log: NodeLog) -> None:
@@ -261,9 +289,12 @@ class NodeLink:
         self._sending = threading.Thread(target=self._send_all, daemon=True)
         self._sending.start()
 
-    def offer(self, offer: AnyOffer | None) -> None:
+    def offer(self, offer: AnyOffer | None) -> int:
         """See Link."""
-        self._newest.put(json.dumps(members_of(Leave() if offer is None else offer)))
+        self._number += 1
+        words = members_of(Leave()) if offer is None else {**members_of(offer), "reference": self._number}
+        self._newest.put(json.dumps(words))
+        return self._number
 
     def _send_all(self) -> None:
         """Publishes the newest offer until the broker has it."""
@@ -283,9 +314,10 @@ class NodeLink:
                 self._take(Basis(told["min"], told["max"], told["steps"]))
             elif told.get("market") == "silent":
                 self._take(Silent(f"the market is silent ({told.get('why', 'no word why')})"))
-            elif "power" in told and not (retained and time_of(told["until"]) < datetime.now(timezone.utc)):
-                # One that the broker has kept may be of a node that has died since.
-                self._take(Setpoint(int(told["power"]), int(told["price"])))
+            elif "power" in told:
+                setpoint = setpoint_of(told, "reference", is_kept=retained)
+                if setpoint.holds is None or setpoint.holds > 0:
+                    self._take(setpoint)
         except (BadMessage, KeyError, TypeError, ValueError) as error:
             self._log.warning(f"{topic} is not taken: {error}")
 

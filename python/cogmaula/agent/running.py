@@ -9,8 +9,9 @@ import time
 from dataclasses import dataclass
 from datetime import datetime
 
+from .. import clock
 from ..cluster import Basis
-from ..live.frames import AnyOffer
+from ..live.frames import AnyOffer, Offer
 from ..logs import NodeLog
 from ..simulation.device import BadBid, offer_of
 from .guard import Guard
@@ -21,6 +22,8 @@ from .device_values import NoReading, NotWritten
 
 # The least and the greatest seconds between looks at the clock, and between tries to write what was not written.
 LEAST_LOOK, MOST_LOOK, AGAIN = 0.02, 0.5, 1.0
+# The seconds in which an agent that ends tries to give its device the fallback.
+LAST_SECONDS = 3.0
 
 
 @dataclass(frozen=True)
@@ -40,7 +43,8 @@ class Agent:
         self._source: Access | None = None if settings.state is None else settings.access(settings.state)
         self._sink: Access = settings.access(settings.setpoint)
         self._link = settings.link()
-        self._guard = Guard(settings.limits, self._log, time.monotonic())
+        self._begun = clock.now()
+        self._guard = Guard(settings.limits, self._log, self._begun)
         self._words: queue.SimpleQueue[Word | TakesPart | None] = queue.SimpleQueue()
         self._is_over = threading.Event()
         self._said: dict[str, str] = {}
@@ -52,12 +56,18 @@ class Agent:
         self._price: int | None = None
         self._standing: Standing | None = None
         self._takes_part = True
+        # What keeps the device out of the market, "" while it takes part; and whether the market knows.
+        self._keeps_out = ""
+        self._has_left = False
+        # What it would offer, what the market was told last, and the number of the first offer since it left.
+        self._wanted: AnyOffer | None = None
+        self._first: int | None = None
         self._home = None if settings.entities is None else HomeAssistant(settings.entities, lambda is_on: self._words.put(TakesPart(is_on)))
         self._offered: AnyOffer | None = None
-        self._tried, self._stepped = -float("inf"), time.monotonic()
+        self._tried, self._stepped = -float("inf"), self._begun
 
     def run(self) -> None:
-        """Works until `stop` is called. At the end the device leaves the market, and takes its fallback."""
+        """Works until `stop` is called. At the end the device takes its fallback, and leaves the market."""
         reads = threading.Thread(target=self._read_all, args=(self._source,), daemon=True)
         reads.start()
         self._link.start(self._words.put, self._log)
@@ -65,8 +75,9 @@ class Agent:
         try:
             while not self._is_over.is_set():
                 self._take_words(look)
+                self._decide(clock.now())
+                self._write(clock.now())
                 self._offer()
-                self._write(time.monotonic())
                 self._show()
         finally:
             self._is_over.set()
@@ -82,10 +93,15 @@ class Agent:
         self._words.put(None)
 
     def _end(self) -> None:
-        if self._offered is not None:
-            self._link.offer(None)
-        self._guard.fall_back("the agent ends")
-        self._write(time.monotonic())
+        """Gives the device its fallback, and then leaves the market. A device that cannot be told goes on with what it has."""
+        self._go_out("end", "the agent ends")
+        end = clock.now() + LAST_SECONDS
+        while not self._guard.has_fallen_back and clock.now() < end:
+            self._tried = -float("inf")
+            self._write(clock.now())
+            if not self._guard.has_fallen_back:
+                time.sleep(LEAST_LOOK)
+        self._offer()
         self._link.close()
         if self._home is not None:
             self._home.close()
@@ -95,7 +111,7 @@ class Agent:
     def _read_all(self, source: Access | None) -> None:
         """Reads again and again, so that a device that does not answer holds up nothing else."""
         while source is not None and not self._is_over.is_set():
-            begun = time.monotonic()
+            begun = clock.now()
             try:
                 found = self._settings.state.value_of(source.read(), self._settings.capacity)
                 with self._lock:
@@ -103,7 +119,7 @@ class Agent:
                 self._log_change("state", "")
             except NoReading as error:
                 self._log_change("state", f"the state is not read: {error}")
-            self._is_over.wait(max(0.0, begun + self._settings.times.every - time.monotonic()))
+            self._is_over.wait(max(0.0, begun + self._settings.times.every - clock.now()))
 
     def _state(self, now: float) -> float | None:
         """The newest state, None if it is missing or too old. If none is read, it is the model's own."""
@@ -131,55 +147,88 @@ class Agent:
         match word:
             case Basis():
                 self._basis, self._offered = word, None
-            case Setpoint(power=power, price=price):
-                self._price = price
-                if self._takes_part:
+            case Setpoint():
+                self._price = word.price
+                if self._counts(word):
                     self._setpoint = word
-                    self._guard.hear(power, time.monotonic())
+                    self._guard.hear(word.power, clock.now(), word.holds)
             case Silent(why=why):
                 self._setpoint = None
                 self._guard.fall_back(why)
             case Standing():
                 self._standing = word
             case TakesPart(is_on=is_on):
-                self._take_part(is_on)
+                if is_on and not self._takes_part:
+                    self._log.info("it takes part in the market again")
+                self._takes_part = is_on
 
-    def _take_part(self, is_on: bool) -> None:
-        """Takes part in the market from now on, or leaves it: then the device takes its fallback, and no setpoint counts."""
-        if is_on == self._takes_part:
-            return
-        self._takes_part = is_on
-        if is_on:
-            self._log.info("it takes part in the market again")
-            return
-        self._leave()
-        self._setpoint = None
-        self._guard.fall_back("it is switched off, and takes no part in the market")
+    def _counts(self, setpoint: Setpoint) -> bool:
+        """Whether a setpoint counts: the device takes part, and it answers no offer of before it left."""
+        if self._keeps_out or self._first is None:
+            return False
+        return setpoint.reference is None or setpoint.reference >= self._first
 
-    def _leave(self) -> None:
-        """Takes back what it offers."""
-        if self._offered is not None:
-            self._offered = None
-            self._link.offer(None)
+    def _decide(self, now: float) -> None:
+        """Decides whether the device takes part in the market, and by which bid."""
+        state = self._state(now)
+        if not self._takes_part:
+            self._go_out("switch", "it is switched off, and takes no part in the market")
+        elif self._guard.is_lost and self._guard.written is None:
+            self._go_out("write", "the device cannot be told a power")
+        elif state is not None:
+            self._bid(state, now)
+        elif now - self._begun >= self._settings.times.stale:
+            if self._keeps_out != "state":
+                # What was written may be lost: the device may have been without power.
+                self._guard.lose()
+            self._go_out("state", "the state is too old")
+
+    def _go_out(self, what: str, why: str) -> None:
+        """Lets the device take its fallback. Once it has it, it leaves the market."""
+        if what == self._keeps_out:
+            return
+        if self._guard.is_silent:
+            self._log.warning(f"{why}: the device has its fallback")
+        self._keeps_out, self._setpoint = what, None
+        self._guard.fall_back(why)
 
     def _offer(self) -> None:
-        """Offers what the model bids for the newest state, or leaves if there is none."""
-        state, now = self._state(time.monotonic()), time.monotonic()
-        if self._basis is None or not self._takes_part:
-            return
-        if state is None:
-            self._guard.lose()
-            if self._offered is not None:
-                self._log.warning("the state is too old: the device leaves the market until there is a newer one")
-            self._leave()
-            return
-        offer = self._bid(state, now, self._basis)
-        if offer is not None and offer != self._offered:
-            self._offered = offer
-            self._link.offer(offer)
+        """Tells the market what the device offers, if that is new.
 
-    def _bid(self, state: float, now: float, basis: Basis) -> AnyOffer | None:
+        A device leaves only once it has its fallback. One that cannot be told takes what it was told last: it offers that power at
+        every price, so that the market counts it.
+        """
+        guard = self._guard
+        if guard.is_lost and guard.written is not None:
+            if self._basis is not None:
+                self._tell(Offer((guard.written,) * self._basis.steps))
+        elif self._keeps_out:
+            if guard.has_fallen_back or guard.written is None:
+                self._leave()
+        elif self._wanted is not None:
+            self._tell(self._wanted)
+
+    def _tell(self, offer: AnyOffer) -> None:
+        """Offers this, if it is new."""
+        if offer == self._offered:
+            return
+        number = self._link.offer(offer)
+        self._offered, self._has_left = offer, False
+        if self._first is None:
+            self._first = number
+
+    def _leave(self) -> None:
+        """Takes back what it offers, also what an earlier run of the agent offered."""
+        self._offered = self._wanted = self._first = None
+        if not self._has_left:
+            self._has_left = True
+            self._link.offer(None)
+
+    def _bid(self, state: float, now: float) -> None:
+        """Makes the bid for a state. A device whose bid cannot be made leaves the market."""
         settings, device = self._settings, self._settings.device
+        if self._basis is None:
+            return
         if self._source is not None:
             setattr(device, settings.member, state)
         fixed = self._guard.fixed(now)
@@ -187,12 +236,11 @@ class Agent:
         self._log_change("fixed", told)
         try:
             own = device.bid(datetime.now().astimezone())
-            found = self._guard.bounded(offer_of(own if fixed is None else fixed, basis, device.name))
+            self._wanted = self._guard.bounded(offer_of(own if fixed is None else fixed, self._basis, device.name))
         except BadBid as error:
-            self._log_change("bid", f"the bid is not offered: {error}")
-            return None
-        self._log_change("bid", "")
-        return found
+            self._go_out("bid", f"the bid is not offered: {error}")
+            return
+        self._keeps_out = ""
 
     # What Home Assistant shows.
 

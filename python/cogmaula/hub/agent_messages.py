@@ -169,6 +169,8 @@ def update_of(told: ControlMessage) -> bytes:
         update["bidNumber"] = told.reference
     update |= {"step": told.step, "power": told.power}
     update |= {"offer": told.bid, "clearing": told.clearing, "time": told.time, "until": told.until}
+    if told.holds is not None:
+        update["holds"] = told.holds
     return _line({"priceUpdate": update})
 
 

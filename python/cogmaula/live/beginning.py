@@ -258,7 +258,7 @@ class Beginning:
         if message is None or message.properties.get(SESSION) != session.id:
             return None
         try:
-            return replace(SetpointMessage.of(message.payload), until=None)
+            return replace(SetpointMessage.of(message.payload), until=None, holds=None)
         except BadMessage:
             # It is that the market was silent, or none.
             return None

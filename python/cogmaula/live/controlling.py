@@ -90,7 +90,8 @@ class Controlling:
         newest = self._silence.newest
         if self._told is None or self._told[1] != newest or not setpoint.is_same(self._told[0]):
             self._told = setpoint, newest
-            self._tell(replace(setpoint, until=self._silence.until(now, has_bid)))
+            silence = self._silence
+            self._tell(replace(setpoint, until=silence.until(now, has_bid), holds=silence.holds(now, has_bid)))
 
     def _tell_silence(self) -> None:
         silence = self._silence

@@ -332,6 +332,7 @@ class SetpointMessage:
     bid:       the number of the offer that the power is of
     clearing:  the index of the clearing, and `time` when that was (RFC 3339), "" if that was not told
     until:     until when it holds (RFC 3339), None if that was not told, as of one that is stored
+    holds:     for how many seconds it holds from when it was told, for a device without a clock; None if `until` is
     reference: the control's own number of the offer, None without one
     """
 
@@ -343,6 +344,7 @@ class SetpointMessage:
     time: str
     until: str | None = None
     reference: int | None = None
+    holds: float | None = None
 
     @staticmethod
     def made_of(setpoint: Setpoint, basis: Basis, time: str, reference: int | None = None) -> SetpointMessage:
@@ -358,12 +360,13 @@ class SetpointMessage:
         power, step, price, bid, clearing = (_whole(told, word, what) for word in ("power", "step", "price", "bid", "clearing"))
         until = None if told.get("until") is None else _text(told, "until", what)
         reference = None if told.get("reference") is None else _whole(told, "reference", what)
-        return SetpointMessage(power, step, price, bid, clearing, _text(told, "time", what), until, reference)
+        holds = None if told.get("holds") is None else _seconds(told, "holds", what)
+        return SetpointMessage(power, step, price, bid, clearing, _text(told, "time", what), until, reference, holds)
 
     def to_object(self) -> dict[str, Any]:
         """The members of the message: those that are told."""
         told = dict(vars(self))
-        last = {name: told.pop(name) for name in ("reference", "until")}
+        last = {name: told.pop(name) for name in ("reference", "until", "holds")}
         return told | {name: value for name, value in last.items() if value is not None}
 
     def to_bytes(self) -> bytes:
@@ -372,7 +375,7 @@ class SetpointMessage:
 
     def is_same(self, other: SetpointMessage | None) -> bool:
         """Whether both are of one offer at one step, with one reference: what the control takes is the same."""
-        return other is not None and replace(self, clearing=other.clearing, time=other.time, until=other.until) == other
+        return other is not None and replace(self, clearing=other.clearing, time=other.time, until=other.until, holds=other.holds) == other
 
     def with_reference(self, number: int, reference: int | None) -> SetpointMessage:
         """The same with another reference, if it answers the offer of this number."""

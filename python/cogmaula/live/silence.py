@@ -121,6 +121,10 @@ class Silence:
         """Why it is silent, in words."""
         return self._why or f"no heartbeat of the auctioneer came for {self.times.validity:g} s"
 
+    def holds(self, now: float, renews: bool) -> float:
+        """For how many seconds a setpoint holds that is told now, to a millisecond."""
+        return max(0.0, round(self._ends(renews) - now, 3))
+
     def until(self, now: float, renews: bool) -> str:
         """Until when a setpoint holds that is told now, by the clock of this machine (RFC 3339).
 

@@ -71,6 +71,11 @@ class ModbusBattery:
         self.process.stdout.close()
 
 
+def without_reference(payload):
+    """The members of a message, without the agent's own number of an offer."""
+    return {name: told for name, told in json.loads(payload).items() if name != "reference"}
+
+
 def value(read):
     try:
         return read()
@@ -146,8 +151,10 @@ def test_faults_of_a_device_by_modbus(live, tmp_path):
             wait_until(lambda: battery.read(register=0) == -800, f"the battery is told -800 W: {agent.said}")
             battery.process.kill()
             battery.process.wait()
-            agent.says("the state is not read: .*register 1 of 127.0.0.1").says("the state is too old: the device leaves")
-            agent.says("no setpoint came for 1.5 s: the device takes its fallback, 0 W").says("0 W are not written")
+            agent.says("the state is not read: .*register 1 of 127.0.0.1").says("the state is too old: the device takes its fallback, 0 W")
+            agent.says("0 W are not written")
+            # It cannot be told its fallback, so the market counts what it was told last.
+            house.waits_for(power=500)
             with ModbusBattery(60, battery.port) as again:
                 agent.says("the state is read again")
                 wait_until(lambda: again.read(register=0) == -800, f"the battery is told -800 W again: {agent.said}")
@@ -215,7 +222,7 @@ def test_an_agent_is_the_control_of_a_node_over_topics(tmp_path):
     with Mosquitto(tmp_path / "broker") as broker:
         heard = {}
         place = BrokerPlace(port=broker.port)
-        node = Client(place, ["market/store/offer", "store/set"], lambda topic, payload, _: heard.update({topic: json.loads(payload)}))
+        node = Client(place, ["market/store/offer", "store/set"], lambda topic, payload, _: heard.update({topic: without_reference(payload)}))
         wait_until(lambda: node.is_connected, "the test is connected")
         until = (datetime.now().astimezone() + timedelta(seconds=-60)).isoformat()
         assert node.publish("market/store/setpoint", json.dumps({"power": -900, "price": 1, "until": until}), True)
@@ -242,7 +249,7 @@ def test_an_agent_is_the_control_of_a_node_over_topics(tmp_path):
             agent.says(r"the market is silent \(no heartbeat came\): the device takes its fallback, 0 W")
             wait_until(lambda: heard["store/set"] == {"kw": 0}, f"the fallback: {heard}")
             agent.says("no message came for 1 s")
-            wait_until(lambda: heard["market/store/offer"] == {"leave": True}, "the offer lapses")
+            wait_until(lambda: heard["market/store/offer"] == {"leave": True}, "it leaves")
             assert node.publish("store/state", '{"battery": {"kwh": 0.5}}', False)
             wait_until(lambda: heard["market/store/offer"] == due, "it is back")
         # At its end it leaves.

@@ -56,7 +56,9 @@ class Pretended:
 
     @property
     def offer(self):
-        return json.loads(self.heard.get("market/here/offer", "{}"))
+        told = json.loads(self.heard.get("market/here/offer", "{}"))
+        told.pop("reference", None)
+        return told
 
 
 class Driving:

@@ -101,7 +101,9 @@ class Home:
 
     @property
     def offer(self):
-        return json.loads(self.newest.get("market/store/offer", "{}"))
+        told = json.loads(self.newest.get("market/store/offer", "{}"))
+        told.pop("reference", None)
+        return told
 
     def shows(self, **members):
         wait_until(lambda: self.shown.items() >= members.items(), f"{members} in {self.shown}")

@@ -458,6 +458,7 @@ def test_offers_become_bids_and_prices_become_setpoints(joined):
     due = {"power": -300, "step": 1, "price": 9, "bid": 1, "clearing": 7, "time": MOMENT}
     (told,) = [json.loads(message) for message in one.control.told]
     assert datetime.fromisoformat(told.pop("until")) > datetime.now(timezone.utc)
+    assert 119 < told.pop("holds") <= 120
     assert told == due
     assert one.link.newest["market/house/setpoint"].payload == one.control.told[0]
 
@@ -488,7 +489,7 @@ def test_an_offer_that_the_broker_sends_again_does_not_say_that_the_control_live
 
 def without_until(told):
     """A setpoint that the control was told, as it is stored."""
-    return json.dumps({name: value for name, value in json.loads(told).items() if name != "until"}).encode()
+    return json.dumps({name: value for name, value in json.loads(told).items() if name not in ("until", "holds")}).encode()
 
 
 SETPOINT = b'{"power": -300, "step": 1, "price": 9, "bid": 2, "clearing": 7, "time": "2026-01-31T06:30:00.000Z"}'
