@@ -10,6 +10,8 @@ from tempfile import TemporaryDirectory
 
 from .. import cli
 from ..deploy import Member, add_device, fence_settings, init_market, read_tree
+from ..history import open_database
+from ..history.why import lines_of, why
 from ..live.node_errors import BadSettings, LiveError
 from ..live.fencing import fence
 from ..live.given_limits import LimitsMessage
@@ -18,7 +20,7 @@ from ..live.node_settings import BrokerSettings, read_toml
 from ..live.toml_tables import value_of
 
 CALLS_PROGRAM = False
-HELP = "makes the files of a market at a broker, adds a device, lets a device go, clears a topic, fences a relay, or gives limits to one"
+HELP = "makes the files of a market at a broker, adds a device, lets a device go, clears a topic, fences a relay, gives limits to one, or says why a power was told"
 MORE = (
     "init makes all files from one that names the tree, machines, limits and logins; add adds a device to them. They need openssl and"
     " mosquitto. drop, clear, fence and limits go to the broker of --config, whose table [broker] is as a node's, with a login that may do this;"
@@ -70,6 +72,10 @@ def add_arguments(parser: argparse.ArgumentParser) -> None:
     giving.add_argument("--ceiling", type=int, metavar="WATTS", help="the greatest power; default that of its settings")
     giving.add_argument("--until", metavar="TIME", help="until when they hold, as 2026-01-31T18:00:00Z; default without an end")
     giving.add_argument("--reference", metavar="TEXT", help="a word of your own, which comes back with the answer")
+    asking = below.add_parser("why", help="why a device was told its power at a moment: offers, prices, sums and limits up the tree")
+    asking.add_argument("device", metavar="DEVICE", help="the device")
+    asking.add_argument("moment", metavar="TIME", type=cli.moment, help="the moment, as 2026-01-31T14:03, of this machine's zone or [ZONE]")
+    asking.add_argument("--history", metavar="DATABASE", required=True, help="the history: sqlite:///FILE, a file's name, or postgresql://USER@HOST/NAME")
     for one in (dropping, clearing, fencing, giving):
         one.add_argument("--config", metavar="FILE", required=True, help="a TOML file with the table [broker]")
         one.add_argument("--seconds", type=float, default=10.0, metavar="SECONDS", help="waits so long for the answer; default 10")
@@ -113,7 +119,16 @@ def _fence(arguments: argparse.Namespace) -> str:
         return fence(_broker_of(arguments.config), fence_settings(Path(arguments.out), arguments.node, state), arguments.seconds)
 
 
-_WORDS = {"init": _init, "add": _add, "drop": _drop, "clear": _clear, "fence": _fence, "limits": _limits}
+def _why(arguments: argparse.Namespace) -> str:
+    url = arguments.history if "://" in arguments.history else f"sqlite:///{arguments.history}"
+    database = open_database(url, is_reader=True)
+    try:
+        return "\n".join(lines_of(why(database, arguments.device, arguments.moment), arguments.moment.tzinfo))
+    finally:
+        database.close()
+
+
+_WORDS = {"init": _init, "add": _add, "drop": _drop, "clear": _clear, "fence": _fence, "limits": _limits, "why": _why}
 
 
 def main(arguments: argparse.Namespace) -> int:
