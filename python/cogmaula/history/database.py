@@ -23,6 +23,10 @@ class DatabaseLost(LiveError, OSError):
     """The database does not take rows now. What was not put is put again after a new connection."""
 
 
+class BadRow(LiveError):
+    """The database does not take a row for what it says, now or later. Of the rows that were put none is kept."""
+
+
 class Database(Protocol):
     """Where rows are kept. All calls may come from any thread, one at a time.
 
@@ -38,7 +42,7 @@ class Database(Protocol):
         """
 
     def put(self, rows: Iterable[Told]) -> None:
-        """Keeps rows, all or none, and leaves a row whose key is there as it is. Raises DatabaseLost."""
+        """Keeps rows, all or none, and leaves a row whose key is there as it is. Raises DatabaseLost, and BadRow."""
 
     def read(self, query: str, values: Sequence[Any] = ()) -> list[tuple[Any, ...]]:
         """The rows of a query, in which ? stands for a value. Raises DatabaseLost."""
@@ -190,6 +194,8 @@ class SqliteDatabase:
             except BaseException:
                 connection.execute("ROLLBACK")
                 raise
+        except (sqlite3.DataError, sqlite3.IntegrityError, sqlite3.InterfaceError, OverflowError, ValueError) as error:
+            raise BadRow(f"the database does not take it: {error}") from None
         except sqlite3.Error as error:
             raise DatabaseLost(f"{self._path}: {error}") from None
 
@@ -272,6 +278,8 @@ class PostgresDatabase:
                 self._insert(_unknown(told, "%s", self._connection.execute))
                 for statement, parameters in _downs(told, "%s"):
                     self._connection.execute(statement, parameters)
+        except (self._psycopg.DataError, self._psycopg.IntegrityError, ValueError) as error:
+            raise BadRow(f"the database does not take it: {' '.join(str(error).split())}") from None
         except self._psycopg.Error as error:
             raise self._lost(error) from None
 

@@ -168,12 +168,37 @@ def new_client(settings: BrokerSettings, client_id: str, ended: threading.Event,
     return client
 
 
-def connect(client: Any, settings: BrokerSettings, session: int = 0) -> None:
+def _confirms_nothing(_number: int) -> int:
+    return 0
+
+
+class LateConfirms:
+    """Lets a client of paho confirm messages by a call, from any thread, and not once its own call for them returns."""
+
+    def __init__(self, client: Any) -> None:
+        """Takes a client that has not connected yet."""
+        self.client = client
+        if hasattr(client, "manual_ack_set"):
+            client.manual_ack_set(True)
+            self._send: Callable[[int], Any] = lambda number: client.ack(number, 1)
+        else:
+            self._send = client._send_puback
+            client._send_puback = _confirms_nothing
+
+    def confirm(self, number: int) -> None:
+        """Confirms the message of this number; 0 is that of one without a confirmation."""
+        if number:
+            self._send(number)
+
+
+def connect(client: Any, settings: BrokerSettings, session: int = 0, unconfirmed: int = 0) -> None:
     """Connects a client. Raises OSError or ValueError, which `words_of` tells in words.
 
-    session: for how many seconds the broker keeps what it could not tell; 0 begins anew
+    session:     for how many seconds the broker keeps what it could not tell; 0 begins anew
+    unconfirmed: how many messages it may hand on before one is confirmed; 0 leaves that to the broker
     """
     more = {"SessionExpiryInterval": session} if session else {}
+    more |= {"ReceiveMaximum": unconfirmed} if unconfirmed else {}
     client.connect(
         settings.host,
         settings.port_due,

@@ -26,6 +26,8 @@ class PacketGuard:
         self._log = log
         self._address = address
         self._handle: Callable[[], Any] | None = getattr(client, "_packet_handle", None)
+        # Its own, also if the client confirms late.
+        self._confirm: Callable[[int], Any] = getattr(client, "_send_puback", lambda _number: 0)
         if self._handle is not None:
             client._packet_handle = self.handle
 
@@ -55,4 +57,4 @@ class PacketGuard:
         )
         if not kind & QOS:
             return 0
-        return self._client._send_puback(int.from_bytes(body[behind : behind + 2], "big"))
+        return self._confirm(int.from_bytes(body[behind : behind + 2], "big"))
