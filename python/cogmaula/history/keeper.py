@@ -95,7 +95,7 @@ class Keeper:
         try:
             user = settings.user or "history"
             client_id = f"cogmaula.{settings.prefix.replace('/', '.')}.{user}"
-            client = new_client(settings, client_id, ended, words, self._log)
+            client = new_client(settings, client_id, ended, words, self._log, self._on_dropped)
             self._confirms = LateConfirms(client)
             client.on_connect = lambda client, _data, _flags, code, _more: self._on_connect(client, code, words)
             client.on_message = lambda client, _data, message: self._on_message(client, message)
@@ -138,6 +138,10 @@ class Keeper:
             name = dropped.message.topic
             more = " It is read again after a while" if is_flood else ""
             self._log.of_stranger(name).warning(f"{name}: a message is not kept: too many come, or it is too long.{more}")
+
+    def _on_dropped(self, client: Any, topic: str) -> None:
+        """Counts a message that was dropped before it was read."""
+        self._readings.counts(client, topic, False, time.monotonic())
 
     def _confirm(self, arrival: Arrival) -> None:
         """Confirms a message to the broker, if the connection by which it came is there."""

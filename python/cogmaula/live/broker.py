@@ -230,16 +230,19 @@ class Broker:
         if due and self._settled is not None:
             self._subscribe(self._settled, due)
 
-    def _is_flood(self, client: Any, found: Message) -> bool:
+    def count(self, client: Any, topic: str) -> None:
+        """Counts a message that was dropped before it was read. It is of a flood as well as others are."""
+        self._is_flood(client, topic, "")
+
+    def _is_flood(self, client: Any, topic: str, sender: str) -> bool:
         """Counts a message, and reads its topic no more for a while if there are too many. What this node writes is not counted."""
-        topic = found.topic
         with self._lock:
             if topic in self._rested:
                 return True
             count = self._counts[topic] = self._counts.get(topic, 0) + 1
             if count <= FLOOD or topic in self._newest or topic not in self._topics:
                 return False
-            self._rested[topic] = time.monotonic(), found.properties.get("node", "")[:64]
+            self._rested[topic] = time.monotonic(), sender
         client.unsubscribe(topic)
         return False
 
@@ -328,7 +331,7 @@ class Broker:
 
     def _made(self, ended: threading.Event, words: list[str]) -> Any:
         """A client of paho. Raises OSError if a file cannot be read."""
-        client = new_client(self.settings, self._client_id, ended, words, self._log)
+        client = new_client(self.settings, self._client_id, ended, words, self._log, self.count)
         will = self._will()
         client.will_set(will.topic, will.payload, 1, True)
         client.on_connect = lambda client, _data, _flags, code, _more: self._on_connect(client, code, words)
@@ -381,7 +384,7 @@ class Broker:
             self._was_settled = True
             self._notify(Settled())
             return
-        if self._is_flood(client, found):
+        if self._is_flood(client, found.topic, found.properties.get("node", "")[:64]):
             return
         with self._lock:
             is_first = not self._inbox

@@ -146,12 +146,20 @@ def user_properties_of(message: Any) -> dict[str, str]:
     return dict(found) if sum(len(name) + len(value) for name, value in found) <= LONGEST_PROPERTIES else {}
 
 
-def new_client(settings: BrokerSettings, client_id: str, ended: threading.Event, words: list[str], log: NodeLog) -> Any:
+def new_client(
+    settings: BrokerSettings,
+    client_id: str,
+    ended: threading.Event,
+    words: list[str],
+    log: NodeLog,
+    dropped: Callable[[Any, str], None] = lambda _client, _topic: None,
+) -> Any:
     """A client of paho with the login and the TLS of the settings, for one connection. No packet ends it by what it says.
 
     ended: is set when the connection has ended
     words: get the reason, if it is known
     log:   is told of packets that are dropped
+    dropped: is called with the client and the topic of each message that is
 
     Raises OSError if a file cannot be read.
     """
@@ -164,7 +172,7 @@ def new_client(settings: BrokerSettings, client_id: str, ended: threading.Event,
     if settings.with_tls:
         client.tls_set(settings.ca, settings.certificate, settings.key)
     client.loop_forever = _ending(client.loop_forever, settings, ended, words)
-    PacketGuard(client, log, settings.address)
+    PacketGuard(client, log, settings.address, dropped)
     return client
 
 

@@ -17,12 +17,10 @@ class _Child:
     """A child that bids, a device.
 
     node:    the name of its node, "" if it did not say
-    valid:   for how many seconds its bid holds after it was heard
-    heard:   when that was
+    heard:   when its bid was heard
     """
 
     node: str
-    valid: float
     heard: float
 
 
@@ -49,10 +47,10 @@ class Lapses:
         """Goes by other times from now on."""
         self._times = times
 
-    def heard(self, child: int, node: str, valid: float, now: float) -> None:
-        """Notes a bid of a device, also one that was heard before. `valid` is what the bid says of itself, 0 if it says nothing."""
+    def heard(self, child: int, node: str, now: float) -> None:
+        """Notes a bid of a device, also one that was heard before. It holds for `grace`, whatever the bid says of itself."""
         self._missed.pop(child, None)
-        self._children[child] = _Child(node, max(valid, self._times.grace), now)
+        self._children[child] = _Child(node, now)
 
     def lives(self, child: int, now: float) -> None:
         """Notes a message of a child whose bid is known."""
@@ -93,8 +91,8 @@ class Lapses:
             down = self._down.get((child_state.node, child))
             if down is not None and now >= down + grace:
                 found[child] = f"its node {child_state.node} has been down for {grace:g} s"
-            elif now >= child_state.heard + child_state.valid:
-                found[child] = f"its bid was not renewed for {child_state.valid:g} s"
+            elif now >= child_state.heard + grace:
+                found[child] = f"its bid was not renewed for {grace:g} s"
         for child, since in self._missed.items():
             if now >= since + grace:
                 found[child] = f"it was in the newest sum, and was not heard for {grace:g} s since the restart"

@@ -6,6 +6,7 @@ import json
 import time
 from collections.abc import Iterable
 
+from ..logs import NodeLog
 from .broker_link import Message
 from .children import SORT, Children, Heard
 from .node_errors import BadMessage, BadSettings
@@ -110,7 +111,7 @@ class Letting:
         if self._settings.is_fence and self._is_device(child):
             return
         if child == self._settings.place_of_limits:
-            self._log.warning(f"{message.topic} is not taken: child {child} is the place in which limits are given")
+            self._stranger(child).warning(f"{message.topic} is not taken: child {child} is the place in which limits are given")
             return
         if now < self._not_before.get(child, now):
             self._waiting[child] = message
@@ -153,7 +154,7 @@ class Letting:
         if sort != "device" or isinstance(heard.frame, Gone):
             self.lapses.forget(child)
             return
-        self.lapses.heard(child, heard.node, heard.valid, now)
+        self.lapses.heard(child, heard.node, now)
         names = self._names.setdefault(child, set())
         if heard.node in names or len(names) >= NAMES:
             return
@@ -161,7 +162,11 @@ class Letting:
         try:
             self._link.also_read(self._settings.topics.of(require_name(heard.node, "node"), "state"))
         except BadSettings:
-            self._log.warning(f"child {child} does not say a name: its last will is not seen")
+            self._stranger(child).warning(f"child {child} does not say a name: its last will is not seen")
+
+    def _stranger(self, child: int) -> NodeLog:
+        """The log for lines that a child causes."""
+        return self._log.of_stranger(f"child {child}")
 
     def _clear(self, what: str, child: int) -> None:
         """Clears a topic of a child, if something was published there."""
@@ -177,7 +182,8 @@ class Letting:
             why = f"outside {bound.least} to {bound.greatest} watts"
         else:
             why = "too much"
-        self._log.warning(f"bid {frame.number} of child {frame.child} is {why}: it does not count, and the one before does")
+        log = self._stranger(frame.child)
+        log.warning(f"bid {frame.number} of child {frame.child} is {why}: it does not count, and the one before does")
         topic = self._settings.topics.at(self._settings.name, "refused", frame.child)
         self._publisher.publish(topic, json.dumps({**told, "why": why}).encode(), now_text())
 
@@ -188,7 +194,7 @@ class Letting:
         try:
             found = self._states.take(message)
         except BadMessage as error:
-            self._log.warning(f"{message.topic} is not taken: {error}")
+            self._log.of_stranger(message.topic).warning(f"{message.topic} is not taken: {error}")
             return
         for name, told in found.items():
             if told is not None and told.parent == self._settings.name and told.child is not None:
@@ -197,13 +203,13 @@ class Letting:
     def drop(self, child: int) -> None:
         """Lets a child go by the word of an operator, if it is a device that bids."""
         if not self._is_device(child):
-            self._log.warning(f"child {child} is not let go: it is a relay, or the place in which limits are given")
+            self._stranger(child).warning(f"child {child} is not let go: it is a relay, or the place in which limits are given")
         elif child in self._lapsed:
             self._tell_lapse(child, "it was let go before")
             self._has_news()
             self._feed(Expire(child).to_bytes())
         elif not self._number(child):
-            self._log.warning(f"child {child} is not let go: it has not bid in this session")
+            self._stranger(child).warning(f"child {child} is not let go: it has not bid in this session")
         else:
             self._let_go(child, "by the word of an operator")
 
@@ -240,7 +246,7 @@ class Letting:
         self._keeping.change(lapsed={**self._lapsed, child: self._number(child) | 1})
         self.lapses.forget(child)
         self._pricing.clear(child)
-        self._log.warning(f"child {child} is let go, {why}: its bid does not count any more")
+        self._stranger(child).warning(f"child {child} is let go, {why}: its bid does not count any more")
         self._tell_lapse(child, why)
         self._has_news()
         self._feed(Expire(child).to_bytes())
@@ -250,7 +256,7 @@ class Letting:
         self._publisher.publish(self._settings.topics.at(self._settings.name, "lapsed", child), told.to_bytes(), told.time)
 
     def _comes_back(self, child: int) -> None:
-        self._log.info(f"child {child} is back")
+        self._stranger(child).info(f"child {child} is back")
         self._keeping.change(lapsed={lapsed_child: number for lapsed_child, number in self._lapsed.items() if lapsed_child != child})
         self._publisher.clear(self._settings.topics.at(self._settings.name, "lapsed", child))
 

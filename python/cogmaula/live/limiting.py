@@ -50,7 +50,7 @@ class Limiting:
         try:
             self._give(self.given.taken(data))
         except BadMessage as error:
-            self._log.warning(f"limits are not taken: {error}")
+            self._log.of_stranger("limits").warning(f"limits are not taken: {error}")
             self.given.refuse(str(error))
         self._tell()
 
@@ -60,7 +60,7 @@ class Limiting:
             return
         self._keeping.change(given=given)
         self.given.gives(given)
-        self._log.info(f"the limits are {given.floor} to {given.ceiling} W from the next bid on")
+        self._log.of_stranger("limits given").info(f"the limits are {given.floor} to {given.ceiling} W from the next bid on")
         self._has_news()
         self._feed(Limits(given.number, given.floor, given.ceiling).to_bytes())
 

@@ -41,6 +41,8 @@ from .websocket import NoHandshake, WebSocket, protocol_of
 BETWEEN, MOST_WORK = 0.5, 0.1
 # The most WebSockets, and the most connections with those that ask for something.
 MOST_SOCKETS, MOST_CONNECTIONS = 64, 128
+# The most lines about what is wrong that are remembered, each of which is written once.
+MOST_WARNED = 256
 # The longest message of a client in bytes, the seconds within which a client has to say what it wants, and those that an end takes.
 LONGEST, PATIENCE, LAST_SECONDS = 1_024, 5.0, 1.0
 # The seconds after which a view is told again, so that a client notices a connection that is lost.
@@ -156,9 +158,9 @@ class Page:
                 loop.call_soon_threadsafe(work)
 
     def _warn_once(self, text: str) -> None:
-        if text not in self._warned:
+        if text not in self._warned and len(self._warned) < MOST_WARNED:
             self._warned.add(text)
-            self._log.warning(text)
+            self._log.of_stranger("the view").warning(text)
 
     # The thread.
 

@@ -84,7 +84,7 @@ class Reader:
         words: list[str] = []
         self._is_there = False
         try:
-            client = new_client(self.settings, self._client_id, ended, words, self._log)
+            client = new_client(self.settings, self._client_id, ended, words, self._log, self._count)
             client.on_connect = lambda _it, _data, _flags, code, _more: self._on_connect(code, words)
             client.on_subscribe = lambda _it, _data, _mid, codes, _more: self._on_subscribe(codes)
             client.on_message = lambda client, _data, message: self._on_message(client, message)

@@ -149,7 +149,7 @@ class Offers:
             self._drop("it was known before, and its validity has ended")
 
     def _drop(self, why: str) -> None:
-        self._log.warning(f"an offer is not taken: {why}")
+        self._log.of_stranger("the control").warning(f"an offer is not taken: {why}")
         self.answer(why)
 
     def _want_offer(self, frame: Wanted, reference: int | None) -> None:

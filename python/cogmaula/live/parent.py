@@ -34,6 +34,7 @@ class Parent:
         self._child = child
         self._beating = beating
         self._log = log
+        self._stranger = log.of_stranger(name)
         self._of_changes = of_changes
         # Its state as it was told last, "" if it was not.
         self._state = ""
@@ -60,7 +61,7 @@ class Parent:
             elif message.payload and message.properties.get(SESSION) == session.stored.session.id:
                 take(session, message)
         except (BadFrame, BadMessage) as error:
-            self._log.warning(f"{message.topic} is not taken: {error}")
+            self._log.of_stranger(message.topic).warning(f"{message.topic} is not taken: {error}")
         return True
 
     def _take_price(self, session: ServedSession, message: Message) -> None:
@@ -93,7 +94,7 @@ class Parent:
     def _take_refusal(self, session: ServedSession, message: Message) -> None:
         """Takes that a bid of this child is too much. Raises BadMessage."""
         number, why = _word_of(message)
-        self._log.warning(f"{self._name} does not take bid {number}: it is {why}. The one before counts")
+        self._stranger.warning(f"{self._name} does not take bid {number}: it is {why}. The one before counts")
         if type(number) is int:
             session.hear_refusal(number, why)
 
@@ -102,7 +103,7 @@ class Parent:
         try:
             self._take_state(message)
         except BadMessage as error:
-            self._log.warning(f"{message.topic} is not taken: {error}")
+            self._log.of_stranger(message.topic).warning(f"{message.topic} is not taken: {error}")
 
     def _take_state(self, message: Message) -> None:
         """Says what changed of the parent's state. Raises BadMessage."""
@@ -114,9 +115,9 @@ class Parent:
             self._of_changes.error(f"{self._name} is of version {told.version}, and this node of {VERSION}: install this version there")
         if told is not None and told.state != (self._state or "up"):
             if told.state == "up":
-                self._log.info(f"{self._name} is up again")
+                self._stranger.info(f"{self._name} is up again")
             else:
-                self._log.warning(f"{self._name} is down: {told.why}")
+                self._stranger.warning(f"{self._name} is down: {told.why}")
         self._state = "" if told is None else told.state
 
 

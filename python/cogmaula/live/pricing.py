@@ -137,7 +137,7 @@ class Pricing:
         try:
             told = frame_of(message.payload, PRICES, self._settings.basis.steps)
         except BadFrame as error:
-            self._log.warning(f"{topic}: what the broker retains is no price, and is cleared: {error}")
+            self._log.of_stranger(topic).warning(f"{topic}: what the broker retains is no price, and is cleared: {error}")
             self._link.publish(Publication(topic, b""))
             return
         assert isinstance(told, Price | Old)
@@ -154,7 +154,8 @@ class Pricing:
         try:
             self._table = PriceTable.of(message.payload)
         except BadFrame as error:
-            self._log.warning(f"{self._topic_of_table}: what the broker retains is cleared: {error}")
+            log = self._log.of_stranger(self._topic_of_table)
+            log.warning(f"{self._topic_of_table}: what the broker retains is cleared: {error}")
             self._link.publish(Publication(self._topic_of_table, b""))
             return
         self._time = message.properties.get(TIME, "")

@@ -297,7 +297,8 @@ class ServedSession:
             case OtherBasis():
                 self.prices.not_taken(frame.number, frame.index)
                 self.other_basis += 1
-                self._log.warning(f"the price of clearing {frame.index} is of another basis, and is not taken: give {self._settings.parent} this basis")
+                log = self._log.of_stranger("prices of another basis")
+                log.warning(f"the price of clearing {frame.index} is of another basis, and is not taken: give {self._settings.parent} this basis")
             case NotChanged():
                 self._parts.asking.answered()
                 self._lacking = []

@@ -256,7 +256,7 @@ class SharedConnection:
     def _connect(self) -> None:
         """Makes a client and connects it, in a thread of its own: the nodes go on meanwhile."""
         try:
-            client = new_client(self.settings, self.client_id, threading.Event(), [], self._log)
+            client = new_client(self.settings, self.client_id, threading.Event(), [], self._log, self._on_dropped)
             will = self._life.will()
             client.will_set(will.topic, will.payload, 1, True)
             connect(client, self.settings)
@@ -381,11 +381,19 @@ class SharedConnection:
             self._newest[found.topic] = found
         else:
             self._newest.pop(found.topic, None)
-        readers = self._readers.get(found.topic, {}), self._readers.get(f"{found.topic.rpartition('/')[0]}/", {})
-        for link in [link for them in readers for link in them]:
-            share = self._links.get(link)
-            if share is not None:
-                link.take(share, found)
+        for link, share in self._readers_of(found.topic):
+            link.take(share, found)
+
+    def _on_dropped(self, _client: Any, topic: str) -> None:
+        """Counts a message that was dropped, for each node that reads its topic."""
+        for link, share in self._readers_of(topic):
+            link.count(share, topic)
+
+    def _readers_of(self, topic: str) -> list[tuple[SharedLink, Share]]:
+        """The nodes that read a topic, each with its share of the connection."""
+        readers = self._readers.get(topic, {}), self._readers.get(f"{topic.rpartition('/')[0]}/", {})
+        links = [link for them in readers for link in them]
+        return [(link, share) for link in links if (share := self._links.get(link)) is not None]
 
     def _on_publish(self, number: int) -> None:
         share = self._owners.pop(number, None)

@@ -86,7 +86,7 @@ class Street:
         lapses.begin(TIMES)
         for at, house in enumerate(self.houses):
             house.begin()
-            lapses.heard(at, str(at), TIMES.grace, 0.0)
+            lapses.heard(at, str(at), 0.0)
         found = []
         for now in range(SECONDS):
             mine, is_there = now * self.rate, not self.wire.is_cut(now)
@@ -100,7 +100,7 @@ class Street:
             for due, at in [bid for bid in bids if is_there and bid[0] <= now]:
                 bids.remove((due, at))
                 if at in counted:
-                    lapses.heard(at, str(at), TIMES.grace, mine)
+                    lapses.heard(at, str(at), mine)
             for at in lapses.due(mine):
                 counted.discard(at)
                 lapses.forget(at)

@@ -2,13 +2,15 @@
 
 from __future__ import annotations
 
+import contextlib
 import json
 import math
 import random
 import threading
+import time
 
 import pytest
-from brokers import Mosquitto, Onlooker, live_program, require_broker, wait_until
+from brokers import SECONDS, Mosquitto, Onlooker, live_program, require_broker, wait_until
 from example import ExampleMarket, Member, example_broker
 from hypothesis import HealthCheck, given, settings
 from hypothesis import strategies as st
@@ -46,6 +48,7 @@ from cogmaula.live.node_errors import BadFrame, BadMessage
 from cogmaula.live.price_table import PriceTable
 from cogmaula.live.topics import Topics
 from cogmaula.live.view import view_of
+from cogmaula.logs import BURST
 
 # What mosquitto 2.0 passes on and paho refuses, found by all code points and all properties at a broker.
 REFUSED = {
@@ -132,6 +135,66 @@ def test_an_operator_clears_a_topic_that_no_client_can_read(broker, market, tmp_
         assert operator.payload("market/street/bid/2") and not operator.payload(
             "market/street/bid/1"
         )
+
+
+class RawFlood(threading.Thread):
+    """Writes one packet again and again by a login, without waiting for answers, until it is ended."""
+
+    def __init__(self, port, user, told):
+        super().__init__(daemon=True)
+        self._client, self._told, self._ended = (
+            RawClient(port, user).__enter__(),
+            told,
+            threading.Event(),
+        )
+        self.count = 0
+        self.start()
+
+    def run(self):
+        with contextlib.suppress(OSError):
+            while not self._ended.wait(0.001):
+                self._client.socket.sendall(self._told)
+                self.count += 1
+
+    def end(self):
+        self._ended.set()
+        self.join(10)
+        self._client.__exit__()
+
+
+@pytest.mark.parametrize("topic", ["street/bid/1", "house/state"])
+def test_a_flood_of_properties_holds_no_sibling_up(broker, market, topic):
+    """Each message has 4,000 properties, which take some 10 ms to read: 100 a second are all of a parent's time."""
+    begun(market).stop("house")
+    form = user_property("a", "b") * 4_000
+    flood = RawFlood(broker.port, "house", publish(f"market/{topic}", b"x", form, qos=0))
+    waited = []
+    for step in (5, 6, 7, 8):
+        begin = time.monotonic()
+        market.offers(store=falls_at(step, 0, -150))
+        market.settles_at(step, store=-150)
+        waited.append(time.monotonic() - begin)
+    flood.end()
+    said = [line for line in market.said["street"] if topic in line]
+    assert flood.count > 50
+    assert any("bytes of properties" in line for line in said) and len(said) <= BURST + 2, said
+    assert (
+        sum(waited) < SECONDS / 4
+    ), f"seconds from an offer of the store to its setpoint: {waited}"
+
+
+def test_bad_states_of_a_child_make_few_lines(broker, market):
+    """Each is another one, with characters that would end a line or turn it."""
+    begun(market).stop("house")
+    with Member(broker.port, "house") as house:
+        for number in range(400):
+            odd = f"{number}\n<3>forged \u202e" + "x" * 3_000
+            house.publish("market/house/state", json.dumps(STATE | {"started": odd}).encode())
+    market.offers(store=falls_at(6, 0, -150))
+    market.settles_at(6, store=-150)
+    said = [line for line in market.said["street"] if "house/state" in line]
+    assert 0 < len(said) <= BURST + 1, said
+    assert all(len(line) < 1_200 and line.isprintable() for line in said), said
 
 
 def test_no_character_of_an_offer_ends_a_site(tmp_path, live):

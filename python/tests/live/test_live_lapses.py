@@ -24,7 +24,7 @@ def lapses_of(*children):
     found = Lapses()
     found.begin(TIMES)
     for child in children:
-        found.heard(child, f"n{child}", 130.0, 0.0)
+        found.heard(child, f"n{child}", 0.0)
     return found
 
 
@@ -55,7 +55,7 @@ def test_a_last_will_lets_go_after_grace_and_a_node_that_is_back_in_time_stays()
     one.state("n2", 2, False, 10.0)
     one.state("n2", 2, True, 100.0)
     for child in (1, 2):
-        one.heard(child, f"n{child}", 130.0, 50.0)
+        one.heard(child, f"n{child}", 50.0)
     assert one.due(134.9) == {}
     assert one.due(135.0) == {1: "its node n1 has been down for 125 s"}
 
@@ -63,23 +63,28 @@ def test_a_last_will_lets_go_after_grace_and_a_node_that_is_back_in_time_stays()
 def test_the_state_of_another_node_says_nothing_of_a_child():
     one = lapses_of(1)
     one.state("n2", 1, False, 0.0)
+    one.heard(1, "n1", 60.0)
     assert one.due(129.0) == {}
 
 
 def test_a_bid_that_is_not_renewed_lapses():
     one = lapses_of(1, 2)
-    one.heard(2, "n2", 130.0, 60.0)
-    assert one.due(129.9) == {}
-    assert one.due(130.0) == {1: "its bid was not renewed for 130 s"}
-    assert set(one.due(190.0)) == {1, 2}
-
-
-def test_a_bid_never_holds_shorter_than_grace():
-    one = Lapses()
-    one.begin(TIMES)
-    one.heard(1, "n1", 5.0, 0.0)
+    one.heard(2, "n2", 60.0)
     assert one.due(124.9) == {}
     assert one.due(125.0) == {1: "its bid was not renewed for 125 s"}
+    assert set(one.due(185.0)) == {1, 2}
+
+
+@pytest.mark.parametrize("valid", ["900000000", "5", "0", "nan", "x"])
+def test_a_bid_holds_for_grace_whatever_it_says_of_itself(joined, valid):
+    """Its node is dead and told no state: what the bid says does not keep it in the sum, nor let it go before its control fell back."""
+    one = joined("relay").begun()
+    properties = dict(MARKED) | {"sort": "device", "node": "house", "valid": valid}
+    one.link.comes("market/street/bid/2", bid(2, 2, 500, 500).to_bytes(), properties)
+    one.turned()
+    lapses, grace = one.node.serving.session.letting.lapses, one.node.serving.beating.silence.times.grace
+    heard = lapses._children[2].heard
+    assert (lapses.due(heard + grace - 1), set(lapses.due(heard + grace))) == ({}, {2})
 
 
 def test_nobody_is_let_go_while_the_broker_is_away_and_all_counts_anew_behind_it():
@@ -90,8 +95,7 @@ def test_nobody_is_let_go_while_the_broker_is_away_and_all_counts_anew_behind_it
     assert one.due(1000.0) == {}
     one.connected(True, 1000.0)
     assert one.due(1124.9) == {}
-    assert set(one.due(1125.0)) == {2, 3}
-    assert set(one.due(1130.0)) == {1, 2, 3}
+    assert set(one.due(1125.0)) == {1, 2, 3}
 
 
 def test_a_device_that_a_restarted_parent_misses():
@@ -100,7 +104,7 @@ def test_a_device_that_a_restarted_parent_misses():
     one.missed([3], 20.0)
     assert one.due(134.9) == {}
     assert one.due(135.0) == {3: "it was in the newest sum, and was not heard for 125 s since the restart"}
-    one.heard(3, "n3", 130.0, 135.0)
+    one.heard(3, "n3", 135.0)
     assert one.due(136.0) == {}
 
 
