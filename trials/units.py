@@ -30,7 +30,7 @@ from .site import NODES as NODES_OF_SITE
 from .site import POWER, SITE, TEXT, is_up
 
 PACKAGES = ["systemd-sysv", "dbus", "python3", "python3-paho-mqtt", "python3-websockets"]
-PACKAGES += ["mosquitto", "mosquitto-clients", "openssl", "socat", "postgresql", "python3-psycopg", "libnss-systemd"]
+PACKAGES += ["mosquitto", "mosquitto-clients", "haproxy", "openssl", "socat", "postgresql", "python3-psycopg", "libnss-systemd"]
 DOCS = "/usr/share/doc/market"
 NODES = {"auctioneer": "auctioneer", "street": "relay", "house": "device", "store": "device"}
 # What has a unit, by the page's way to make it.

@@ -6,13 +6,21 @@ import os
 from dataclasses import dataclass
 
 from .files import Places
+from .front_files import doors_of, socket_of
 from .market_file import Tree
+from .subscription_files import plugin_path
 
 MIB = 1_048_576
 # The broker stores what it retains after so many seconds.
 AUTOSAVE = 10
 # The longest packet that it takes, in bytes.
 MOST_PACKET = 32_768
+# A session that never expires by its own word is kept for so long: none of a market's is.
+EXPIRES = "1h"
+# How many messages of QoS 1 may be under way to a login, which mosquitto has by default.
+INFLIGHT = 20
+# The longest keepalive in seconds: a connection that went away unseen ends after one and a half.
+MOST_KEEPALIVE = 300
 # More messages than the bytes that wait can be. Without a limit by count, mosquitto 2.0.11 ends the connection of whoever publishes what
 # is refused.
 MOST_MESSAGES = 1_000_000
@@ -56,25 +64,28 @@ def rights_text(tree: Tree) -> str:
 def configuration_text(tree: Tree, places: Places) -> str:
     """The broker's configuration."""
     limits, etc, here = limits_of(tree), places.etc("broker"), tree.market.here
-    lines = [
-        "# Made by `cogmaula market`. TLS alone. A login is also the connection's name, so that nobody ends that of another login.",
-        f"listener {tree.broker.port}{f' {tree.broker.host}' if here else ''}",
-        f"cafile {etc}/ca.crt",
-        f"certfile {etc}/broker.crt",
-        f"keyfile {etc}/broker.key",
-        "use_username_as_clientid true",
-        f"max_connections {limits.connections}",
+    lines = ["# Made by `cogmaula market`. A login is also the connection's name, so that nobody ends that of another login."]
+    for listener in _listeners(tree, places):
+        lines += [*listener, "use_username_as_clientid true", f"max_connections {limits.connections}"]
+    lines += [
         "allow_anonymous false",
         f"password_file {etc}/passwords",
         f"acl_file {etc}/mosquitto.acl",
+        "# Who may subscribe to what: the list of rights leaves that free.",
+        f"plugin {plugin_path()}",
+        f"plugin_opt_config_file {etc}/subscriptions.json",
         "set_tcp_nodelay true",
         "# What it retains is stored by the clock: the nodes publish anew what a crash has lost.",
         "persistence true",
         f"persistence_location {places.state('broker') if here else '/var/lib/mosquitto'}/",
         "autosave_on_changes false",
         f"autosave_interval {AUTOSAVE}",
+        f"persistent_client_expiration {EXPIRES}",
         "# Bytes bound what waits for a login. By 0 messages, which means no bound, it would end each connection that it refuses a message.",
         f"max_packet_size {MOST_PACKET}",
+        f"max_inflight_messages {INFLIGHT}",
+        f"max_inflight_bytes {INFLIGHT * MOST_PACKET}",
+        f"max_keepalive {MOST_KEEPALIVE}",
         f"max_queued_messages {MOST_MESSAGES}",
         f"max_queued_bytes {limits.queued}",
         f"memory_limit {limits.memory}",
@@ -83,6 +94,16 @@ def configuration_text(tree: Tree, places: Places) -> str:
         # As another user it could not read the files of root.
         lines.append("user root")
     return "\n".join(lines) + "\n"
+
+
+def _listeners(tree: Tree, places: Places) -> list[list[str]]:
+    """The lines of each listener: sockets of the front, or TLS for all."""
+    if tree.has_front:
+        return [["listener 0 " + socket_of(places, door)] for door in doors_of(tree)]
+    etc = places.etc("broker")
+    address = f" {tree.broker.host}" if tree.market.here else ""
+    keys = [f"cafile {etc}/ca.crt", f"certfile {etc}/broker.crt", f"keyfile {etc}/broker.key"]
+    return [[f"listener {tree.broker.port}{address}", *keys]]
 
 
 def unit_text(tree: Tree) -> str:

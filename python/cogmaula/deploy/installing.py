@@ -17,9 +17,11 @@ cd "$(dirname "$0")"
 install -d -m 755 {etc}
 """
 
-BROKER = _FIRST.format(what="Puts the broker's files on this machine, for Debian's mosquitto.", etc=ETC) + f"""\
-install -m 644 ca.crt broker.crt {ETC}
-install -m 600 -o mosquitto broker.key passwords mosquitto.acl {ETC}
+_BROKER = """\
+install -m 644 ca.crt broker.crt {etc}
+install -m 600 -o mosquitto {secret} {etc}
+# Where the plugin is depends on the processor.
+sed -i "s|^plugin .*|plugin $(ls /usr/lib/*/mosquitto_dynamic_security.so | head -n 1)|" mosquitto.conf
 # A mosquitto that finds a place to keep its data twice does not start.
 sed -i '/^persistence_location/d' /etc/mosquitto/mosquitto.conf
 install -d -m 755 /etc/systemd/system/mosquitto.service.d
@@ -35,6 +37,24 @@ else
     systemctl restart mosquitto
 fi
 """
+_FRONT = """\
+command -v haproxy >/dev/null || {{ echo "there is no haproxy, the front of the broker: install the package haproxy" >&2; exit 1; }}
+if ! cmp -s haproxy.cfg {etc}/haproxy.cfg || ! systemctl is-active --quiet market-front
+then
+    install -m 644 haproxy.cfg {etc}
+    install -m 644 market-front.service /etc/systemd/system
+    systemctl daemon-reload
+    systemctl enable market-front
+    systemctl restart market-front
+fi
+"""
+
+
+def broker_text(has_front: bool) -> str:
+    """The script of the broker's folder, with the front if it has one."""
+    secret = "broker.key passwords mosquitto.acl subscriptions.json" + (" front.pem" if has_front else "")
+    first = _FIRST.format(what="Puts the broker's files on this machine, for Debian's mosquitto.", etc=ETC)
+    return first + _BROKER.format(etc=ETC, secret=secret) + (_FRONT.format(etc=ETC) if has_front else "")
 
 
 def unit_text(what: str, name: str, unit: str, logins: Iterable[str]) -> str:

@@ -53,6 +53,9 @@ class BrokerPlan:
     max_connections:  the most connections; None takes twice what the tree needs, at least 256
     max_queued_bytes: the most bytes that wait for one login; None takes what a page of the whole tree needs, at least 1 MiB
     memory_limit:     the most bytes of memory; None takes what these need
+    front:            whether haproxy is before the broker; None puts it there unless all is for this machine alone
+    control_port:     of the controls' listener at the front; None takes the one behind `port`
+    per_address:      the most connections of one address at each listener, and new ones in ten seconds; None takes what the tree needs
     """
 
     host: str = "127.0.0.1"
@@ -60,6 +63,9 @@ class BrokerPlan:
     max_connections: int | None = None
     max_queued_bytes: int | None = None
     memory_limit: int | None = None
+    front: bool | None = None
+    control_port: int | None = None
+    per_address: int | None = None
 
     def __post_init__(self) -> None:
         """Raises BadSettings."""
@@ -67,10 +73,17 @@ class BrokerPlan:
             raise BadSettings(f"broker.host is {CLIENT}, which is the service of clients in compose.yaml: give the broker another name")
         if not 1 <= self.port <= 65_535:
             raise BadSettings(f"broker.port is {self.port}: give 1 to 65535")
-        for name in ("max_connections", "max_queued_bytes", "memory_limit"):
+        if not 1 <= self.port_of_controls <= 65_535 or self.port_of_controls == self.port:
+            raise BadSettings(f"broker.control_port is {self.port_of_controls}: give 1 to 65535, and not that of broker.port")
+        for name in ("max_connections", "max_queued_bytes", "memory_limit", "per_address"):
             value = getattr(self, name)
             if value is not None and value < 1:
                 raise BadSettings(f"broker.{name} is {value}: give 1 or more")
+
+    @property
+    def port_of_controls(self) -> int:
+        """The port of the controls' listener at the front."""
+        return self.control_port if self.control_port is not None else self.port + (1 if self.port < 65_535 else -1)
 
 
 @dataclass(frozen=True)
@@ -173,6 +186,15 @@ class Tree:
                 above = known.get(above.parent)
             if len(seen) - (member.sort == "device") > MOST_RELAYS:
                 raise BadSettings(f"{member.name} is below more than {MOST_RELAYS} relays: give it a parent nearer to the auctioneer")
+
+    @property
+    def has_front(self) -> bool:
+        """Whether haproxy is before the broker."""
+        return self.broker.front if self.broker.front is not None else not self.market.here
+
+    def port_of(self, login: str) -> int:
+        """The port of the broker at which a login comes in."""
+        return self.broker.port_of_controls if self.has_front and login.endswith(CONTROL) else self.broker.port
 
     def member(self, name: str) -> Member:
         """A node by its name. Raises BadSettings."""

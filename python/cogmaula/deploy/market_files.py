@@ -13,7 +13,9 @@ from ..live.node_settings import Settings
 from . import broker_files, history_files, installing, node_files, site_files
 from .containers import compose_text
 from .files import OPEN, RUN, SECRET, Places, text_of, write_file
+from .front_files import front_text, front_unit_text
 from .keys import make_authority, make_certificate, make_passwords
+from .subscription_files import subscriptions_text
 from .toml_text import toml_text
 from .market_file import Member, Tree, read_tree
 
@@ -27,6 +29,8 @@ def init_market(tree: Tree, out: Path) -> list[str]:
         raise BadSettings(f"{out} has files: give a new folder, or add a device to that market by `cogmaula market add`")
     _make(tree, out)
     first = [f"mosquitto -c {out / 'broker' / 'mosquitto.conf'}"] if tree.market.here else []
+    if tree.market.here and tree.has_front:
+        first.append(f"haproxy -f {out / 'broker' / 'haproxy.cfg'}")
     return [*first, *_lines(tree, out, list(_folders(tree)))]
 
 
@@ -119,9 +123,15 @@ def _make(tree: Tree, out: Path) -> None:
 def _make_broker(tree: Tree, places: Places) -> None:
     folder = places.out / "broker"
     write_file(folder / "mosquitto.acl", broker_files.rights_text(tree), SECRET)
+    write_file(folder / "subscriptions.json", subscriptions_text(tree), SECRET)
     write_file(folder / "mosquitto.conf", broker_files.configuration_text(tree, places), OPEN)
     write_file(folder / "mosquitto.service.conf", broker_files.unit_text(tree), OPEN)
-    write_file(folder / "install.sh", installing.BROKER, RUN)
+    write_file(folder / "install.sh", installing.broker_text(tree.has_front), RUN)
+    if tree.has_front:
+        connections = broker_files.limits_of(tree).connections
+        write_file(folder / "front.pem", (folder / "broker.crt").read_text() + (folder / "broker.key").read_text(), SECRET)
+        write_file(folder / "haproxy.cfg", front_text(tree, places, connections), OPEN)
+        write_file(folder / "market-front.service", front_unit_text(connections), OPEN)
     if tree.market.here:
         Path(places.state("broker")).mkdir(mode=0o700, parents=True, exist_ok=True)
 

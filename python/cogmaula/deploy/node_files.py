@@ -21,7 +21,7 @@ def broker_table(tree: Tree, login: str, etc: str) -> dict[str, Any]:
     """The table `broker` of a login whose files are in the folder `etc`."""
     return {
         "host": tree.broker.host,
-        "port": tree.broker.port,
+        "port": tree.port_of(login),
         "prefix": tree.market.prefix,
         "user": login,
         "password_file": f"{etc}/{login}.password",

@@ -16,18 +16,18 @@ from cogmaula.live import LiveError, make_node, read_toml, settings_of
 TREE = TOP / "examples" / "live" / "TREE.toml"
 
 
-def tree_here(port, path=TREE):
+def tree_here(port, path=TREE, **broker):
     """The tree of a file, for this machine alone."""
     tree = read_tree(path)
-    return replace(tree, market=replace(tree.market, here=True), broker=replace(tree.broker, host="127.0.0.1", port=port))
+    return replace(tree, market=replace(tree.market, here=True), broker=replace(tree.broker, host="127.0.0.1", port=port, **broker))
 
 
 class MadeMarket:
     """The market of the example. What a node says is in `said`; what the broker says, in full, in `log`."""
 
-    def __init__(self, folder, path=TREE):
+    def __init__(self, folder, path=TREE, **broker):
         self.out, self.port = folder / "market", free_port()
-        self.tree = tree_here(self.port, path)
+        self.tree = tree_here(self.port, path, **broker)
         init_market(self.tree, self.out)
         self.nodes, self.controls, self.said, self.threads, self.raised = {}, {}, {}, {}, {}
         self.clients = []
@@ -85,10 +85,12 @@ class MadeMarket:
         one.tls_set(str(self.out / "authority" / "ca.crt"))
         one.on_message = lambda _client, _data, message: one.read.append((message.topic, message.payload))
         one.on_disconnect = lambda _client, _data, code, *_: one.ends.append(str(code))
-        one.on_connect = lambda client, *_: client.subscribe([("#", 1)])
+        # A device and a control may not subscribe to #.
+        topics = [right.topic for right in read_tree(self.out / "tree.toml").rights()[login] if right.access != "write"]
+        one.on_connect = lambda client, *_: client.subscribe([(topic, 1) for topic in ["#", *topics]])
         subscribed = threading.Event()
         one.on_subscribe = lambda *_: subscribed.set()
-        one.connect("127.0.0.1", self.port)
+        one.connect("127.0.0.1", read_tree(self.out / "tree.toml").port_of(login))
         one.loop_start()
         assert subscribed.wait(30), f"{login} cannot connect: {self.log}"
         self.clients.append(one)

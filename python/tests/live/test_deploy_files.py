@@ -347,7 +347,7 @@ def test_a_device_more_comes_into_a_site(tmp_path, capsys):
     assert capsys.readouterr().out.splitlines()[:3] == ["broker.example: broker", "attic: block", "the machine of car.control: car.control"]
     changed = {str(path.relative_to(out)) for path, text in before.items() if path.read_bytes() != text}
     units = {"block/block.toml", "block/market-site-block.service"}
-    assert changed == {"tree.toml", "compose.yaml", "broker/passwords", "broker/mosquitto.acl", *units}
+    assert changed == {"tree.toml", "compose.yaml", "broker/passwords", "broker/mosquitto.acl", "broker/subscriptions.json", *units}
     assert {path.name for path in out.iterdir() if path.is_dir()} - {path.parent.name for path in before} == {"car.control"}
     told = (out / "block" / "block.toml").read_text()
     assert '[nodes.car]\nsort = "device"\nparent = "street"\nchild = 3\n' in told
@@ -421,7 +421,7 @@ def test_a_device_more_leaves_what_is_there(tmp_path, capsys):
     told = capsys.readouterr().out.splitlines()
     assert told[:4] == ["broker.example: broker", "the machine of street: street", "garage: car", "the machine of car.control: car.control"]
     changed = {str(path.relative_to(out)) for path, text in before.items() if path.read_bytes() != text}
-    assert changed == {"tree.toml", "compose.yaml", "broker/passwords", "broker/mosquitto.acl", "street/street.toml"}
+    assert changed == {"tree.toml", "compose.yaml", "broker/passwords", "broker/mosquitto.acl", "broker/subscriptions.json", "street/street.toml"}
     assert (out / "broker" / "passwords").read_bytes().startswith(before[out / "broker" / "passwords"])
     assert "[children.car]\nchild = 3\nsort = \"device\"\ngreatest = 3700\npause = 1.0\n" in (out / "street" / "street.toml").read_text()
     assert read_tree(out / "tree.toml").member("car") == Member("device", "car", "street", 3, None, 3700, "garage", True)
