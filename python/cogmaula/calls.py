@@ -8,7 +8,7 @@ from __future__ import annotations
 
 from collections.abc import Iterable
 from dataclasses import dataclass
-from datetime import date
+from datetime import date, datetime
 
 from .cluster import Cluster, Source, bytes_of
 from .errors import ProgramFault
@@ -29,15 +29,20 @@ def cluster_in(source: Source) -> Cluster:
     return source if isinstance(source, Cluster) else Cluster.from_json(bytes_of(source))
 
 
+def start_of(source: Source) -> datetime:
+    """When a run of a source begins if it is not told otherwise."""
+    return (source.start if isinstance(source, Cluster) else None) or START
+
+
 def run(source: Source, *, start: date | None = None, program: Program | None = None) -> Run:
     """Runs a cluster.
 
-    start:   the moment before the first phase, or a date for its midnight; 2000-01-01 00:00 if it is not given
+    start:   the moment before the first phase, or a date for its midnight; if it is not given that of the cluster, or else 2000-01-01 00:00
     program: the proved program; by default the one that `Program.find()` finds
 
     Raises TypeError before anything is run if `start` or `program` is of another type.
     """
-    program, moment, data = chosen(program), moment_of(start, START), bytes_of(source)
+    program, moment, data = chosen(program), moment_of(start, start_of(source)), bytes_of(source)
     text = program.answer("run", data)
     return Run(_cluster_of(source, data), text, moment, program)
 
@@ -58,7 +63,7 @@ class Trace:
 
 def trace(source: Source, *, start: date | None = None, program: Program | None = None) -> Trace:
     """Runs a cluster and keeps every move. `start` and `program` are as for `run`."""
-    program, moment, data = chosen(program), moment_of(start, START), bytes_of(source)
+    program, moment, data = chosen(program), moment_of(start, start_of(source)), bytes_of(source)
     text = program.answer("trace", data)
     moves = moves_of(text)[1]
     report = text[: text.index(b"\n", text.index(b"end phases ")) + 1]

@@ -102,7 +102,7 @@ def run_parts(
     The cluster of each run is one that the program takes by itself. From the second on its first phase joins the members, and repeats
     the end before. Raises what `run` raises; the place of a refusal counts the phases of the whole script.
     """
-    program, moment = chosen(program), moment_of(start, START)
+    program, moment = chosen(program), moment_of(start, cluster.start or START)
     now, passed = first_snapshot(cluster), 0
     for at, part in enumerate(parts):
         # The first part begins as the cluster does, and has no phase of joins.

@@ -5,7 +5,8 @@ from __future__ import annotations
 import json
 import os
 from collections.abc import Iterable
-from dataclasses import dataclass, replace
+from dataclasses import dataclass, field, replace
+from datetime import datetime
 from functools import cached_property
 from pathlib import Path
 from typing import Any
@@ -43,17 +44,27 @@ class Cluster:
     """A tree of devices and concentrators under one auctioneer, and what happens to it, phase by phase.
 
     A cluster looks at none of its numbers, names and places. The program does: `check` asks it.
+
+    start: the moment before the first phase, if it is known, as that of a data frame: a run begins there unless it is told otherwise. The
+           cluster file has none, so it is lost there, and two clusters that differ in it alone are equal
     """
 
     basis: Basis
     nodes: tuple[Node, ...]
     phases: tuple[Phase, ...]
     version: int
+    start: datetime | None = field(compare=False)
 
     def __init__(
-        self, basis: Basis, nodes: Iterable[Node] = (), phases: Iterable[Phase] = (), version: int = 2
+        self,
+        basis: Basis,
+        nodes: Iterable[Node] = (),
+        phases: Iterable[Phase] = (),
+        version: int = 2,
+        start: datetime | None = None,
     ) -> None:
         """Takes nodes and phases in the order of the file. Only version 2 knows limited concentrators."""
+        object.__setattr__(self, "start", start)
         object.__setattr__(self, "basis", basis)
         object.__setattr__(self, "nodes", tuple(nodes))
         object.__setattr__(self, "phases", tuple(phases))

@@ -123,6 +123,16 @@ def simple(frame: DataFrame) -> DataFrame:
     return frame.astype(kinds)
 
 
+def in_utc(frame: DataFrame) -> DataFrame:
+    """The frame with its times in UTC and without a zone, which HDF5 does not hold in an index of several levels."""
+    names = frame.index.names
+    if "time" not in names or getattr(frame.index.get_level_values("time"), "tz", None) is None:
+        return frame
+    levels = [frame.index.get_level_values(name) for name in names]
+    plain = [level.tz_convert("UTC").tz_localize(None) if name == "time" else level for name, level in zip(names, levels, strict=True)]
+    return frame.set_axis(pandas().MultiIndex.from_arrays(plain, names=names), axis=0)
+
+
 def money_accounts(bill: Bill, currency: Currency, number: type[float] | type[Decimal]) -> DataFrame:
     """The accounts in kilowatt-hours and money: amount_UNIT, taken_kWh, given_kWh, each the float or decimal number nearest the exact value."""
     exact = accounts(bill)

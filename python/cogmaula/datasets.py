@@ -17,9 +17,9 @@ from collections.abc import Mapping, Sequence
 from datetime import UTC, datetime, timedelta
 from importlib.util import find_spec
 from typing import TYPE_CHECKING, Any
-from zoneinfo import ZoneInfo
 
 from .errors import NoPackage
+from .moments import zone_name
 from .nodes import Limited
 from .version import __version__
 
@@ -79,13 +79,6 @@ def attributes(run: Run) -> dict[str, Any]:
         "time_zone": zone_name(run.start),
         "changes": run.changes,
     }
-
-
-def zone_name(moment: datetime) -> str:
-    """The zone of a moment: its name, else its offset, and an empty text if it has none."""
-    if isinstance(moment.tzinfo, ZoneInfo):
-        return str(moment.tzinfo)
-    return f"{moment:%z}"
 
 
 def phase_coordinates(run: Run) -> dict[str, Any]:

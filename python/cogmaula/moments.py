@@ -86,6 +86,13 @@ def zone_of(name: str) -> ZoneInfo:
         raise ValueError(f"{name!r} is no time zone: write one as Europe/Berlin") from None
 
 
+def zone_name(moment: datetime) -> str:
+    """The zone of a moment: its name, else its offset, and an empty text if it has none."""
+    if isinstance(moment.tzinfo, ZoneInfo):
+        return str(moment.tzinfo)
+    return f"{moment:%z}"
+
+
 def read_moment(text: str) -> datetime:
     """The moment of a text: 2026-01-31, 2026-01-31T06:30, with an offset or with a zone, as 2026-01-31T06:30[Europe/Berlin].
 

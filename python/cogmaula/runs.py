@@ -13,7 +13,7 @@ from typing import TYPE_CHECKING, Any
 from . import data_frames
 from .cluster import Cluster
 from .errors import NoPackage
-from .moments import later
+from .moments import later, zone_name
 from .money import Rate, currency_of
 from .phases import Tick
 from .program import Program, found_program
@@ -60,7 +60,7 @@ class Run:
         self._text = None if isinstance(text, Report) else text
         self.ends: tuple[PhaseEnd, ...] = report.ends
         self.changes = report.changes
-        self.start = start or data_frames.START
+        self.start = start or cluster.start or data_frames.START
         self._program = program
         self._bill = bill
 
@@ -252,7 +252,8 @@ class Run:
     def to_hdf5(self, path: str | os.PathLike[str]) -> Path:
         """Writes the data frames into a file of HDF5, each under its name, and returns its path. It needs PyTables.
 
-        `amount` is text there. Columns with missing values are float64, with NaN for them.
+        `amount` is text there. Columns with missing values are float64, with NaN for them. If the start has a zone, times are in UTC, and
+        the attribute `time_zone` of each frame has its name.
 
         Raises NoPackage without PyTables, and OSError.
         """
@@ -263,7 +264,8 @@ class Run:
             raise NoPackage("HDF5 needs PyTables: on Debian, apt-get install python3-tables")
         with pd.HDFStore(os.fspath(path), mode="w") as store:
             for name, frame in self.tables().items():
-                store.put(name, data_frames.simple(frame))
+                store.put(name, data_frames.in_utc(data_frames.simple(frame)))
+                store.get_storer(name).attrs.time_zone = zone_name(self.start)
         return Path(path)
 
     def dataset(self, households: Mapping[str, Sequence[str]] | None = None) -> Any:

@@ -197,7 +197,7 @@ def test_a_number_becomes_the_nearest_whole_watts(tmp_path_factory: pytest.TempP
 def test_the_command_writes_a_file_that_the_program_takes(
     tmp_path: Path, program: Program, capsys: pytest.CaptureFixture[str]
 ) -> None:
-    """One day of the tables; and a file that the program refuses, with what explains it."""
+    """One day of the tables; and a node that the program refuses, which leaves the file that was there."""
     path, output = written(tmp_path), tmp_path / "day.json"
     words = ["from-csv", str(path), "-o", str(output), "--program", program.path]
     assert cli.main([*words, "--day", "2026-06-21"]) == 0
@@ -211,8 +211,10 @@ def test_the_command_writes_a_file_that_the_program_takes(
         assert f"{tmp_path / own} is the recipe or one of its tables" in capsys.readouterr().err
     written(tmp_path, recipe=RECIPE.replace("ceiling = 5000", "ceiling = -1"))
     capsys.readouterr()
-    assert cli.main(words) == 5
-    assert f"cogmaula explain {output} says where and why" in capsys.readouterr().err
+    before = output.read_bytes()
+    assert cli.main(words) == 2
+    assert "recipe.toml: the node 'feeder': the program refuses it: refused" in capsys.readouterr().err
+    assert output.read_bytes() == before
 
 
 def test_a_month_is_made_and_tried_in_parts(tmp_path: Path, program: Program, capsys: pytest.CaptureFixture[str]) -> None:
@@ -255,3 +257,25 @@ def test_the_neighbourhood_is_made_by_its_seed(tmp_path: Path) -> None:
     assert cluster.to_json() == (folder / "neighbourhood.json").read_text()
     assert start == datetime(2026, 6, 21)
     assert read_recipe(folder / "neighbourhood.toml").minutes == 15
+
+
+@pytest.mark.parametrize(
+    ("columns", "told"),
+    [
+        ("a,b/c", "loads.csv: column b/c: the program refuses it: refused 7 node 3: a name has a wrong form"),
+        ("a,store", "loads.csv: column store: the program refuses it: refused"),
+    ],
+)
+def test_a_column_that_the_program_refuses_is_named_and_nothing_is_written(tmp_path, capsys, program, columns, told) -> None:
+    (tmp_path / "loads.csv").write_text(f"time,{columns}\n2026-06-21T00:00,100,200\n2026-06-21T00:15,100,200\n")
+    battery = "capacity = 1000\ncharge = 500\ndischarge = 500\nspread = 1\nstart = 0"
+    recipe = f'[basis]\nmin = 0\nmax = 9\nsteps = 10\n[[node]]\nname = "store"\nkind = "battery"\nparent = "auctioneer"\n{battery}\n'
+    (tmp_path / "recipe.toml").write_text(recipe + '[[table]]\nfile = "loads.csv"\nkind = "load"\nunit = "W"\n')
+    words = ["from-csv", str(tmp_path / "recipe.toml"), "-o", str(tmp_path / "out.json"), "--program", program.path]
+    assert cli.main(words) == 2
+    assert told in capsys.readouterr().err and not (tmp_path / "out.json").exists()
+    (tmp_path / "recipe.toml").write_text(recipe.replace("spread = 1", "spread = -1") + '[[table]]\nfile = "loads.csv"\nkind = "load"\n')
+    (tmp_path / "loads.csv").write_text("time,a\n2026-06-21T00:00,1\n2026-06-21T00:15,2\n")
+    assert cli.main(words) == 2
+    assert "recipe.toml: the node 'store': the program refuses it: refused" in capsys.readouterr().err
+    assert not (tmp_path / "out.json").exists()

@@ -8,6 +8,7 @@ import sys
 from datetime import datetime, timedelta
 
 import pytest
+from zoneinfo import ZoneInfo
 from clusters import clusters
 from conftest import CASES, EXAMPLES
 from hypothesis import given, settings
@@ -226,6 +227,16 @@ def test_hdf5_is_read_as_it_was_written(tmp_path):
     powers = pd.read_hdf(tmp_path / "run.h5", "powers")
     assert powers.equals(done.powers.astype("float64"))
     assert [int(amount) for amount in pd.read_hdf(tmp_path / "run.h5", "accounts")["amount"]] == list(done.accounts["amount"])
+
+
+def test_hdf5_has_the_times_of_a_zone_in_utc(tmp_path):
+    pytest.importorskip("tables")
+    done = run(EXAMPLES / "village.json", start=datetime(2026, 6, 21, tzinfo=ZoneInfo("Europe/Berlin")))
+    done.to_hdf5(tmp_path / "run.h5")
+    prices = pd.read_hdf(tmp_path / "run.h5", "prices")
+    assert prices.index[0] == (pd.Timestamp("2026-06-20 22:00"), 1) and prices["price"].tolist() == done.prices["price"].tolist()
+    with pd.HDFStore(tmp_path / "run.h5", "r") as store:
+        assert store.get_storer("powers").attrs.time_zone == "Europe/Berlin"
 
 
 def test_hdf5_without_an_engine(tmp_path, monkeypatch):

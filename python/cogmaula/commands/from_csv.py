@@ -11,6 +11,7 @@ from .. import cli
 from ..chains import parts_of, run_parts
 from ..data import Made, Recipe, RecipeFault, made_by, read_recipe
 from ..data.looks import lines_of
+from ..errors import Refused
 from ..moments import written
 
 HELP = "makes a cluster file of tables of loads and solar power, by a recipe"
@@ -38,19 +39,29 @@ def main(arguments: argparse.Namespace) -> int:
         begin, end = arguments.day, arguments.day + timedelta(days=1)
     keep_inputs(read_recipe(arguments.recipe), Path(arguments.output))
     made = made_by(arguments.recipe, begin, end)
+    # What the program refuses is not written.
+    first = next(parts_of(made.cluster))
+    try:
+        next(run_parts(made.cluster, [first], program=cli.program_of(arguments)))
+    except Refused as error:
+        raise RecipeFault(f"{arguments.recipe}: {place_of(made, error)}the program refuses it: {error}") from None
     made.cluster.save(arguments.output)
     if not arguments.quiet:
         print("\n".join(lines_of(made.looks)))
     tell(made, arguments.output)
-    # If the program refuses the file, the command line says how to explain it.
-    arguments.file = arguments.output
-    parts = parts_of(made.cluster)
-    first = next(parts)
-    next(run_parts(made.cluster, [first], program=cli.program_of(arguments)))
     if (checked := len(first)) < len(made.cluster.phases):
         told = f"too long for one run, so the program has looked at its first {checked:,} phases"
         print(f"{arguments.output}: {told}: cogmaula run, chain and report run it in parts", file=sys.stderr)
     return 0
+
+
+def place_of(made: Made, error: Refused) -> str:
+    """The column or the node of the recipe that a refusal names, in words; an empty text if it names neither."""
+    if error.place.what != "node" or not error.place.numbers:
+        return ""
+    at, nodes = error.place.numbers[0] - 1, made.cluster.nodes
+    column = made.columns[at - len(nodes)] if at >= len(nodes) - len(made.columns) else None
+    return f"{column}: " if column is not None else f"the node {nodes[at].name!r}: "
 
 
 def keep_inputs(recipe: Recipe, output: Path) -> None:

@@ -35,6 +35,7 @@ class Made:
     connection: the name of the device that is the connection to the supplier, or None
     told:       a line for each thing that was filled in, rounded or left out
     looks:      what each column looks like
+    columns:    of each device of a column, which are the last nodes of the cluster, its table and its column in words
     """
 
     cluster: Cluster
@@ -42,6 +43,7 @@ class Made:
     connection: str | None
     told: tuple[str, ...]
     looks: tuple[Look, ...]
+    columns: tuple[str, ...]
 
 
 def from_csv(path: str | Path, begin: date | None = None, end: date | None = None) -> tuple[Cluster, datetime]:
@@ -127,7 +129,8 @@ def made_of(recipe: Recipe, tables: Sequence[tuple[Table, Measured]], before: Se
     cluster = cluster.with_phases(cluster.join_all(), *phases)
     start = later(first.astimezone(recipe.timezone), 0) if recipe.timezone else first
     looks = looks_of(tables, recipe.tick)
-    return Made(cluster, start, connection_of(recipe), tuple(told), tuple(looks))
+    columns = tuple(f"{table.file.name}: column {name}" for table, name, _ in series)
+    return Made(cluster, start, connection_of(recipe), tuple(told), tuple(looks), columns)
 
 
 def cluster_of(recipe: Recipe, tables: Sequence[tuple[Table, Measured]]) -> Cluster:

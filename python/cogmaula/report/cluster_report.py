@@ -88,7 +88,7 @@ def findings_of(
     return Findings(
         title or title_of(source),
         done,
-        start is not None,
+        (start or cluster.start) is not None,
         connection,
         bill_with_supplier(done, connection),
         figures_of(done, connection, currency),
@@ -131,7 +131,7 @@ def report(
 
     source:   the cluster, the path of its file, or the bytes of the file
     title:    the page's title; the name of the file if it is not given
-    start:    the moment before the first phase; 2000-01-01 00:00 if it is not given
+    start:    the moment before the first phase; 2000-01-01 00:00 if neither it nor the cluster's own is given
     currency: the unit of money, and what a kilowatt-hour costs at price 1; price units times kilowatt-hours if it is not given
     span:     the minutes of a span of the bill; if it is not given, an hour, or some hours if the run is long
     targets:  watts that the cluster is asked for at the end of the run; some of its range if they are not given

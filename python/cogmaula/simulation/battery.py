@@ -5,7 +5,7 @@ from __future__ import annotations
 from dataclasses import dataclass
 from datetime import datetime
 
-from .device import Bid, between
+from .device import Bid, between, require_prices
 
 
 @dataclass
@@ -36,6 +36,7 @@ class Battery:
 
     def __post_init__(self) -> None:
         """Raises ValueError for what no battery has."""
+        require_prices(self.name, self.prices)
         if not (0 <= self.reserve < self.capacity and 0 <= self.energy <= self.capacity):
             raise ValueError(f"{self.name}: reserve and energy lie from 0 to the capacity, {self.capacity} Wh, the reserve below it")
         if not (0 < self.efficiency <= 1 and self.charge >= 0 and self.discharge >= 0 and self.interval > 0):

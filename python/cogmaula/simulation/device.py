@@ -43,7 +43,9 @@ class Device(Protocol):
 
 
 def offer_of(bid: Bid, basis: Basis, name: str) -> AnyOffer:
-    """What a device offers to a market by its bid. Raises BadBid."""
+    """What a device offers to a market by its bid: numbers of any library that are whole, and arrays of them. Raises BadBid."""
+    if not isinstance(bid, Stated) and hasattr(bid, "tolist"):
+        bid = bid.tolist()
     try:
         if isinstance(bid, Stated):
             bid.kind.require_state(bid.state)
@@ -68,7 +70,7 @@ def _whole(value: Any) -> int:
     try:
         if isinstance(value, bool):
             raise TypeError
-        return operator.index(value)
+        return int(value) if isinstance(value, float) and value.is_integer() else operator.index(value)
     except TypeError:
         raise BadFrame(f"{value!r} is no whole number: give whole watts and whole prices") from None
 
@@ -78,6 +80,12 @@ def _pair(value: Any) -> tuple[int, int]:
     if not isinstance(value, Sequence) or len(value) != 2:
         raise BadFrame(f"{value!r} is no point: give a pair of a price and watts")
     return _whole(value[0]), _whole(value[1])
+
+
+def require_prices(name: str, prices: tuple[int, int]) -> None:
+    """Raises ValueError if the second of two prices is below the first."""
+    if prices[0] > prices[1]:
+        raise ValueError(f"{name}: prices go from {prices[0]} to {prices[1]}: give the lower one first")
 
 
 def between(prices: tuple[int, int], share: float) -> int:

@@ -10,11 +10,12 @@ from dataclasses import dataclass
 from datetime import datetime
 
 from .clocked import WATER, Clocked, temperature_after
-from .device import Bid, between, from_on, up_to
+from .device import Bid, between, from_on, require_prices, up_to
 from .profiles import Profile
 
 
-def _require_band(name: str, low: float, high: float) -> None:
+def _require_band(name: str, low: float, high: float, prices: tuple[int, int]) -> None:
+    require_prices(name, prices)
     if not low < high:
         raise ValueError(f"{name}: low is {low} and high {high}: give a low below it")
 
@@ -58,7 +59,7 @@ class HeatPump(Clocked):
 
     def __post_init__(self) -> None:
         """Raises ValueError for what no house has."""
-        _require_band(self.name, self.low, self.high)
+        _require_band(self.name, self.low, self.high, self.prices)
         if not (self.loss > 0 and self.constant > 0 and self.power >= 0 and self.cop > 0):
             raise ValueError(f"{self.name}: loss, constant and cop above 0 and a power of 0 or more are due")
 
@@ -105,7 +106,7 @@ class Tank(Clocked):
 
     def __post_init__(self) -> None:
         """Raises ValueError for what no tank has."""
-        _require_band(self.name, self.low, self.high)
+        _require_band(self.name, self.low, self.high, self.prices)
         if not (self.loss > 0 and self.litres > 0 and self.power >= 0):
             raise ValueError(f"{self.name}: loss and litres above 0 and a power of 0 or more are due")
 

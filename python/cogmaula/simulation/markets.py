@@ -15,7 +15,7 @@ from types import TracebackType
 from typing import TypeGuard
 
 from ..cluster import Basis
-from ..live.frames import CHILDREN, WRITES, Bid, Clear, Fault, Frame, Hello, Price, RelayResume, Send, Splitter, are_limits
+from ..live.frames import CHILDREN, WRITES, Bid, Clear, Fault, Frame, Hello, Price, RelayResume, Send, Splitter, are_limits, is_basis
 from ..program import Program, chosen, live_at, live_program
 from .device import Demands
 from .streams import LONGEST, PIECE, ROOM, Stream, open_live
@@ -195,8 +195,10 @@ class Market:
         program: the proved program, by default the one that `Program.find()` finds
         live:    the program of the groups' relays, by default the one beside the program of the market
 
-        Raises ValueError for names and groups that do not fit, NoProgram and ProgramFault.
+        Raises ValueError for a basis that no market has, and for names and groups that do not fit; NoProgram and ProgramFault.
         """
+        if not is_basis(basis):
+            raise ValueError(f"{basis}: a market has 2 to 1,000 steps from min to a greater max, and max - min is a multiple of steps - 1")
         self._basis = basis
         self._bid = struct.Struct(f">BHI{basis.steps}i")
         self._children = _places(devices, groups)

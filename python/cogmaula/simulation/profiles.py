@@ -5,8 +5,9 @@ from __future__ import annotations
 from collections.abc import Callable, Sequence
 from dataclasses import dataclass
 from datetime import datetime
+from math import isfinite
 
-from ..moments import minutes_between
+from ..moments import later, minutes_between
 
 Profile = float | Callable[[datetime], float]
 
@@ -48,3 +49,21 @@ class Held:
         if zone is None or now.tzinfo is None:
             return minutes_between(self.start, now)
         return minutes_between(self.start.replace(tzinfo=None), now.astimezone(zone).replace(tzinfo=None))
+
+
+def fault_in(profile: object, begin: datetime, end: datetime) -> str | None:
+    """The first value of a table between two moments that is no number, with its time in the zone of the first; None if all are, or it is no table."""
+    if not isinstance(profile, Held):
+        return None
+    try:
+        first, last = (minutes_between(profile.start, moment) // profile.minutes for moment in (begin, end))
+    except ValueError as fault:
+        return str(fault)
+    many = len(profile.values)
+    rows = range(many) if profile.repeats else range(min(max(int(first), 0), many - 1), min(max(int(last), 0), many - 1) + 1)
+    for at in rows:
+        if not isfinite(profile.values[at]):
+            time = later(profile.start, at * profile.minutes)
+            time = time if begin.tzinfo is None else time.astimezone(begin.tzinfo)
+            return f"{profile.values[at]} at {time.isoformat()}"
+    return None

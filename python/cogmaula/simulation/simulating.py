@@ -16,9 +16,10 @@ from ..nodes import Limited, Manual, Node
 from ..phases import Events, Join, Phase, State, Tick
 from ..program import Program
 from ..texts import GroupEnd, PhaseEnd
-from .device import Demands, Device, offer_of
+from .device import BadBid, Bid, Demands, Device, offer_of
 from .demands import BidMaker
 from .markets import Cleared, Group, Market
+from .profiles import fault_in
 
 
 class BidsNotKept(MarketError):
@@ -58,17 +59,19 @@ def simulate(
     program:   the proved program, by default the one that `Program.find()` finds
     live:      the proved program of the groups' relays and of bids by points or by a state, by default the one beside the program of the market
 
-    Raises BadBid if a device bids what no market takes, ValueError for names, groups and counts that do not fit, NoProgram and
-    ProgramFault.
+    Raises BadBid if a device bids what no market takes, ValueError for names, groups and counts that do not fit and for a table with a gap,
+    NoProgram and ProgramFault.
     """
     if ticks < 1 or minutes < 1:
         raise ValueError(f"{ticks} ticks of {minutes} minutes: give 1 or more of each")
     begin, names = moment_of(start, data_frames.START), [device.name for device in devices]
+    for device in devices:
+        _require_numbers(device, begin, later(begin, (ticks - 1) * minutes))
     rows: list[_Row] = []
     with Market(basis, names, groups, program=program, live=live) as market, BidMaker(basis, live, program) as maker:
         for tick in range(ticks):
             now = later(begin, tick * minutes)
-            bids = tuple(maker.demands({device.name: offer_of(device.bid(now), basis, device.name) for device in devices}).values())
+            bids = tuple(maker.demands({device.name: offer_of(_bid_of(device, now), basis, device.name) for device in devices}).values())
             states = tuple(device.state for device in devices)
             for name, demands in zip(names, bids, strict=True):
                 market.bid(name, demands)
@@ -79,6 +82,21 @@ def simulate(
                 device.step(power, minutes)
             rows.append(_Row(cleared, powers, states, bids if keep_bids else None))
     return Simulation(tuple(names), basis, begin, minutes, tuple(groups), tuple(rows))
+
+
+def _require_numbers(device: Device, begin: datetime, end: datetime) -> None:
+    """Raises ValueError, before anything is simulated, if a table that a device is given has no number at some time."""
+    for word, profile in vars(device).items() if hasattr(device, "__dict__") else ():
+        if (fault := fault_in(profile, begin, end)) is not None:
+            raise ValueError(f"{device.name}: its {word} has {fault}: fill the gap, or begin elsewhere")
+
+
+def _bid_of(device: Device, now: datetime) -> Bid:
+    """The bid of a device. An error that it raises says of which device and of what moment."""
+    try:
+        return device.bid(now)
+    except (ArithmeticError, TypeError, ValueError) as error:
+        raise BadBid(f"{device.name} makes no bid at {now.isoformat()}: {type(error).__name__}: {error}") from error
 
 
 class Simulation:

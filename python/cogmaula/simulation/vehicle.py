@@ -7,7 +7,7 @@ from datetime import datetime, time, timedelta
 
 from ..moments import minutes_between
 from .clocked import Clocked
-from .device import Bid, between, up_to
+from .device import Bid, between, require_prices, up_to
 
 
 @dataclass(kw_only=True)
@@ -38,6 +38,7 @@ class Vehicle(Clocked):
 
     def __post_init__(self) -> None:
         """Raises ValueError for what no vehicle has."""
+        require_prices(self.name, self.prices)
         if self.arrival == self.departure or not (self.power > 0 and self.needed >= 0 and self.missing >= 0 and self.interval > 0):
             raise ValueError(f"{self.name}: a departure apart from the arrival, a power and an interval above 0 and energies of 0 or more are due")
 

@@ -2,12 +2,12 @@
 
 from __future__ import annotations
 
-from datetime import date, datetime, timedelta
+from datetime import date, datetime, timedelta, timezone
 
 import pytest
 
 from cogmaula import Basis, ProgramFault, run
-from cogmaula.simulation import Battery, BidsNotKept, Group, Held, HeatPump, Load, Market, Solar, markets, simulate
+from cogmaula.simulation import BadBid, Battery, BidsNotKept, Group, Held, HeatPump, Load, Market, Solar, markets, simulate
 
 HUNDRED, TEN = Basis(0, 99, 100), Basis(0, 9, 10)
 START = datetime(2026, 6, 1)
@@ -123,6 +123,30 @@ def test_other_things_that_do_not_fit(program):
         simulate([Load(name="a", power=1)], TEN, ticks=0, program=program)
     with pytest.raises(BidsNotKept):
         simulate([Load(name="a", power=1)], TEN, ticks=1, program=program).cluster()
+
+
+def test_a_gap_in_a_table_is_told_before_anything_is_simulated(program):
+    """With the device and the time; a table that goes on behind the simulation is not looked at there."""
+    values = [1.0] * 30 + [float("nan")]
+    house = Load(name="house", power=Held(START, 60, values))
+    with pytest.raises(ValueError, match=r"^house: its power has nan at 2026-06-02T06:00:00: fill the gap"):
+        simulate([house], TEN, ticks=124, start=START, program=program)
+    assert house._now is None
+    assert len(simulate([house], TEN, ticks=120, start=START, program=program)) == 120
+    with pytest.raises(ValueError, match=r"^house: .*2026-06-01T00:00:00\+00:00 has a zone and 2026-06-01T00:00:00 has none"):
+        simulate([house], TEN, ticks=1, start=START.replace(tzinfo=timezone.utc), program=program)
+
+
+def test_a_device_that_makes_no_bid_is_named_with_its_moment(program):
+    house = Load(name="house", power=lambda now: 5 if now.hour < 2 else float("nan"))
+    with pytest.raises(BadBid, match=r"^house makes no bid at 2026-06-01T02:00:00: ValueError: cannot convert float NaN"):
+        simulate([house], TEN, ticks=24, minutes=60, start=START, program=program)
+
+
+@pytest.mark.parametrize("basis", [Basis(0, 1000, 1001), Basis(0, 9, 1), Basis(9, 0, 10), Basis(0, 10, 10)])
+def test_a_basis_that_no_market_has_is_told_in_words(program, basis):
+    with pytest.raises(ValueError, match="2 to 1,000 steps"):
+        Market(basis, ["a"], program=program)
 
 
 def test_moments_pass_in_the_zone_of_the_start(program):

@@ -6,6 +6,8 @@ from datetime import datetime, time, timedelta
 from math import e
 
 import pytest
+
+numpy = pytest.importorskip("numpy")
 from checks.oracle import auction
 from clusters import bases, bids, devices
 from hypothesis import given
@@ -55,6 +57,13 @@ def made(live, basis, *bids):
         # Of two points at a price the last holds there.
         ([(4, 100), (4, -50)], [100] * 4 + [-50] * 6),
         ([(9, 1)], [1] * 10),
+        # Whole numbers of any library, and arrays of them.
+        (5.0, [5] * 10),
+        (numpy.float64(5), [5] * 10),
+        (numpy.arange(9, -1, -1), [9, 8, 7, 6, 5, 4, 3, 2, 1, 0]),
+        (numpy.linspace(18, 0, 10), [18, 16, 14, 12, 10, 8, 6, 4, 2, 0]),
+        (numpy.array([(4, 100), (4, -50)]), [100] * 4 + [-50] * 6),
+        ([(4.0, 100), (numpy.int32(4), -50.0)], [100] * 4 + [-50] * 6),
     ],
 )
 def test_bids_by_hand(live, bid, due):
@@ -101,6 +110,8 @@ def test_a_program_that_is_no_agent_is_told(tmp_path):
         (list(range(10)), "above the one of the step before"),
         (1.5, "whole watts"),
         (True, "whole watts"),
+        (float("nan"), "nan is no whole number"),
+        (numpy.array([1.5] * 10), "1.5 is no whole number"),
         (1_000_000_001, "outside ±1000000000"),
         ([(0, 1), (10, 0)], "price 10 of point 1 is outside the basis, 0 to 9"),
         ([(0, 1), (5, 2)], "the power 2 of point 1 is above 1"),
@@ -281,6 +292,10 @@ def test_given_powers():
         lambda: Battery("a", 100, 1, 1, (0, 9), 50, reserve=100),
         lambda: Battery("a", 100, 1, 1, (0, 9), 50, efficiency=0),
         lambda: house(low=22),
+        lambda: house(prices=(80, 20)),
+        lambda: car(prices=(90, 20)),
+        lambda: Battery("a", 100, 1, 1, (9, 0), 50),
+        lambda: Boiler(name="a", power=1, litres=1, drawn=0.0, low=1, high=2, prices=(9, 0), temperature=1),
         lambda: house(loss=0),
         lambda: Boiler(name="a", power=1, litres=0, drawn=0.0, low=1, high=2, prices=(0, 9), temperature=1),
         lambda: car(departure=time(18)),
