@@ -6,14 +6,18 @@ on one processor takes about half the processor time, and several runs side by s
 
 from __future__ import annotations
 
+import ctypes
 import itertools
 import os
+import signal
 from collections.abc import Iterable, Iterator
-from contextlib import contextmanager
+from contextlib import contextmanager, suppress
 from typing import Protocol
 
 # Whose turn it is. It begins anywhere, so that processes beside each other take several.
 _turns = itertools.count(os.getpid())
+# What `prctl` is asked for: PR_SET_PDEATHSIG.
+SET_DEATH_SIGNAL = 1
 
 
 class Numbers(Protocol):
@@ -71,3 +75,15 @@ def on_one() -> Iterator[None]:
         yield
     finally:
         os.sched_setaffinity(0, numbers)
+
+
+def end_with(parent: int) -> None:
+    """Ends this process as soon as the one that started it ends, however it ends: a killed one can tell nobody. Linux alone knows how.
+
+    parent: the number of that process
+    """
+    with suppress(OSError, AttributeError):
+        ctypes.CDLL(None).prctl(SET_DEATH_SIGNAL, signal.SIGKILL)
+    # It may have ended before it was asked for.
+    if os.getppid() != parent:
+        os._exit(1)

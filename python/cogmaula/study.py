@@ -14,7 +14,7 @@ from . import data_frames
 from .cluster import Cluster, Source, bytes_of
 from .figures import Figures
 from .money import Rate
-from .processors import count, dealt, keep_to_one
+from .processors import count, dealt, end_with, keep_to_one
 from .program import Program, found_program
 from .progress import tracked
 from .whole import whole_run
@@ -222,7 +222,7 @@ def _by_processes(processes: int, jobs: Sequence[_Job[T]]) -> Iterator[Outcome[T
     from concurrent.futures import ProcessPoolExecutor
 
     queue: Any = multiprocessing.SimpleQueue()
-    with ProcessPoolExecutor(processes, initializer=_begin_worker, initargs=(dealt(queue, processes),)) as pool:
+    with ProcessPoolExecutor(processes, initializer=_begin_worker, initargs=(dealt(queue, processes), os.getpid())) as pool:
         try:
             # A few jobs go at once, since handing one over takes about a tenth of a millisecond.
             yield from pool.map(_do, jobs, chunksize=max(1, min(16, len(jobs) // (8 * processes))))
@@ -232,8 +232,9 @@ def _by_processes(processes: int, jobs: Sequence[_Job[T]]) -> Iterator[Outcome[T
             raise
 
 
-def _begin_worker(queue: Any) -> None:
-    """Begins a process of the study: it keeps to one processor, and leaves an interrupt from the keyboard to the study itself."""
+def _begin_worker(queue: Any, parent: int) -> None:
+    """Begins a process of the study: it keeps to one processor, leaves an interrupt from the keyboard to the study itself, and ends with it."""
+    end_with(parent)
     keep_to_one(queue)
     signal.signal(signal.SIGINT, signal.SIG_IGN)
 

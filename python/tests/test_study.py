@@ -9,7 +9,8 @@ import os
 import subprocess
 import sys
 import textwrap
-from collections.abc import Iterator
+import time
+from collections.abc import Callable, Iterator
 from dataclasses import astuple, fields
 from pathlib import Path
 from typing import Any
@@ -222,6 +223,43 @@ def test_variants_and_their_figures(program: Program) -> None:
     table = frame_of(found)
     assert list(table.index) == ["start=1000", "start=2000"] and table["cost"].tolist() == [9, 18]
     assert frame_of([]).empty and frame_of(study([house(5)], text_of, program=program))["result"].iloc[0].startswith(b"phase 1 ")
+
+
+@pytest.mark.skipif(not sys.platform.startswith("linux"), reason="Linux alone ends a process with the one that started it")
+def test_a_killed_study_leaves_no_workers(tmp_path: Path) -> None:
+    """Each of two workers writes its number, and then works for a minute. The study is killed, and they are gone within seconds."""
+    (tmp_path / "waiting.py").write_text(
+        "import os, time\n"
+        "def wait(file, program):\n"
+        "    open(f'worker.{os.getpid()}', 'w').close()\n"
+        "    time.sleep(60)\n"
+    )
+    script = "from cogmaula.study import study; import waiting; study([b'a', b'b'] * 2, waiting.wait, processes=2)"
+    environment = {**os.environ, "PYTHONPATH": f"{TOP / 'python'}:{tmp_path}"}
+    killed = subprocess.Popen([sys.executable, "-c", script], cwd=tmp_path, env=environment)
+    try:
+        assert waits(lambda: len(list(tmp_path.glob("worker.*"))) == 2)
+    finally:
+        killed.kill()
+        killed.wait()
+    workers = [int(path.suffix[1:]) for path in tmp_path.glob("worker.*")]
+    assert waits(lambda: not any(is_running(worker) for worker in workers))
+
+
+def waits(is_so: Callable[[], bool], seconds: float = 20) -> bool:
+    """Whether something becomes so within some seconds."""
+    end = time.monotonic() + seconds
+    while not is_so() and time.monotonic() < end:
+        time.sleep(0.02)
+    return is_so()
+
+
+def is_running(process: int) -> bool:
+    """Whether a process runs, and does not only wait to be taken note of."""
+    try:
+        return Path(f"/proc/{process}/stat").read_text().rpartition(")")[2].split()[0] != "Z"
+    except OSError:
+        return False
 
 
 def test_a_scheduler_needs_dask(monkeypatch: pytest.MonkeyPatch) -> None:
