@@ -206,18 +206,19 @@ class Run:
 
         return figures_of(self, connection, currency_of(currency, per_kwh))
 
-    def plot(self, connection: str | None = None) -> Figure:
+    def plot(self, connection: str | None = None, *, currency: str | None = None, per_kwh: Rate | None = None) -> Figure:
         """A figure of the price, of what the devices take, and of what is left over. It needs matplotlib.
 
         connection: as for `figures`; the figure then shows what is bought and sold, and the devices without it
+        currency, per_kwh: as for `figures`; the price is then in money for a megawatt-hour
 
-        Raises NoConnection, and NoPackage without matplotlib.
+        Raises NoConnection, ValueError if only one of the last two is given, and NoPackage without matplotlib.
         """
         try:
             from .report.overview import draw_overview
         except ImportError:
             raise NoPackage("a plot needs matplotlib: on Debian, apt-get install python3-matplotlib") from None
-        return draw_overview(self, connection)
+        return draw_overview(self, connection, currency_of(currency, per_kwh))
 
     def __repr__(self) -> str:
         return (

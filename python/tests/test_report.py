@@ -250,7 +250,7 @@ def test_the_page_of_the_feeder_tells_its_violation(program: Program) -> None:
     assert "0.0796 EUR/kWh (price 8.0)" in text
     # The house takes 500 W, 1500 W, 2000 W, 0 W and 100 W over 30, 60, 15, 15 and 10 minutes: 2.267 kWh at price 9.
     assert "<td>2.267</td><td>0.000</td><td>0.20</td>" in text
-    assert "1 is 0.01 EUR/kWh" in text and not outside_addresses(text)
+    assert "price (EUR/MWh)" in text and "1 is 0.01" not in text and not outside_addresses(text)
 
 
 def test_a_run_without_time_or_members_has_a_page(program: Program) -> None:
@@ -336,7 +336,8 @@ def test_the_command_writes_a_page(tmp_path: Path, program: Program) -> None:
     assert cli.main([*words, *more]) == 0
     text = page.read_text()
     assert "<title>feeder: report of a run</title>" in text and "from 2026-06-21 00:00" in text
-    assert "<td>90</td>" not in text and '<th scope="row">100 W</th>' in text
+    # Price 9 is 90 EUR/MWh.
+    assert '<th scope="row">100 W</th><td>0</td>' in text and '<th scope="row">\u22121 W</th><td>90</td>' in text
     for bad in (["--currency", "EUR"], ["--per-kwh", "x", "--currency", "EUR"], ["--per-kwh", "-1"], ["--span", "0"]):
         with pytest.raises(SystemExit):
             cli.main([*words, *bad])

@@ -263,7 +263,7 @@ def draw_exchange(hours: Hours, totals: Any) -> Figure:
     return figure
 
 
-def draw_curve(prices: Sequence[int], demands: Sequence[int | None], answers: Sequence[tuple[int, int]], unit: str) -> Figure:
+def draw_curve(prices: Sequence[float], demands: Sequence[int | None], answers: Sequence[tuple[int, float]], unit: str) -> Figure:
     """The total of all bids at each price, as dots since nothing lies between two steps, and the price that answers each target."""
     with matplotlib.rc_context(SETTINGS):
         figure = new_figure(left=0.16, bottom=0.15)

@@ -16,7 +16,7 @@ from .long_course import Course as TimeAxis
 from .grouping import MOST_NAMED
 from .history_day import FAR, KILOWATT_HOUR, MOST_FIGURES, Day, prices_by_slot
 from .svg import LINE, svg_of
-from .words import count, duration, money, unit_of
+from .words import count, duration, in_unit, money, unit_of
 
 # A table with more rows is folded, and one of accounts has at most so many of them.
 MOST_OPEN, MOST_ROWS = 40, 2_000
@@ -94,7 +94,8 @@ def prices(day: Day) -> Iterator[str]:
     figure, axes = timed_axes(hours)
 
     def values(name: str) -> Any:
-        return numpy.array([numpy.nan if getattr(slot, name) is None else float(getattr(slot, name)) for slot in slots])
+        found = numpy.array([numpy.nan if getattr(slot, name) is None else float(getattr(slot, name)) for slot in slots])
+        return in_unit(day.currency, 1) * found
 
     axes.stairs(values("greatest"), hours.edges, baseline=values("least"), fill=True, color=LINE, alpha=0.2, linewidth=0)
     axes.stairs(values("mean"), hours.edges, baseline=None, color=LINE, linewidth=1.8)

@@ -36,7 +36,7 @@ nav a { display: inline-block; padding: .3rem .7rem .3rem 0; }
 .facts div { border: 1px solid var(--line); border-radius: .4rem; padding: .5rem .7rem; }
 .facts dt { color: var(--soft); font-size: .85rem; }
 .facts dd { margin: 0; font-size: 1.1rem; overflow-wrap: anywhere; }
-main { display: grid; grid-template-columns: minmax(0, 1fr); gap: 0 3rem; }
+main { display: grid; grid-template-columns: minmax(0, 1fr); grid-auto-flow: row dense; gap: 0 3rem; }
 @media (min-width: 66rem) { main { grid-template-columns: repeat(2, minmax(0, 1fr)); } section.wide-part { grid-column: 1 / -1; } }
 .beside { display: grid; grid-template-columns: repeat(auto-fit, minmax(min(100%, 30rem), 1fr)); gap: 1rem 2rem; align-items: start; }
 .beside > * { min-width: 0; }
@@ -48,11 +48,15 @@ figcaption { font-size: .9rem; }
 .wide { overflow-x: auto; max-width: 100%; max-height: 36rem; overflow-y: auto; margin: .5rem 0; }
 table { border-collapse: collapse; font-variant-numeric: tabular-nums; font-size: .9rem; }
 .wide table { min-width: min(100%, 20rem); }
-main section:not(.wide-part) .wide :is(th, td) { padding: .2rem .3rem; font-size: .82rem; }
+main section:not(.wide-part) .wide :is(th, td), .beside .wide :is(th, td) { padding: .2rem .3rem; font-size: .82rem; }
+.beside .wide thead th, main section:not(.wide-part) .wide thead th { min-width: 2.5rem; }
+.wide tbody th { white-space: normal; overflow-wrap: anywhere; min-width: 8.2rem; }
+main section:not(.wide-part) .wide tbody th { min-width: 4.5rem; }
 caption { text-align: left; padding: .2rem 0; }
 th, td { padding: .2rem .6rem; text-align: right; white-space: nowrap; border-bottom: 1px solid var(--line); }
 thead th { white-space: normal; vertical-align: bottom; }
-.wide thead th { position: sticky; top: 0; background: var(--head); min-width: 4.5rem; z-index: 1; }
+.wide thead th { position: sticky; top: 0; background: var(--head); z-index: 1; }
+section.wide-part > .wide thead th, section.wide-part > details .wide thead th { min-width: 4.5rem; }
 th:first-child, td:first-child { text-align: left; padding-left: .2rem; }
 tbody th { font-weight: normal; }
 .wide tbody th { position: sticky; left: 0; background: var(--paper); }

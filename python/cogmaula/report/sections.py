@@ -2,10 +2,13 @@
 
 from __future__ import annotations
 
-from collections.abc import Callable, Iterable, Iterator, Sequence
+from collections.abc import Callable, Iterable, Iterator, Mapping, Sequence
 from fractions import Fraction
 from typing import Any
 
+import numpy
+
+from ..money import Currency
 from ..texts import Account
 from . import markup
 from .charts import MOST_LINES, MOST_STACKED, Hours, draw_curve, draw_exchange, draw_load, draw_powers, draw_prices, number, watts
@@ -14,7 +17,7 @@ from .grouping import MOST_NAMED, rows_of
 from .kept_limits import Group, Violation
 from .cluster_report import Findings
 from .svg import svg_of
-from .words import count, duration, hours, kilowatt_hours, moment, money, price_words, span_words, unit_of
+from .words import count, duration, hours, in_unit, kilowatt_hours, moment, money, price_words, span_words, unit_of, unit_price
 
 # So many limited groups get a figure, those that were outside their limits first; a table has all.
 MOST_FIGURES = 12
@@ -42,7 +45,10 @@ def page_of(found: Findings) -> str:
         markup.facts([*price_facts(found), *facts(found)]),
         markup.words(MODEL, "soft small"),
         markup.contents((name, title_of(found, name, title)) for name, title, _, _ in sections),
-        markup.parts(markup.section(name, title_of(found, name, title), is_wide, *make(found)) for name, title, is_wide, make in sections),
+        markup.parts(
+            markup.section(name, title_of(found, name, title), is_wide and (name != "use" or is_use_wide(found)), *make(found))
+            for name, title, is_wide, make in sections
+        ),
         foot(found),
     ]
     return markup.page(f"{found.title}: report of a run", body)
@@ -110,13 +116,19 @@ def prices(found: Findings) -> Iterator[str]:
         yield markup.words("No time passes in this run, so there is nothing to draw.")
         return
     held, groups = held_prices(found), {group.name: group.prices for group in found.groups}
-    figure = draw_prices(hours_of(found), held, groups, unit_of(found.currency))
+    figure = draw_prices(hours_of(found), *priced(found.currency, held, groups), unit_of(found.currency))
     told = f"The market's price goes from {min(held)} to {max(held)}"
     own = sum(list(prices) != held for prices in groups.values())
     caption = "The price that holds over each tick." + (f" At some time {count(own, 'limited group')} had another price." if own else "")
     if own > MOST_LINES:
         caption += f" The figure shows {MOST_LINES} of them."
     yield markup.figure(svg_of(figure, "price"), caption + means(found, WITH_BAND), told)
+
+
+def priced(currency: Currency, market: Sequence[int], groups: Mapping[str, Sequence[int]]) -> tuple[Any, dict[str, Any]]:
+    """Prices of the market and of groups in the unit of the figures."""
+    factor = in_unit(currency, 1)
+    return numpy.array(market) * factor, {name: numpy.array(prices) * factor for name, prices in groups.items()}
 
 
 def held_prices(found: Findings) -> list[int]:
@@ -224,6 +236,12 @@ def has_use(found: Findings) -> bool:
     """Whether something is to be said of the use of devices."""
     figures = found.figures
     return bool(figures.batteries or any(figures.shifted_kWh.values()) or figures.cost_plain is not None)
+
+
+def is_use_wide(found: Findings) -> bool:
+    """Whether there is more than one table of the use of devices, so that it needs the whole width."""
+    figures = found.figures
+    return [figures.cost_plain is not None, bool(figures.batteries), any(figures.shifted_kWh.values())].count(True) > 1
 
 
 def use(found: Findings) -> Iterator[str]:
@@ -352,8 +370,9 @@ def span_row(found: Findings, at: int) -> list[str]:
 def flexibility(found: Findings) -> Iterator[str]:
     """What the cluster would take or deliver at each price, at the end of the run."""
     flex = found.flexibility
-    answers = [(answer.target, answer.price) for answer in flex.answers]
-    figure = draw_curve(flex.prices, flex.demands, answers, unit_of(found.currency))
+    factor = in_unit(found.currency, 1)
+    answers = [(answer.target, answer.price * factor) for answer in flex.answers]
+    figure = draw_curve([price * factor for price in flex.prices], flex.demands, answers, unit_of(found.currency))
     known = [demand for demand in flex.demands if demand is not None]
     caption = "What the cluster takes beyond what it delivers, at each price of the basis. Nothing lies between two steps."
     told = f"{caption} It goes from {watts(known[0])} at the lowest price to {watts(known[-1])}."
@@ -370,7 +389,7 @@ def answer_rows(found: Findings) -> Iterable[list[str]]:
     """The row of each target."""
     for answer in found.flexibility.answers:
         around = ["none" if power is None else watts(power) for power in found.flexibility.around(answer)]
-        yield [watts(answer.target), number(answer.price), *around, watts(answer.total)]
+        yield [watts(answer.target), unit_price(found.currency, answer.price), *around, watts(answer.total)]
 
 
 # Each section by its name and its title; whether it is as wide as the page; and what makes it.

@@ -58,10 +58,19 @@ def money_of(currency: Currency, amount: Fraction | float | None) -> str:
 
 
 def unit_of(currency: Currency) -> str:
-    """The unit of a price, in words."""
-    if currency == Currency():
-        return "price units"
-    return f"1 is {number(float(currency.at_price_one), 6).rstrip('0').rstrip('.')} {currency.unit}/kWh"
+    """The unit of a price on an axis or in a table: money for a megawatt-hour, or price units if the user named no currency."""
+    return "price units" if currency == Currency() else f"{currency.unit}/MWh"
+
+
+def in_unit(currency: Currency, price: float) -> float:
+    """A price in the unit of `unit_of`."""
+    return price if currency == Currency() else float(currency.at_price_one) * 1000 * price
+
+
+def unit_price(currency: Currency, price: int) -> str:
+    """A price in the unit of `unit_of`, as a table shows it: with two digits unless it is whole."""
+    value = in_unit(currency, price)
+    return number(value, 0 if currency == Currency() or abs(value - round(value)) < 0.005 else 2)
 
 
 def price_words(currency: Currency, price: Fraction, digits: int = 0) -> str:
