@@ -10,6 +10,7 @@ from tempfile import TemporaryDirectory
 
 from .. import cli
 from ..deploy import Member, add_device, fence_settings, init_market, read_tree
+from ..deploy.time_line import time_line
 from ..history import open_database
 from ..history.why import lines_of, why
 from ..live.node_errors import BadSettings, LiveError
@@ -20,10 +21,11 @@ from ..live.node_settings import BrokerSettings, read_toml
 from ..live.toml_tables import value_of
 
 CALLS_PROGRAM = False
-HELP = "makes the files of a market at a broker, adds a device, lets a device go, clears a topic, fences a relay, gives limits to one, or says why a power was told"
+HELP = "makes the files of a market at a broker, adds a device, says its times, lets a device go, clears a topic, fences or limits a relay, or says why a power was told"
 MORE = (
     "init makes all files from one that names the tree, machines, limits and logins; add adds a device to them. They need openssl and"
-    " mosquitto. drop, clear, fence and limits go to the broker of --config, whose table [broker] is as a node's, with a login that may do this;"
+    " mosquitto. times says of such a file when each device falls back and is let go. drop, clear, fence and limits go to the broker of"
+    " --config, whose table [broker] is as a node's, with a login that may do this;"
     " docs/LIVE.md names the rights. The exit status is 0 once it is done, 1 if it fails or a node refuses, and 2 for settings that are"
     " wrong."
 )
@@ -58,6 +60,8 @@ def add_arguments(parser: argparse.ArgumentParser) -> None:
     adding.add_argument("--fallback", metavar="WATTS", type=int, help="what its control is told while the market is silent; default 0")
     adding.add_argument("--offer-validity", metavar="SECONDS", type=float, help="it leaves if its control is silent for so long; default never")
     adding.add_argument("--control", action="store_true", help="its control logs in at the broker by itself")
+    timing = below.add_parser("times", help="says when each device of a market falls back, and when it is let go")
+    timing.add_argument("tree", metavar="TREE", help="the TOML file that names the market")
     dropping = below.add_parser("drop", help="lets a device go at once: its bid does not count any more. It must take nothing")
     dropping.add_argument("node", metavar="NODE", help="the parent, a relay or the auctioneer")
     dropping.add_argument("child", metavar="CHILD", type=int, help="the device's number there")
@@ -101,6 +105,10 @@ def _add(arguments: argparse.Namespace) -> str:
     return "\n".join(add_device(Path(arguments.out), Member("device", more=more, **told), arguments.site))
 
 
+def _times(arguments: argparse.Namespace) -> str:
+    return "\n".join(time_line(read_tree(arguments.tree)))
+
+
 def _limits(arguments: argparse.Namespace) -> str:
     limits = LimitsMessage(arguments.floor, arguments.ceiling, arguments.until, arguments.reference)
     return give_limits(_broker_of(arguments.config), arguments.node, limits, arguments.seconds)
@@ -128,7 +136,7 @@ def _why(arguments: argparse.Namespace) -> str:
         database.close()
 
 
-_WORDS = {"init": _init, "add": _add, "drop": _drop, "clear": _clear, "fence": _fence, "limits": _limits, "why": _why}
+_WORDS = {"init": _init, "add": _add, "drop": _drop, "clear": _clear, "fence": _fence, "limits": _limits, "times": _times, "why": _why}
 
 
 def main(arguments: argparse.Namespace) -> int:

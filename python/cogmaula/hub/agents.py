@@ -194,7 +194,7 @@ class Agents:
                 self._require_unused(agent)
                 keep_place(self._settings.folder_of_agents / agent.name, place)
                 self._places[agent.name] = place
-            node = Node(settings, agent, self._log.of_node(agent.name), self._exchange.link, TICK)
+            node = Node(settings, agent, self._log.of_node(agent.name), self._exchange.link, min(TICK, self._settings.times.tick))
         except (LiveError, OSError) as error:
             self._log.of_node(agent.name).error(str(error))
             return

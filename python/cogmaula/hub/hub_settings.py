@@ -14,7 +14,7 @@ from ..cluster import Basis
 from ..live.node_errors import BadSettings
 from ..live.page_settings import PageSettings
 from ..live.node_settings import Settings
-from ..live.market_times import MARGIN, VALIDITY
+from ..live.market_times import MARGIN, VALIDITY, Times
 from ..live.toml_tables import read_tables, value_of
 from ..live.topics import Topics, require_name
 from ..program import live_command
@@ -127,6 +127,11 @@ class HubSettings:
             raise BadSettings("page.whole and page.user are for a node at a broker: a hub shows its whole market")
         # Those of the nodes are refused here, and not when the first agent comes.
         self.of_auctioneer()
+
+    @property
+    def times(self) -> Times:
+        """The times of the market."""
+        return self.of_auctioneer().times
 
     @property
     def topics(self) -> Topics:

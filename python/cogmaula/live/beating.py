@@ -74,8 +74,7 @@ class Beating:
             self._bid = None
             return
         if self._bid is None:
-            # The first bid has validity to be confirmed.
-            self.silence.renewed(now)
+            self.silence.bids(now)
         if kept is not self._bid:
             self._bid, self._sent = kept, now
         elif is_up and self._link.is_settled and now >= self._sent + self.silence.times.heartbeat:

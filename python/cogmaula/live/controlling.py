@@ -2,6 +2,7 @@
 
 from __future__ import annotations
 
+import math
 from dataclasses import replace
 
 from ..logs import NodeLog
@@ -37,11 +38,24 @@ class Controlling:
         self._log = log
         # The setpoint and the heartbeat that the control was told last.
         self._told: tuple[SetpointMessage, Heartbeat | None] | None = None
+        # When the setpoint ends that the control was told last, by a clock that is as slow as the market allows.
+        self._ends = -math.inf
         self.is_silent = False
 
-    def begin(self) -> None:
-        """Begins a session: the stored setpoint is told anew."""
+    def begin(self, now: float, has_setpoint: bool) -> None:
+        """Begins a session: the stored setpoint is told anew, and an earlier process may have told it just now."""
         self._told = None
+        if has_setpoint:
+            self._holds(self._silence.times.validity, now)
+
+    def _holds(self, seconds: float, now: float) -> None:
+        """Notes that the control may hold a setpoint for so many seconds from now."""
+        times = self._silence.times
+        self._ends = max(self._ends, now + seconds + times.grace - times.validity)
+
+    def may_leave(self, now: float) -> bool:
+        """Whether the control has fallen back if it heard nothing: the setpoint that it was told last has ended."""
+        return now >= self._ends
 
     def setpoint(self, keeping: Keeping, setpoint: Setpoint, moment: str, now: float, has_bid: bool) -> None:
         """Stores a setpoint and then tells it, so that after a restart the control is told no older one.
@@ -75,11 +89,11 @@ class Controlling:
         has_bid:  whether the node has a bid at its parent, which it renews
         setpoint: the stored one, None without one
         """
-        is_silent = self._silence.is_silent(now, has_bid)
-        if is_silent:
+        is_overdue = self._offers.is_overdue(now)
+        if is_overdue or self._silence.is_silent(now, has_bid):
             if not self.is_silent and not self._offers.is_out:
                 self.is_silent = True
-                self._tell_silence()
+                self._tell_silence("the control has offered nothing for too long, and its device leaves" if is_overdue else "")
             return
         if self.is_silent:
             self.is_silent, self._told = False, None
@@ -91,12 +105,14 @@ class Controlling:
         if self._told is None or self._told[1] != newest or not setpoint.is_same(self._told[0]):
             self._told = setpoint, newest
             silence = self._silence
-            self._tell(replace(setpoint, until=silence.until(now, has_bid), holds=silence.holds(now, has_bid)))
+            holds = silence.holds(now, has_bid)
+            self._holds(holds, now)
+            self._tell(replace(setpoint, until=silence.until(now, has_bid), holds=holds))
 
-    def _tell_silence(self) -> None:
-        silence = self._silence
-        self._log.warning(f"the market is silent: {silence.why}. The control is told its fallback, {self._settings.fallback} W")
-        self._tell(SilentMessage(silence.since, self._settings.fallback, silence.why))
+    def _tell_silence(self, why: str) -> None:
+        since, why = (now_text(), why) if why else (self._silence.since, self._silence.why)
+        self._log.warning(f"the market is silent: {why}. The control is told its fallback, {self._settings.fallback} W")
+        self._tell(SilentMessage(since, self._settings.fallback, why))
 
     def _tell(self, told: ControlMessage) -> None:
         """Tells the control, and at the topic of its setpoint."""

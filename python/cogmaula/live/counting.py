@@ -2,9 +2,9 @@
 
 from __future__ import annotations
 
-import time
 from dataclasses import dataclass
 
+from .. import clock
 from .frames import (
     AuctioneerResume,
     Bid,
@@ -49,7 +49,7 @@ class Counts:
         # How many children a restarted parent waits for.
         self.waiting = 0
         # When the node's loop turned last, by a clock that only rises.
-        self.turned = time.monotonic()
+        self.turned = clock.now()
 
     def passed(self, count: int) -> None:
         """Counts so many Prices of the service for children."""

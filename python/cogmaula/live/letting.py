@@ -3,9 +3,9 @@
 from __future__ import annotations
 
 import json
-import time
 from collections.abc import Iterable
 
+from .. import clock
 from ..logs import NodeLog
 from .broker_link import Message
 from .children import SORT, Children, Heard
@@ -263,4 +263,4 @@ class Letting:
     def old(self, frame: Old) -> None:
         """Hands an Old to a device that was let go and lives: by it the device bids anew."""
         if self._is_device(frame.child) and 0 < self._children.number(frame.child) < frame.kept:
-            self._pricing.pass_on(frame, now_text(), time.monotonic())
+            self._pricing.pass_on(frame, now_text(), clock.now())

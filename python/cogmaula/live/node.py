@@ -10,10 +10,10 @@ import hashlib
 import logging
 import queue
 import secrets
-import time
 from collections.abc import Callable
 from typing import Literal
 
+from .. import clock
 from ..logs import NodeLog
 from .beginning import Beginning, resume_of
 from .broker import Broker
@@ -91,7 +91,7 @@ class Node:
         self._state_told: tuple[object, ...] = ()
         self._begun = ""
         # When the node looked last, and when it reads again what the broker retains.
-        self._looked = time.monotonic()
+        self._looked = clock.now()
         self._gap = max(GAP, 2 * tick)
         self._between = READ_AGAIN_DEVICE if settings.sort == "device" else READ_AGAIN
         # Nodes that start together do not read together.
@@ -190,7 +190,7 @@ class Node:
             store_seconds=self._store.seconds,
             lapsed=0 if session is None else len(session.stored.lapsed),
             heartbeat=serving.beating.silence.heard_at,
-            loop_age=time.monotonic() - serving.counts.turned,
+            loop_age=clock.now() - serving.counts.turned,
         )
 
     def _put(self, event: Event | Came | Ended | _Offered | _Stop) -> None:
@@ -200,7 +200,7 @@ class Node:
 
     def _look(self) -> None:
         """Does what is due by the clock, and tells what changed."""
-        now = self.serving.counts.turned = time.monotonic()
+        now = self.serving.counts.turned = clock.now()
         self._link.tick()
         self._read_again(now)
         self.showing.tick(self._link.is_settled)
@@ -239,7 +239,7 @@ class Node:
     def _take_offered(self, data: bytes) -> None:
         """Takes a line of the control. What it says ends no node."""
         try:
-            self.serving.offers.take(data, time.monotonic())
+            self.serving.offers.take(data, clock.now())
         except (LiveError, OSError):
             raise
         except Exception as error:  # noqa: BLE001 - whatever a line leads to, the next one counts
@@ -281,7 +281,7 @@ class Node:
         session = "" if self.session is None else self.session.id
         floor, ceiling = self.serving.limits
         limits = (floor if floor > -MOST else None, ceiling if ceiling < MOST else None)
-        life = (self.serving.alarm, self.serving.silent_since(time.monotonic()))
+        life = (self.serving.alarm, self.serving.silent_since(clock.now()))
         more = (settings.sort, settings.parent, settings.child, *limits, *life)
         message = StateMessage(state, self._run_id, self._started, session, now_text(), why, *more, starts=self._starts, lost=lost, site=self._site)
         return Publication(settings.own_topic("state"), message.to_bytes())
@@ -294,7 +294,7 @@ class Node:
     def _tell_state(self) -> None:
         """Publishes the state if it changed."""
         serving = self.serving
-        limits, silent = serving.limits, serving.silent_since(time.monotonic())
+        limits, silent = serving.limits, serving.silent_since(clock.now())
         state = (self.session, self._starts, serving.why_down, limits, serving.alarm, silent)
         if state != self._state_told:
             self._state_told = state
@@ -339,7 +339,7 @@ class Node:
         """Takes a message of a node that is in a session."""
         settings, topics, topic = self.settings, self.settings.topics, message.topic
         if (child := topics.child_of(topic, settings.name, "bid")) is not None:
-            session.letting.take_bid(child, message, time.monotonic())
+            session.letting.take_bid(child, message, clock.now())
         elif (child := topics.child_of(topic, settings.name, "drop")) is not None:
             if message.payload and not message.retained:
                 session.letting.drop(child)
@@ -356,7 +356,7 @@ class Node:
         elif settings.limits_from and topic == settings.own_topic("limits"):
             session.limiting.take(message.payload)
         elif settings.sort != "device" and topic.endswith("/state") and topic != settings.own_topic("state"):
-            session.letting.take_state(message, time.monotonic())
+            session.letting.take_state(message, clock.now())
         elif topic.endswith("/site"):
             self._take_site(session, message)
         elif topic in [settings.own_topic(kind) for kind in ("state", "resume")] or topic == self._bid_topic:
@@ -367,7 +367,7 @@ class Node:
         if self._parent is not None:
             self._parent.take_site(message)
         if self.settings.sort != "device":
-            session.letting.take_state(message, time.monotonic())
+            session.letting.take_state(message, clock.now())
 
     @property
     def _bid_topic(self) -> str:
@@ -380,9 +380,9 @@ class Node:
         offers, digest = self.serving.offers, hashlib.sha256(message.payload).hexdigest()
         if not message.retained or message.expiry is not None or digest != offers.digest:
             offers.digest = digest
-            offers.take(message.payload, time.monotonic(), message.expiry)
+            offers.take(message.payload, clock.now(), message.expiry)
         elif session.resume is None and not offers.has_offered:
-            offers.take_kept(message.payload, time.monotonic())
+            offers.take_kept(message.payload, clock.now())
 
     # Sessions.
 
@@ -431,7 +431,7 @@ class Node:
         told = beginning.basis()
         times = self.settings.times if self.settings.sort == "auctioneer" or told is None else told.times
         known = beginning.bids_of_sum(stored.session, stored.frame)
-        session = self.serving.begin(stored, resume, times, time.monotonic(), self._starts, known)
+        session = self.serving.begin(stored, resume, times, clock.now(), self._starts, known)
         if self.settings.is_fence:
             session.letting.let_all_go("its relay has left")
         elif self.settings.leave:
@@ -442,7 +442,7 @@ class Node:
         first = [f"/{ending}" for ending in ("heartbeat", "lapsed/" + str(self.settings.child))]
         messages = sorted(self._seen.values(), key=lambda message: not message.topic.endswith(tuple(first)))
         self._take_all(session, [message for message in messages if message.topic.endswith(tuple(first))])
-        self.serving.start(session, time.monotonic())
+        self.serving.start(session, clock.now())
         self._take_all(session, [message for message in messages if not message.topic.endswith(tuple(first))])
 
     @property

@@ -188,9 +188,16 @@ class Offers:
         """Whether the device has no offer, and none is wanted."""
         return self.current is None and self._wanted is None
 
-    def due(self, now: float) -> Wanted | None:
-        """What to ask the agent for now, or None. It counts as asked."""
-        if self._until is not None and now > self._until and self.current is not None and not isinstance(self._wanted, Leave):
+    def is_overdue(self, now: float) -> bool:
+        """Whether the offer has ended that the agent has: the control was silent for too long, and the device has to leave."""
+        return self._until is not None and now > self._until and self.current is not None and not isinstance(self._wanted, Leave)
+
+    def due(self, now: float, may_leave: bool = True) -> Wanted | None:
+        """What to ask the agent for now, or None. It counts as asked.
+
+        may_leave: whether the control has fallen back, so that the device may leave once its offer has ended
+        """
+        if may_leave and self.is_overdue(now):
             self._log.warning("the control was silent for longer than the validity of its offer: the device leaves")
             self._wanted, self._offered = Leave(), None
         if self._wanted is None or self._asked is not None or now < self._not_before:

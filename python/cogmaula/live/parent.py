@@ -2,9 +2,9 @@
 
 from __future__ import annotations
 
-import time
 from collections.abc import Callable
 
+from .. import clock
 from ..logs import NodeLog
 from .beating import Beating
 from .broker_link import Message
@@ -83,13 +83,13 @@ class Parent:
 
     def _take_heartbeat(self, _session: ServedSession, message: Message) -> None:
         """Takes a heartbeat. Raises BadMessage."""
-        self._beating.hear(message.payload, time.monotonic(), message.retained)
+        self._beating.hear(message.payload, clock.now(), message.retained)
 
     def _take_lapse(self, session: ServedSession, message: Message) -> None:
         """Takes that the parent has let this child go. Raises BadMessage."""
         number, why = _word_of(message)
         if type(number) is int:
-            session.hear_lapse(number, why, time.monotonic())
+            session.hear_lapse(number, why, clock.now())
 
     def _take_refusal(self, session: ServedSession, message: Message) -> None:
         """Takes that a bid of this child is too much. Raises BadMessage."""

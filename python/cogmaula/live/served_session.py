@@ -8,11 +8,11 @@ fed or handled, and it is on disk before a Resume is stored.
 
 from __future__ import annotations
 
-import time
 from collections import deque
 from collections.abc import Collection, Iterable
 from dataclasses import replace
 
+from .. import clock
 from .broker_link import Publication
 from .children import BIDS_OF_SUM, NODE, RELAYS, SORT, VALID, Children
 from .node_errors import OtherTerms
@@ -161,7 +161,7 @@ class ServedSession:
     def hear_price(self, price: Price, moment: str) -> None:
         """Takes a Price of the parent, unless a newer one came. `moment` is when its clearing was, "" if that was not told."""
         self.prices.hear(price, moment)
-        self._feed_price(time.monotonic())
+        self._feed_price(clock.now())
 
     def feed_heard(self, now: float) -> None:
         """Feeds what was heard and is due."""
@@ -260,7 +260,7 @@ class ServedSession:
         """Tells children their prices. A relay that leaves tells none."""
         self._parts.counts.passed(len(prices))
         if not self._settings.is_fence:
-            self.pricing.pass_on_all(prices, self._time_of, time.monotonic())
+            self.pricing.pass_on_all(prices, self._time_of, clock.now())
 
     def _told_below(self) -> Collection[str]:
         """The topics that the broker has to confirm before a Resume behind them is stored."""
@@ -276,14 +276,14 @@ class ServedSession:
                 self._parts.publisher.publish(self._settings.own_topic("bid"), frame.to_bytes(), now_text(), self._sender)
                 self._bid = frame.number
                 self._parts.asking.answered()
-                self.limiting.bids(frame.number, time.monotonic())
+                self.limiting.bids(frame.number, clock.now())
                 if isinstance(frame, Gone):
                     self._parts.link.publish(Publication(self._settings.own_topic("setpoint"), b""))
             case Old() if self._settings.is_fence:
                 pass
             case Setpoint():
                 moment, has_bid = self._time_of(frame.index), self._parts.beating.has_bid
-                self._parts.controlling.setpoint(self.keeping, frame, moment, time.monotonic(), has_bid)
+                self._parts.controlling.setpoint(self.keeping, frame, moment, clock.now(), has_bid)
             case Old():
                 self.letting.old(frame)
             case TooMuch():
@@ -305,7 +305,7 @@ class ServedSession:
             case WindowFull():
                 self._parts.asking.answered(again=True)
                 self._lacking = []
-                self._parts.offers.refused(time.monotonic())
+                self._parts.offers.refused(clock.now())
             case NotCaughtUp():
                 self._parts.asking.answered(again=True)
                 self._say_lacking()
@@ -349,7 +349,7 @@ class ServedSession:
             references = self._parts.offers.references_with(resume)
             setpoint = None if isinstance(resume, ResumeGone) else self.stored.setpoint
             noted |= {"setpoint": setpoint, "references": references}
-            noted |= self._offer(time.monotonic())
+            noted |= self._offer(clock.now())
             if isinstance(before, DeviceResume) and before.last < resume.last:
                 counts = self.refused_bid.offer_before(before, self._before)
                 noted["before"] = b"" if counts is None else counts.to_bytes()
@@ -388,7 +388,7 @@ class ServedSession:
 
     def _say_lacking(self) -> None:
         """Notes which children are awaited, and says so, not more often than once in a while."""
-        now = time.monotonic()
+        now = clock.now()
         if not isinstance(self.resume, RelayResume | AuctioneerResume):
             return
         self._lacking = self.children.lacking(self.resume.numbers)

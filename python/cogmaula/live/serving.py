@@ -3,9 +3,9 @@
 from __future__ import annotations
 
 import json
-import time
 from collections.abc import Callable
 
+from .. import clock
 from ..logs import NodeLog
 from .asking import Asking
 from .beating import Beating
@@ -100,7 +100,7 @@ class Serving:
         self.beating.begin(times, now, start)
         self.offers.begin(resume if isinstance(resume, DeviceResume | ResumeGone) else None, now, stored.references, stored.until)
         self.offers.digest = self.offers.digest or stored.offer
-        self.controlling.begin()
+        self.controlling.begin(now, stored.setpoint is not None)
         self.session = ServedSession(self._parts, stored, resume, times, now, known)
         return self.session
 
@@ -164,7 +164,7 @@ class Serving:
         if isinstance(event, Ended):
             self._ended(event.why)
         elif self.session is not None:
-            self._came_at = time.monotonic()
+            self._came_at = clock.now()
             self.session.take(event.frames)
 
     def work(self) -> None:
@@ -194,7 +194,7 @@ class Serving:
     def _ask(self, session: ServedSession, service: ServiceProcess, now: float) -> None:
         """Asks the service what is due, and ends it if it does not answer."""
         if self._settings.sort == "device":
-            wanted = self.offers.due(now)
+            wanted = self.offers.due(now, self.controlling.may_leave(now))
             for data in [b""] if wanted is None else [frame.to_bytes() for frame in frames_of(wanted)]:
                 self._feed(data)
         elif not session.pending and self._asking.is_due(now):
@@ -222,7 +222,7 @@ class Serving:
 
     def _ended(self, why: str) -> None:
         """Lets the service start anew, at once or after a pause that grows if it does not live long."""
-        now = time.monotonic()
+        now = clock.now()
         self.counts.restarts += 1
         self.service = None
         if self.session is not None:

@@ -9,11 +9,11 @@ from __future__ import annotations
 
 import contextlib
 import threading
-import time
 from collections import deque
 from collections.abc import Callable, Iterable, Sequence
 from typing import Any
 
+from .. import clock
 from ..logs import NodeLog
 from .broker import Broker
 from .broker_link import Event, Message, Publication, message_of
@@ -302,7 +302,7 @@ class SharedConnection:
         if client.socket() is None and not self._words:
             self._words.append("the connection was lost")
         if self._words:
-            self._lost(self._words[0], time.monotonic())
+            self._lost(self._words[0], clock.now())
         else:
             self._watch()
 
@@ -356,7 +356,7 @@ class SharedConnection:
         self._was_there = True
         # The site is up before each of its nodes.
         self._client.subscribe([(self._life.topic, self._mqtt.SubscribeOptions(qos=1))])
-        self._say(self._client, self._life.begins(time.monotonic()))
+        self._say(self._client, self._life.begins(clock.now()))
 
     def _say(self, client: Any, told: Publication) -> None:
         """Publishes for the site itself."""

@@ -8,15 +8,19 @@ this node heard it. Times without a zone here are seconds of a clock that only r
 from __future__ import annotations
 
 import json
-import time
 from dataclasses import dataclass, field
 from datetime import datetime, timedelta, timezone
 from typing import Any
 
+from .. import clock
 from .node_errors import BadMessage
 from .messages import object_of
 from .sessions import now_text, time_of, time_text
 from .market_times import Times
+
+
+# How many renewals are remembered at most, beside the newest, until a heartbeat says that the parent has heard them.
+KEPT = 15
 
 
 @dataclass(frozen=True, order=True)
@@ -58,15 +62,17 @@ class Silence:
 
     def __init__(self) -> None:
         """Has heard nothing, and waits for its first session as long as the default says."""
-        self.begin(Times(), time.monotonic())
+        self.begin(Times(), clock.now())
 
     def begin(self, times: Times, now: float) -> None:
         """Begins a session, as if a heartbeat had come now."""
         self.times = times
         # The newest heartbeat, when it came, the same by the clock of this machine (RFC 3339), and when the bid was sent that the
-        # broker confirmed last.
+        # parent has heard, as far as is known.
         self.newest: Heartbeat | None = None
         self.heard = self._renewed = now
+        # When the bids were sent that the broker has confirmed, and of which nobody knows whether the parent has heard them.
+        self._confirmed: list[float] = []
         self.heard_at, self._began = "", now_text()
         # Since when the device is let go (RFC 3339), "" if it counts, why, and under which number it counts as gone.
         self.let_go_since = self._why = ""
@@ -85,11 +91,23 @@ class Silence:
             heard -= max(0.0, (wall - time_of(beat.time)).total_seconds())
             heard = heard if self.newest is None else max(heard, self.heard)
         self.newest, self.heard, self.heard_at = beat, heard, time_text(wall - timedelta(seconds=now - heard))
+        # A parent that sent a heartbeat had heard what was on its way long before.
+        known = [sent for sent in self._confirmed if sent <= heard - self.times.lag]
+        self._renewed = max([self._renewed, *known])
+        self._confirmed = self._confirmed[len(known) :]
         return True
 
+    def bids(self, now: float) -> None:
+        """Notes that the node begins to bid: the parent counts nothing of it yet, and the first bid has validity to be heard."""
+        self._renewed, self._confirmed = max(self._renewed, now), []
+
     def renewed(self, sent: float) -> None:
-        """Notes that the broker has confirmed the node's bid, which was sent then."""
-        self._renewed = max(self._renewed, sent)
+        """Notes that the broker has confirmed the node's bid, which was sent then.
+
+        The broker is not the parent, which may hang. So the bid counts once a heartbeat has come that the parent sent after it.
+        """
+        if not self._confirmed or sent > self._confirmed[-1]:
+            self._confirmed = [*self._confirmed[-KEPT:], sent]
 
     def let_go(self, number: int, why: str) -> None:
         """Notes that the parent has let the device go, which counts as gone under this number."""
@@ -107,7 +125,7 @@ class Silence:
         return bool(self.let_go_since) or now >= self._ends(renews)
 
     def _ends(self, renews: bool) -> float:
-        """When it has to fall back if nothing newer comes: validity after the heartbeat or the confirmed renewal, whichever is older."""
+        """When it has to fall back if nothing newer comes: validity after the heartbeat or the renewal that counts, whichever is older."""
         newest = min(self.heard, self._renewed) if renews else self.heard
         return newest + self.times.validity
 

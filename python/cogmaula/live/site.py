@@ -11,11 +11,11 @@ import heapq
 import logging
 import math
 import resource
-import time
 from collections import deque
 from collections.abc import Callable, Iterable, Sequence
 from functools import partial
 
+from .. import clock
 from ..logs import NodeLog
 from .node_errors import LiveError
 from .frames import Sort
@@ -101,7 +101,7 @@ class Site:
         """Works until `stop` is called. A node that fails ends by itself, with a line. Raises LiveError once all have failed."""
         why = "it failed"
         try:
-            now = time.monotonic()
+            now = clock.now()
             for at, (name, node) in enumerate(self.nodes.items()):
                 node.start()
                 # The nodes do not look at the clock all at once.
@@ -117,9 +117,9 @@ class Site:
 
     def _turn(self) -> None:
         """Waits for something to do, and does it."""
-        now = time.monotonic()
+        now = clock.now()
         self._loop.turn(0.0 if self._ready else min(max(0.0, self._looks[0][0] - now), TICK if not self._connection.is_there else 1.0))
-        now = time.monotonic()
+        now = clock.now()
         self._connection.tick(now)
         for _ in range(len(self._ready)):
             name = self._ready.popleft()
@@ -156,7 +156,7 @@ class Site:
             return
         try:
             node.turn()
-            self._plan(name, self._next_look(node, time.monotonic()))
+            self._plan(name, self._next_look(node, clock.now()))
         except Exception as error:  # noqa: BLE001 - whatever is wrong with one node, the others go on
             why = str(error) if isinstance(error, LiveError | OSError) else f"{type(error).__name__}: {error}"
             self._log.of_node(name).error(f"it ends: {why}")
@@ -174,10 +174,10 @@ class Site:
         for node in self.nodes.values():
             self._end_node(node, "stopped")
         self._connection.say_down(why)
-        end = time.monotonic() + LAST_SECONDS
-        while self._connection.is_there and self._connection.unconfirmed and time.monotonic() < end:
+        end = clock.now() + LAST_SECONDS
+        while self._connection.is_there and self._connection.unconfirmed and clock.now() < end:
             self._loop.turn(TICK)
-            self._connection.tick(time.monotonic())
+            self._connection.tick(clock.now())
         self._connection.close()
         self._loop.close()
 

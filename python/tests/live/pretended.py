@@ -2,10 +2,10 @@
 
 from __future__ import annotations
 
-import time
 
 from logged import log_to
 
+from cogmaula import clock
 from cogmaula.cluster import Basis
 from cogmaula.live import messages
 from cogmaula.live.broker_link import Arrived, Confirmed, Message, Settled
@@ -152,7 +152,7 @@ class Joined:
         self.node = Node(settings(sort, folder, **more), self.control, log_to(self.said.append), self._linked)
         self.link.start(self.node._subscriptions(), None, self.node._marker, self.node._written())
         if self.control is not None:
-            self.control.start(lambda data: self.node.serving.offers.take(data, time.monotonic()), log_to(self.said.append))
+            self.control.start(lambda data: self.node.serving.offers.take(data, clock.now()), log_to(self.said.append))
 
     def _linked(self, notify, log):
         self.link = PretendedLink(notify, log)
@@ -208,8 +208,8 @@ def turn(node):
     """Lets a node take all that has come, and then look at the clock once."""
     while not node._events.empty():
         node._take(node._events.get())
-        node.serving.tick(time.monotonic())
-    node.serving.tick(time.monotonic())
+        node.serving.tick(clock.now())
+    node.serving.tick(clock.now())
     node._tell_state()
 
 

@@ -5,7 +5,6 @@ from __future__ import annotations
 import gzip
 import json
 import os
-import time
 from pathlib import Path
 
 from brokers import wait_until
@@ -13,6 +12,7 @@ from logged import log_to
 from markets import BASIS, PLACES, STEPS, Control
 from pretended import PretendedLink, turn
 
+from cogmaula import clock
 from cogmaula.live import compressing
 from cogmaula.live.broker_link import Arrived, Message
 from cogmaula.live.frames import READS, WRITES, frame_of
@@ -82,7 +82,7 @@ class RecordedMarket:
             node = self.nodes[name] = Node(settings, control, log_to(self.said.append), make_link)
             links[0].start(node._subscriptions(), None, node._marker)
             if control is not None:
-                control.start(lambda data, node=node: node.serving.offers.take(data, time.monotonic()), log_to(self.said.append))
+                control.start(lambda data, node=node: node.serving.offers.take(data, clock.now()), log_to(self.said.append))
             links[0].connects()
         return self
 

@@ -15,6 +15,7 @@ from cogmaula.live.messages import SiteMessage
 from cogmaula.live.node_settings import ChildSettings
 from cogmaula.live.service import Service
 from cogmaula.live.market_times import Times
+from cogmaula.live.silence import Heartbeat, Silence
 
 TIMES = Times(validity=100, heartbeat=25, grace=125)
 
@@ -31,22 +32,47 @@ def lapses_of(*children):
 @pytest.mark.parametrize(
     ("validity", "heartbeat", "grace", "why"),
     [
-        (100, 51, 125, "give a validity of 2 heartbeats or more"),
-        (100, 50, 124.9, "give a grace of 125 or more"),
+        (100, 34, 125, "give a validity of 3 heartbeats or more"),
+        # 100 * 1.01 + 1 and 103 * 0.99.
+        (100, 25, 103, r"wrong by 1% a device falls back by 102 s and may be let go after 102 s. Give a grace of 125 or more"),
+        (100, 25, 124.9, "falls back by 102 s and may be let go after 123.7 s. Give a grace of 125 or more"),
         (0, 1, 1, "are seconds"),
     ],
 )
 def test_times_that_do_not_go_together(validity, heartbeat, grace, why):
     with pytest.raises(BadSettings, match=why):
         Times(validity, heartbeat, grace)
-    Times(100, 50, 125)
+    Times(100, 33, 125)
 
 
 def test_a_device_has_fallen_back_before_it_is_let_go_if_clocks_are_within_one_percent():
-    """Its node counts validity by a clock that is slow by 1 %, and its parent grace by one that is fast by 1 %."""
+    """Its node counts validity by a clock that is slow by 1 %, and looks each second; its parent counts grace by one that is fast by 1 %."""
     times = Times.of(None, None, None)
     assert (times.validity, times.heartbeat, times.grace) == (120, 30, 150)
-    assert times.validity * 1.01 < times.grace / 1.01
+    assert (times.latest_fallback, times.earliest_lapse) == (pytest.approx(122.2), pytest.approx(148.5))
+
+
+# A parent hears the bid of second 0 and hangs at 30: the next renewal is confirmed by the broker, and the parent does not hear it.
+# Of each its times, when that renewal was sent, and when the last heartbeat came.
+HANGS = {"by default": (Times.of(None, None, None), 30.5, 31.0), "few heartbeats": (Times.of(120, 40, 150), 40.5, 41.0), "back late": (Times.of(None, None, None), 149.8, 149.8)}
+
+
+@pytest.mark.parametrize(("times", "renewal", "beat"), HANGS.values(), ids=HANGS)
+@pytest.mark.parametrize("is_confirmed_first", [True, False])
+def test_a_renewal_that_the_broker_alone_has_keeps_no_device_in_the_market(times, renewal, beat, is_confirmed_first):
+    node, parent = Silence(), Lapses()
+    node.begin(times, 0.0)
+    parent.begin(times)
+    parent.heard(1, "n1", times.grace, 0.0)
+    node.bids(0.0)
+    node.hear(Heartbeat(1, 1, "2026-01-31T06:30:00Z"), 0.0, retained=False)
+    if is_confirmed_first:
+        node.renewed(renewal)
+    node.hear(Heartbeat(1, 2, "2026-01-31T06:30:00Z"), beat, retained=False)
+    if not is_confirmed_first:
+        node.renewed(renewal)
+    let_go = next(second for second in range(1_000) if parent.due(float(second)))
+    assert node.is_silent(let_go / 1.01 / 1.01 - times.tick, renews=True)
 
 
 def test_a_last_will_lets_go_after_grace_and_a_node_that_is_back_in_time_stays():
@@ -499,3 +525,15 @@ def test_a_child_that_the_file_calls_a_device_is_one_whatever_it_says(joined):
     one.turned()
     assert bid(1, 5, 9, 9).to_bytes() not in one.service.read
     assert bid(2, 9, 9, 9).to_bytes() in one.service.read
+def test_the_times_of_each_device_of_a_market_are_told(tmp_path, capsys):
+    """By hand: 60 * 1.01 + 1 = 61.6, and 90 * 0.99 = 89.1."""
+    from cogmaula.cli import main
+
+    tree = tmp_path / "TREE.toml"
+    tree.write_text('[basis]\nmin = 0\nmax = 9\nsteps = 10\n[auctioneer]\nvalidity = 60\ngrace = 90\n[relays.street]\n[devices.house]\nparent = "street"\n')
+    assert main(["market", "times", str(tree)]) == 0
+    assert capsys.readouterr().out.splitlines() == [
+        "validity 60 s, heartbeat 15 s, grace 90 s; each clock may be wrong by 1%",
+        "device  parent  told its fallback by  let go from  left for",
+        "house   street  61.6 s                89.1 s       27.5 s",
+    ]

@@ -156,14 +156,16 @@ topic read market/basis
 
 
 def test_a_device_whose_control_is_silent_leaves_and_its_price_is_cleared(market, onlooker):
-    market.start("auctioneer").start("street", "house").start("store", offer_validity=1.0)
+    market.start("auctioneer", validity=2.0).start("street", "house").start("store", offer_validity=1.0)
     market.offers(house=falls_at(9, 100, 0), store=falls_at(4, 0, -150))
     market.settles_at(4, house=100, store=-150)
     market.settles_at(9, house=0)
     assert isinstance(frame_of(onlooker.payload("market/street/bid/2"), BIDS, STEPS), Gone)
     wait_until(lambda: 2 not in PriceTable.of(onlooker.payload("market/street/prices")).numbers, "the price is cleared")
     wait_until(lambda: onlooker.payload("market/store/setpoint") == b"", "the setpoint is cleared")
-    assert any("the control was silent" in line for line in market.said["store"])
+    lines = market.said["store"]
+    told = next(number for number, line in enumerate(lines) if "The control is told its fallback" in line)
+    assert told < next(number for number, line in enumerate(lines) if "the control was silent" in line)
     market.offers(store=falls_at(4, 0, -150))
     market.settles_at(4, house=100, store=-150)
 

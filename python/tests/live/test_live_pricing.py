@@ -2,11 +2,11 @@
 
 from __future__ import annotations
 
-import time
 
 import pytest
 from pretended import BASIS, LATER, MARKED, OF_RELAY, bid, device_resume, gone, numbers, price, relay_resume
 
+from cogmaula import clock
 from cogmaula.live.frames import Dropped, Old, OtherBasis, Setpoint
 from cogmaula.live.price_table import PriceTable
 from cogmaula.live.node_settings import PriceSettings
@@ -27,8 +27,8 @@ def parent(joined, prices, *retained):
 
 def a_heartbeat_later(one, monkeypatch):
     """Lets the node look at the clock when one heartbeat is over."""
-    late = time.monotonic() + one.node.serving.beating.silence.times.heartbeat + 1
-    monkeypatch.setattr(time, "monotonic", lambda: late)
+    late = clock.now() + one.node.serving.beating.silence.times.heartbeat + 1
+    monkeypatch.setattr(clock, "now", lambda: late)
     return one.turned()
 
 

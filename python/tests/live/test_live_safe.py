@@ -27,6 +27,7 @@ from pretended import (
     state_payload,
 )
 
+from cogmaula import clock
 from cogmaula.live import BadSettings, NodeRefused, kept_bids
 from cogmaula.live.board import Board
 from cogmaula.live.broker_link import Message
@@ -217,7 +218,7 @@ def test_a_child_that_names_many_nodes_lets_few_topics_be_read(joined):
 
 def test_after_a_pause_all_is_read_again_and_it_is_no_news(joined):
     one = retained_bids(joined("relay").begun())
-    node, now = one.node, time.monotonic()
+    node, now = one.node, clock.now()
     node._read_again(now)
     assert one.link.readings == 0
     node._read_again(now + 5)
@@ -289,7 +290,7 @@ def test_a_later_session_takes_the_offer_along_and_tells_the_control(joined, by)
 def test_a_later_session_takes_no_offer_along_that_has_ended(joined):
     one = joined("device", offer_validity=100).begun(("market/house/offer", OFFER))
     one.writes(device_resume(2, 0, (500, -300)), bid(2, 2, 500, -300))
-    one.node.serving.offers._until = time.monotonic() - 1
+    one.node.serving.offers._until = clock.now() - 1
     one.turned()
     one.writes(resume_gone(4, 0))
     ends_session(one)
@@ -350,7 +351,7 @@ def test_a_device_stores_a_price_once_and_not_if_number_and_step_are_the_same(jo
     for index, step, due in ((7, 1, 1), (8, 1, 1), (9, 0, 2), (10, 0, 2)):
         one.writes(Setpoint(2, index, step, (500, -300)[step]), device_resume(2, index, (500, -300)))
         assert (len(saves), len(one.control.told)) == (due, due), f"clearing {index}"
-    one.node.serving.beating.hear(Heartbeat(1, 1, now_text()).to_bytes(), time.monotonic(), retained=False)
+    one.node.serving.beating.hear(Heartbeat(1, 1, now_text()).to_bytes(), clock.now(), retained=False)
     one.turned()
     assert [json.loads(told)["clearing"] for told in one.control.told] == [7, 9, 10], "a heartbeat tells that it is of a later clearing"
     one.node.serving.end("stopped")

@@ -53,18 +53,22 @@ def test_silence_begins_validity_after_the_newest_heartbeat():
     assert 29 < seconds_to(one.until(1080.0, renews=False)) <= 30
 
 
-# When the broker confirmed the node's bid last, against a heartbeat at 1010, and the seconds that a setpoint told at 1080 holds.
-RENEWED = {"before the heartbeat": (1003.0, 23), "after the heartbeat": (1040.0, 30)}
+# When a bid was sent that the broker had confirmed before a heartbeat came at 1050, and the seconds that a setpoint told at 1080 holds. Messages
+# may take half a heartbeat, 12.5 s: a later bid may not have reached the parent when it sent that heartbeat.
+RENEWED = {"well before the heartbeat": (1037.5, 57.5), "just before the heartbeat": (1037.6, 20)}
 
 
 @pytest.mark.parametrize(("renewed", "holds"), RENEWED.values(), ids=RENEWED)
 def test_a_setpoint_holds_no_longer_than_the_bid_was_renewed(renewed, holds):
     one = begun()
-    one.hear(Heartbeat(1, 1, at(0)), 1010.0, retained=False)
     one.renewed(renewed)
+    one.hear(Heartbeat(1, 1, at(0)), 1050.0, retained=False)
+    assert one.holds(1080.0, renews=True) == pytest.approx(holds)
     assert holds - 1 < seconds_to(one.until(1080.0, renews=True)) <= holds
     assert not one.is_silent(1080.0 + holds - 0.1, renews=True)
     assert one.is_silent(1080.0 + holds, renews=True)
+    one.hear(Heartbeat(1, 2, at(0)), 1075.0, retained=False)
+    assert one.holds(1080.0, renews=True) == pytest.approx(min(renewed, 1075.0) + 100 - 1080)
 
 
 # Of each heartbeat that comes after start 3, count 7: its start, its count and what the auctioneer's clock adds to the first one's time.
@@ -131,6 +135,7 @@ def passes(one, seconds):
     beating = one.node.serving.beating
     beating.silence.heard -= seconds
     beating.silence._renewed -= seconds
+    beating.silence._confirmed = [sent - seconds for sent in beating.silence._confirmed]
     beating._sent -= seconds
     beating._next -= seconds
     one.turned()
@@ -239,10 +244,15 @@ def test_each_heartbeat_says_anew_until_when_the_setpoint_holds(joined):
     one.link.comes("market/street/price/2", price(2, 2, 8, 0).to_bytes())
     one.turned()
     one.writes(Setpoint(2, 8, 0, 500), device_resume(2, 8, (500, -300)))
+    # The renewal of just now may not have reached the parent when it sent this heartbeat. With the one after it, it counts.
     one.link.comes("market/street/heartbeat", heartbeat(2, at(-86_400)))
     one.turned()
-    assert [(message["power"], message["clearing"]) for message in told(one)] == [(-300, 7), (500, 8), (500, 8)]
-    assert [seconds_to(message["until"]) for message in told(one)] == pytest.approx([100, 60, 100], abs=5)
+    passes(one, 15)
+    one.link.comes("market/street/heartbeat", heartbeat(3, at(-86_400)))
+    one.turned()
+    assert [(message["power"], message["clearing"]) for message in told(one)] == [(-300, 7), (500, 8), (500, 8), (500, 8)]
+    assert [message["holds"] for message in told(one)] == pytest.approx([100, 60, 60, 85], abs=5)
+    assert [seconds_to(message["until"]) for message in told(one)] == pytest.approx([100, 60, 60, 85], abs=5)
     assert one.link.newest["market/house/setpoint"].payload == one.control.told[-1]
 
 
@@ -264,7 +274,8 @@ def test_a_control_is_told_silence_with_its_fallback_once_and_then_that_the_mark
     one.turned()
     back, setpoint = told(one)[2:]
     assert (back["market"], setpoint["power"], setpoint["clearing"]) == ("live", -300, 7)
-    assert [seconds_to(back["since"]), seconds_to(setpoint["until"])] == pytest.approx([0, 100], abs=5)
+    # By the renewal of 52 s before, which the parent had heard when it sent the heartbeat.
+    assert [seconds_to(back["since"]), seconds_to(setpoint["until"])] == pytest.approx([0, 48], abs=5)
     states = [json.loads(message)["silent"] for message in one.link.of("market/house/state")]
     assert since in states
     assert states[-1] is None
