@@ -3,6 +3,7 @@
 from __future__ import annotations
 
 import importlib.util
+import math
 import os
 from collections.abc import Mapping
 from dataclasses import dataclass
@@ -14,6 +15,7 @@ from ..live.device_kinds import DeviceKind
 from ..live.toml_tables import read_tables, value_of
 from ..live.topics import require_name, require_prefix
 from ..simulation import Battery, Boiler, Cogeneration, Device, HeatPump, Load, Solar, Vehicle
+from .device_values import UNITS, NoReading, Place
 from .guard import Limits
 from .homeassistant import Entities, HomeAssistantPlace
 from .links import HubLink, HubPlace, Link, NodeLink
@@ -25,16 +27,62 @@ from .stated import StatedDevice
 TABLES = ("agent", "market", "device", "limits", "state", "setpoint", "homeassistant")
 # Those that each file has.
 NEEDED = ("market", "device", "limits", "setpoint")
-# The models, the member that is the state of each, and what it is before the first reading.
-MODELS: dict[str, tuple[type[Any], str, str | float]] = {
-    "battery": (Battery, "energy", 0.0),
-    "heat_pump": (HeatPump, "temperature", "low"),
-    "boiler": (Boiler, "temperature", "low"),
-    "cogeneration": (Cogeneration, "temperature", "low"),
-    "vehicle": (Vehicle, "missing", 0.0),
-    "load": (Load, "power", 0.0),
-    "solar": (Solar, "power", 0.0),
+# The units of a state by what it is.
+ENERGY, TEMPERATURE, POWER = ("Wh", "kWh", "MWh", "%"), ("C",), ("W", "kW", "MW")
+# What a sensor of temperature may tell by default: one that is broken or not connected often tells -127.
+TEMPERATURES = (-60.0, 150.0)
+
+
+@dataclass(frozen=True)
+class Model:
+    """A model of a device: its class, the member that is its state, what that is before the first reading, and the units of a reading.
+
+    first: a number, or another member
+    """
+
+    kind: type[Any]
+    member: str
+    first: str | float
+    units: tuple[str, ...]
+
+
+MODELS: dict[str, Model] = {
+    "battery": Model(Battery, "energy", 0.0, ENERGY),
+    "heat_pump": Model(HeatPump, "temperature", "low", TEMPERATURE),
+    "boiler": Model(Boiler, "temperature", "low", TEMPERATURE),
+    "cogeneration": Model(Cogeneration, "temperature", "low", TEMPERATURE),
+    "vehicle": Model(Vehicle, "missing", 0.0, ENERGY),
+    "load": Model(Load, "power", 0.0, POWER),
+    "solar": Model(Solar, "power", 0.0, POWER),
 }
+
+
+@dataclass(frozen=True)
+class StateBounds:
+    """What a reading may be, in the unit of the place where it is read, and the nearest state that the model has, in its own unit.
+
+    least, greatest: one outside is no state, as of a broken sensor
+    floor, ceiling:  a state just outside is the nearest one inside, as a battery that says 100.1 % is full
+    """
+
+    least: float = -math.inf
+    greatest: float = math.inf
+    floor: float = -math.inf
+    ceiling: float = math.inf
+
+    def __post_init__(self) -> None:
+        """Raises BadSettings."""
+        if not self.least < self.greatest:
+            raise BadSettings(f"state.least is {self.least:g} and state.greatest {self.greatest:g}: give a least below the greatest")
+
+    def state_of(self, found: float, place: Place, capacity: float) -> float:
+        """The state for what is at the place. Raises NoReading."""
+        reading = place.reading_of(found)
+        if not self.least <= reading <= self.greatest:
+            raise NoReading(f"it is {reading:g} {place.unit}, and a state is {self.least:g} to {self.greatest:g} {place.unit}")
+        return min(max(place.value_of(found, capacity), self.floor), self.ceiling)
+
+
 PLACES: dict[str, type[Any]] = {"modbus": ModbusPlace, "mqtt": MqttPlace, "http": HttpPlace, "command": CommandPlace, "csv": CsvPlace}
 Access = Modbus | Mqtt | Http | Command | Csv
 
@@ -58,6 +106,7 @@ class AgentSettings:
 
     state:    None if the model keeps its own state, by the powers that were written and the time that passes
     capacity: what a state in % is a share of
+    bounds:   what a reading may be
     entities: what Home Assistant shows of the agent, None if it shows nothing
     """
 
@@ -70,6 +119,7 @@ class AgentSettings:
     setpoint: Any
     capacity: float
     entities: Entities | None = None
+    bounds: StateBounds = StateBounds()
 
     def link(self) -> Link:
         """What joins the agent to its market."""
@@ -107,17 +157,51 @@ def agent_settings_of(tables: Mapping[str, Mapping[str, Any]], folder: Path = Pa
     is_stated = "kind" in tables["device"]
     device, member = (_stated_of(tables, limits), "state") if is_stated else _device_of(dict(tables["device"]), folder)
     market = _market_of(dict(tables["market"]))
+    state, setpoint = dict(tables.get("state", {})), _place_of(dict(tables["setpoint"]), "setpoint")
+    if setpoint.unit not in POWER:
+        raise BadSettings(f"setpoint.unit is {setpoint.unit}: a power is written in one of {', '.join(POWER)}. A share is a scale")
+    units = _units_of(tables["device"], device)
+    bounds = _bounds_of(state, units, device)
+    place = _place_of(state, "state") if "state" in tables else None
+    if place is not None and place.unit not in units:
+        raise BadSettings(f"state.unit is {place.unit!r}, and the state of this device is in {', '.join(units)}: give one of them")
     return AgentSettings(
         value_of(Times, tables.get("agent", {}), "agent"),
         limits,
         market,
         device,
         member,
-        _place_of(dict(tables["state"]), "state") if "state" in tables else None,
-        _place_of(dict(tables["setpoint"]), "setpoint"),
+        place,
+        setpoint,
         float(getattr(device, "capacity", 1.0)),
         _entities_of(tables["homeassistant"], market, device) if "homeassistant" in tables else None,
+        bounds,
     )
+
+
+def _units_of(table: Mapping[str, Any], device: Any) -> tuple[str, ...]:
+    """The units that a state of a device may be in: % only if the device has a capacity."""
+    match table:
+        case {"model": str(model)}:
+            units = MODELS[model].units
+        case {"kind": str(kind)}:
+            units = ENERGY if kind == "battery" else POWER if kind in ("load", "solar") else TEMPERATURE
+        case _:
+            units = tuple(UNITS)
+    return units if hasattr(device, "capacity") else tuple(unit for unit in units if unit != "%")
+
+
+def _bounds_of(state: dict[str, Any], units: tuple[str, ...], device: Any) -> StateBounds:
+    """What a reading may be, by the members `least` and `greatest` of a table, which are taken out of it. Raises BadSettings."""
+    least, greatest = TEMPERATURES if units == TEMPERATURE and state.get("unit") == "C" and not isinstance(device, StatedDevice) else (-math.inf, math.inf)
+    told = {"least": state.pop("least", least), "greatest": state.pop("greatest", greatest)}
+    floor, ceiling = -math.inf, math.inf
+    if isinstance(device, Battery):
+        floor, ceiling = 0.0, float(device.capacity)
+    elif isinstance(device, Vehicle | Load | Solar):
+        floor = 0.0
+    bounds: StateBounds = value_of(StateBounds, {**told, "floor": floor, "ceiling": ceiling}, "state")
+    return bounds
 
 
 def _entities_of(table: Mapping[str, Any], market: HubPlace | tuple[BrokerPlace, str, str], device: Any) -> Entities:
@@ -168,13 +252,13 @@ def _device_of(table: dict[str, Any], folder: Path) -> tuple[Device, str]:
     model = table.pop("model", None)
     if model not in MODELS:
         raise BadSettings(f"device.model is {model!r}: give one of {', '.join(MODELS)}, a kind, or a strategy of your own")
-    kind, member, first = MODELS[model]
+    member, first = MODELS[model].member, MODELS[model].first
     if member in table:
         raise BadSettings(f"device.{member} is what [state] reads: take it out")
     table[member] = table.get(first, 0.0) if isinstance(first, str) else first
     table = {"name": model, **{name: tuple(value) if isinstance(value, list) else value for name, value in table.items()}}
     try:
-        return value_of(kind, table, "device"), member
+        return value_of(MODELS[model].kind, table, "device"), member
     except ValueError as error:
         raise BadSettings(f"device: {error}") from None
 

@@ -46,9 +46,16 @@ class Place:
         if self.unit not in UNITS or not (math.isfinite(self.scale) and self.scale):
             raise BadSettings(f"the unit is {self.unit!r} and the scale {self.scale!r}: give one of {', '.join(UNITS)} and a number that is not 0")
 
+    def reading_of(self, found: float) -> float:
+        """What is there, in the unit. Raises NoReading if it is no finite number."""
+        reading = (found - self.offset) * self.scale
+        if not math.isfinite(reading):
+            raise NoReading(f"it is {found}")
+        return reading
+
     def value_of(self, found: float, capacity: float = 1.0) -> float:
         """The value of what is there. Raises NoReading if it is no finite number."""
-        value = (found - self.offset) * self.scale * UNITS[self.unit] * (capacity if self.unit == "%" else 1.0)
+        value = self.reading_of(found) * UNITS[self.unit] * (capacity if self.unit == "%" else 1.0)
         if not math.isfinite(value):
             raise NoReading(f"it is {found}")
         return value

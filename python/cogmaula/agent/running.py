@@ -113,7 +113,7 @@ class Agent:
         while source is not None and not self._is_over.is_set():
             begun = clock.now()
             try:
-                found = self._settings.state.value_of(source.read(), self._settings.capacity)
+                found = self._settings.bounds.state_of(source.read(), self._settings.state, self._settings.capacity)
                 with self._lock:
                     self._reading = found, begun
                 self._log_change("state", "")

@@ -9,7 +9,7 @@ from brokers import wait_until
 from pretended_device import PretendedAgent
 
 from cogmaula.agent.links import Setpoint
-from cogmaula.live.frames import Offer
+from cogmaula.live.frames import Offer, Points
 
 LEFT = ("offer", None)
 RISING = """
@@ -92,3 +92,12 @@ def test_a_setpoint_is_not_held_beyond_its_end(monkeypatch):
         one.offers().told(1500, holds=0.4).waits_for("write", 100)
         assert 0.4 <= time.monotonic() - begun < 5
         assert "the setpoint has ended, and no newer one came: the device takes its fallback, 100 W" in one.said
+
+
+def test_a_state_just_outside_those_of_the_model_is_the_nearest_one(monkeypatch):
+    """A battery at 1000.4 of 1000 Wh bid more power at a higher price, and its bid of before stood."""
+    with PretendedAgent(monkeypatch) as one:
+        one.offers()
+        one.device.state = 1000.4
+        one.offers(lambda offer: isinstance(offer, Points) and [power for _, power in offer.points] == [0, 0, -2000])
+        assert one.said == []

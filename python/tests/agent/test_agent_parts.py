@@ -279,12 +279,13 @@ def test_settings_of_models_and_of_a_strategy_of_one_s_own(tmp_path):
     assert isinstance(found.device, Battery) and (found.member, found.capacity) == ("energy", 4000)
     pump = {"model": "heat_pump", "power": 1500, "loss": 150, "constant": 60, "outdoor": 5, "low": 19, "high": 22}
     pump |= {"capacity": None, "charge": None, "discharge": None}
-    found = agent_settings_of(tables(device=pump, market={"hub": None, "agent": None, "token_file": None, "node": "pump", "host": "broker"}))
+    broker = {"hub": None, "agent": None, "token_file": None, "node": "pump", "host": "broker"}
+    found = agent_settings_of(tables(device=pump, market=broker, state={"unit": "C"}))
     assert isinstance(found.device, HeatPump) and found.device.state == 19
     assert found.market[1:] == ("market", "pump")
     (tmp_path / "own.py").write_text("class Own:\n    def __init__(self, name): self.name, self.state = name, 0.0\n")
     own = {"strategy": "own.py:Own", "name": "own", "model": None, "capacity": None, "charge": None, "discharge": None, "prices": None}
-    assert agent_settings_of(tables(device=own), tmp_path).device.name == "own"
+    assert agent_settings_of(tables(device=own, state={"unit": "kWh"}), tmp_path).device.name == "own"
     found = agent_settings_of(tables(device=KIND))
     assert (found.member, found.capacity, found.device.kind) == ("state", 4000, DeviceKind("battery", (4000, 2000, 2000, 1)))
     # A reading beyond what a battery holds is a full one.
@@ -326,6 +327,47 @@ KIND = {"model": None, "prices": None, "kind": "battery", "spread": 1}
 def test_settings_that_are_wrong(more, words):
     with pytest.raises(BadSettings, match=words):
         agent_settings_of(tables(**more))
+
+
+PUMP = {"model": "heat_pump", "power": 1500, "loss": 150, "constant": 60, "outdoor": 5, "low": 19, "high": 22}
+PUMP |= {"capacity": None, "charge": None, "discharge": None}
+CAR = {"model": "vehicle", "power": 7000, "needed": 9000, "arrival": "18:00", "departure": "07:00", "capacity": None, "charge": None, "discharge": None}
+
+
+@pytest.mark.parametrize(
+    ("more", "words"),
+    [
+        ({"state": {"unit": None}}, "state.unit is 'W', and the state of this device is in Wh, kWh, MWh, %"),
+        ({"state": {"unit": "C"}}, "state.unit is 'C'"),
+        ({"device": PUMP}, "state.unit is '%', and the state of this device is in C"),
+        ({"device": {**CAR, "arrival": 18, "departure": 7}}, "state.unit is '%', and the state of this device is in Wh, kWh, MWh"),
+        ({"device": {**KIND, "kind": "load", "capacity": None, "charge": None, "discharge": None, "spread": None}}, "is in W, kW, MW"),
+        ({"setpoint": {"unit": "%"}}, "setpoint.unit is %: a power is written in one of W, kW, MW"),
+        ({"state": {"least": 5, "greatest": 5}}, "give a least below the greatest"),
+    ],
+)
+def test_units_of_states_are_those_of_the_device(more, words):
+    with pytest.raises(BadSettings, match=words):
+        agent_settings_of(tables(**more))
+
+
+@pytest.mark.parametrize(
+    ("more", "found", "due"),
+    [
+        # Register 1 has a share of 4000 Wh.
+        ({}, 50, 2000), ({}, 100.01, 4000), ({}, -3, 0), ({"state": {"least": 0}}, -3, None), ({"state": {"greatest": 100}}, 100.01, None),
+        ({"device": PUMP, "state": {"unit": "C"}}, 21.5, 21.5), ({"device": PUMP, "state": {"unit": "C"}}, -127, None),
+        ({"device": PUMP, "state": {"unit": "C", "scale": 0.1, "least": -20}}, -201, None),
+        ({"device": PUMP, "state": {"unit": "C", "scale": 0.1, "least": -20}}, -200, -20),
+    ],
+)
+def test_a_reading_just_outside_is_the_nearest_state_and_one_of_a_broken_sensor_is_none(more, found, due):
+    settings = agent_settings_of(tables(**more))
+    if due is None:
+        with pytest.raises(NoReading, match="and a state is"):
+            settings.bounds.state_of(found, settings.state, settings.capacity)
+    else:
+        assert settings.bounds.state_of(found, settings.state, settings.capacity) == pytest.approx(due)
 
 
 def test_settings_that_lack_a_table():
