@@ -14,11 +14,18 @@ import sys
 import websockets
 
 
+async def repeat(hub, demands):
+    """Bids, and says the same bid again each minute: the hub lets an agent go that hangs."""
+    while True:
+        await hub.send(json.dumps({"bidUpdate": {"bidNumber": 1, "demandArray": demands}}))
+        await asyncio.sleep(60)
+
+
 async def bid(url, agent, token, trust, demands):
     """Bids, and prints each answer, until the hub ends the connection."""
-    async with websockets.connect(url, ssl=trust) as hub:
+    async with websockets.connect(url, ssl=trust) as hub, asyncio.TaskGroup() as tasks:
         await hub.send(json.dumps({"agentId": agent, "token": token}))
-        await hub.send(json.dumps({"bidUpdate": {"bidNumber": 1, "demandArray": demands}}))
+        bidding = tasks.create_task(repeat(hub, demands))
         async for line in hub:
             told = json.loads(line)
             if "priceUpdate" in told:
@@ -26,6 +33,7 @@ async def bid(url, agent, token, trust, demands):
                 print(f"price {price['price']}: {price['power']} W by bid {price.get('bidNumber')}", flush=True)
             elif "error" in told:
                 print(told["error"], file=sys.stderr, flush=True)
+        bidding.cancel()
 
 
 async def main(url, agent, token_file, ca, *demands):
@@ -35,8 +43,8 @@ async def main(url, agent, token_file, ca, *demands):
     while True:
         try:
             await bid(url, agent, token, trust, [int(demand) for demand in demands])
-        except (OSError, websockets.WebSocketException) as error:
-            print(f"{url}: {error}", file=sys.stderr, flush=True)
+        except* (OSError, websockets.WebSocketException) as errors:
+            print(f"{url}: {errors.exceptions[0]}", file=sys.stderr, flush=True)
         await asyncio.sleep(2)
 
 

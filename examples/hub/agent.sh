@@ -5,6 +5,7 @@
 #
 # With the file of a CA it connects by TLS. A line that you type is a bid, such as
 #     {"bidUpdate": {"bidNumber": 1, "pricePoints": [{"price": 3, "demand": 0}, {"price": 4, "demand": -150}]}}
+# The hub lets an agent go that bids nothing for five minutes: type the bid again.
 set -euo pipefail
 address="TCP:$1"
 [ $# -lt 4 ] || address="OPENSSL:$1,cafile=$4,openssl-min-proto-version=TLS1.2"

@@ -73,6 +73,9 @@ class Link(Protocol):
     def offer(self, offer: AnyOffer | None) -> int:
         """Offers this, None to leave, and gives the offer's number. The newest offer counts, also after a connection was lost."""
 
+    def repeat(self) -> None:
+        """Offers the newest again, as it was: the device lives."""
+
     def close(self) -> None:
         """Ends the connection."""
 
@@ -121,6 +124,12 @@ class HubLink:
             self._newest, self._is_new = b"".join(json.dumps(words).encode() + b"\n" for words in _words_of(offer, number)), True
         self._wake()
         return number
+
+    def repeat(self) -> None:
+        """See Link."""
+        with self._lock:
+            self._is_new = self._newest is not None
+        self._wake()
 
     def close(self) -> None:
         """See Link. What was offered last is sent before."""
@@ -279,6 +288,7 @@ class NodeLink:
         self._node, self._topics = node, {kind: f"{prefix}/{name}" for kind, name in kinds.items()}
         self._states = NodeStates(Topics(prefix), lambda topic: self._client.also_read(topic))
         self._newest: queue.Queue[str | None] = queue.Queue()
+        self._words: str | None = None
         self._number = first_number()
         self._sending: threading.Thread | None = None
 
@@ -293,8 +303,14 @@ class NodeLink:
         """See Link."""
         self._number += 1
         words = members_of(Leave()) if offer is None else {**members_of(offer), "reference": self._number}
-        self._newest.put(json.dumps(words))
+        self._words = json.dumps(words)
+        self._newest.put(self._words)
         return self._number
+
+    def repeat(self) -> None:
+        """See Link."""
+        if self._words is not None:
+            self._newest.put(self._words)
 
     def _send_all(self) -> None:
         """Publishes the newest offer until the broker has it."""

@@ -22,8 +22,8 @@ from .device_values import NoReading, NotWritten
 
 # The least and the greatest seconds between looks at the clock, and between tries to write what was not written.
 LEAST_LOOK, MOST_LOOK, AGAIN = 0.02, 0.5, 1.0
-# The seconds in which an agent that ends tries to give its device the fallback.
-LAST_SECONDS = 3.0
+# The seconds in which an agent that ends tries to give its device the fallback, and those after which it says the same offer again.
+LAST_SECONDS, REPEATED = 3.0, 60.0
 
 
 @dataclass(frozen=True)
@@ -62,6 +62,7 @@ class Agent:
         # What it would offer, what the market was told last, and the number of the first offer since it left.
         self._wanted: AnyOffer | None = None
         self._first: int | None = None
+        self._said_at = self._begun
         self._home = None if settings.entities is None else HomeAssistant(settings.entities, lambda is_on: self._words.put(TakesPart(is_on)))
         self._offered: AnyOffer | None = None
         self._tried, self._stepped = -float("inf"), self._begun
@@ -209,11 +210,15 @@ class Agent:
             self._tell(self._wanted)
 
     def _tell(self, offer: AnyOffer) -> None:
-        """Offers this, if it is new."""
+        """Offers this, if it is new, or again after a while: a market lets go of what hangs."""
+        now = clock.now()
         if offer == self._offered:
+            if now >= self._said_at + REPEATED:
+                self._said_at = now
+                self._link.repeat()
             return
         number = self._link.offer(offer)
-        self._offered, self._has_left = offer, False
+        self._offered, self._has_left, self._said_at = offer, False, now
         if self._first is None:
             self._first = number
 

@@ -35,6 +35,7 @@ _OPTIONS: list[tuple[str, type, str, str]] = [
     ("certificate", str, "FILE", "the hub's certificate: all connections are by TLS"),
     ("key", str, "FILE", "its key"),
     ("gone", float, "SECONDS", "an agent that is disconnected for so long leaves the market; default 150"),
+    ("offer_validity", float, "SECONDS", "an agent that bids nothing for so long, not even the same again, leaves the market; default 300"),
     ("validity", float, "SECONDS", "a priceUpdate holds so long without a newer one; default 120"),
     ("period", float, "SECONDS", "clears by the clock; without it after news"),
     ("pause", float, "SECONDS", "after news, not faster than this; default 1"),

@@ -58,7 +58,7 @@ def add_arguments(parser: argparse.ArgumentParser) -> None:
     adding.add_argument("--least", metavar="WATTS", type=int, help="the least power that it may bid, 0 or below")
     adding.add_argument("--greatest", metavar="WATTS", type=int, help="the greatest power that it may bid, 0 or above")
     adding.add_argument("--fallback", metavar="WATTS", type=int, help="what its control is told while the market is silent; default 0")
-    adding.add_argument("--offer-validity", metavar="SECONDS", type=float, help="it leaves if its control is silent for so long; default never")
+    adding.add_argument("--offer-validity", metavar="SECONDS", type=float, help="it leaves if its control is silent for so long; default 900")
     adding.add_argument("--control", action="store_true", help="its control logs in at the broker by itself")
     timing = below.add_parser("times", help="says when each device of a market falls back, and when it is let go")
     timing.add_argument("tree", metavar="TREE", help="the TOML file that names the market")

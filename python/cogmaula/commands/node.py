@@ -42,7 +42,7 @@ _OPTIONS: list[tuple[str, str, type, str, str]] = [
     ("node", "heartbeat", float, "SECONDS", "an auctioneer's: from one heartbeat to the next; default a quarter of validity"),
     ("node", "grace", float, "SECONDS", "an auctioneer's: a device that is silent for so long is let go; default 1.25 times validity"),
     ("node", "fallback", int, "WATTS", "the power that a device's control is told while the market is silent; default 0"),
-    ("node", "offer_validity", float, "SECONDS", "a device whose control is silent for so long leaves; default never"),
+    ("node", "offer_validity", float, "SECONDS", "a device whose control is silent for so long leaves; default 900"),
     ("node", "record", str, "FOLDER", "records all frames of the node there, for cogmaula judge"),
     ("node", "record_size", int, "BYTES", "a file of the recording ends at so many bytes; default 67108864"),
     ("node", "record_files", int, "N", "keeps the newest so many files of the recording; default all"),

@@ -148,8 +148,8 @@ class Cluster:
     currency: str
 
 
-def welcome(agent: str, cluster: Cluster, basis: Basis, session: str, time: str) -> bytes:
-    """The answer to a login. `session` is the id of the market's session, and `time` is now."""
+def welcome(agent: str, cluster: Cluster, basis: Basis, session: str, time: str, offer_validity: float) -> bytes:
+    """The answer to a login. `session` is the id of the market's session, `time` is now, and a bid holds for `offer_validity` seconds."""
     market = {
         "commodity": cluster.commodity,
         "currency": cluster.currency,
@@ -157,7 +157,8 @@ def welcome(agent: str, cluster: Cluster, basis: Basis, session: str, time: str)
         "maximumPrice": basis.max,
         "priceSteps": basis.steps,
     }
-    return _line({"agentId": agent, "clusterId": cluster.id, "marketBasis": market, "session": session, "time": time})
+    told = {"agentId": agent, "clusterId": cluster.id, "marketBasis": market, "session": session, "time": time}
+    return _line({**told, "offerValidity": offer_validity})
 
 
 def update_of(told: ControlMessage) -> bytes:

@@ -189,7 +189,8 @@ class Hub:
 
     def _welcome(self, agent: Agent) -> bytes:
         assert self._session is not None
-        return welcome(agent.name, self.settings.cluster, self.settings.basis, self._session.id, now_text())
+        settings = self.settings
+        return welcome(agent.name, settings.cluster, settings.basis, self._session.id, now_text(), settings.offer_validity)
 
     def _log_error(self, _loop: asyncio.AbstractEventLoop, told: dict[str, Any]) -> None:
         """Logs what the loop finds wrong."""

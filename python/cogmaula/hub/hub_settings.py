@@ -23,6 +23,8 @@ from .agent_messages import Cluster
 TABLES = ("hub", "basis", "page")
 # The bytes of a file of a recording: a hub has many nodes, and a file is compressed once it has ended.
 RECORD_SIZE = 4_194_304
+# For how many seconds a bid holds by default after the agent's last one.
+OFFER_VALIDITY = 300.0
 _ADDRESS = re.compile(r"(?:\[([0-9A-Fa-f:.]+)\]|([^\[\]:]+)):([0-9]{1,5})")
 
 
@@ -67,6 +69,7 @@ class HubSettings:
     certificate: the file of the hub's certificate and those above it, and `key` that of its key; with them all is by TLS
     insecure:    whether to listen without TLS where other machines reach it
     gone:        the seconds after which an agent that is disconnected leaves the market
+    offer_validity: the seconds after which an agent that is connected and bids nothing leaves the market, as one that hangs
     validity:    the seconds for which a priceUpdate holds without a newer one, and `heartbeat` those between two
     period:      the seconds from one clearing to the next, by the clock; None clears after news
     pause:       the least seconds between two clearings after news
@@ -89,6 +92,7 @@ class HubSettings:
     key: str | None = None
     insecure: bool = False
     gone: float = MARGIN * VALIDITY
+    offer_validity: float = OFFER_VALIDITY
     validity: float = VALIDITY
     heartbeat: float | None = None
     period: float | None = None
@@ -127,6 +131,7 @@ class HubSettings:
             raise BadSettings("page.whole and page.user are for a node at a broker: a hub shows its whole market")
         # Those of the nodes are refused here, and not when the first agent comes.
         self.of_auctioneer()
+        self.of_agent("agent", 1)
 
     @property
     def times(self) -> Times:
@@ -162,7 +167,7 @@ class HubSettings:
     def of_agent(self, agent: str, child: int) -> Settings:
         """The settings of an agent's node. Raises BadSettings."""
         folder = str(self.folder_of_agents / agent)
-        more: dict[str, Any] = {"parent": self.name, "child": child, **self._recording}
+        more: dict[str, Any] = {"parent": self.name, "child": child, "offer_validity": self.offer_validity, **self._recording}
         return Settings("device", require_name(agent, "the agent"), folder, self.basis, self.live, **more)
 
 

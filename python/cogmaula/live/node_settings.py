@@ -21,6 +21,8 @@ from .toml_tables import read_tables, table_of, value_of
 from .topics import OF_CHILDREN, Topics, require_name, require_prefix
 
 PASSWORD_VARIABLE = "COGMAULA_PASSWORD"
+# For how many seconds an offer holds by default after the control's last word: a control that hangs does not count for ever.
+OFFER_VALIDITY = 900.0
 # The least size of a file of a recording, in bytes.
 LEAST_SIZE = 1_024
 
@@ -138,7 +140,7 @@ class Settings:
     validity, heartbeat, grace: the times of the market that an auctioneer tells, in seconds; None takes the default. See Times
     fallback: the power in watts that a device's control is told while the market is silent
     device:   the kind of a device whose control says its state; None if it offers otherwise, or names the kind itself
-    offer_validity: the seconds after which a device whose control is silent leaves; None keeps its bid
+    offer_validity: the seconds after which a device whose control offers nothing leaves, not even the same again; None keeps its bid
     prices:   of a parent, how it tells prices
     children: of a parent, the bounds of children
     new_session: whether an auctioneer begins a new session
@@ -167,7 +169,7 @@ class Settings:
     heartbeat: float | None = None
     grace: float | None = None
     fallback: int = 0
-    offer_validity: float | None = None
+    offer_validity: float | None = OFFER_VALIDITY
     new_session: bool = False
     leave: bool = False
     record: str | None = None

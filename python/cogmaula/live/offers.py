@@ -49,6 +49,8 @@ class Offers:
         self._made: Wanted | None = None
         self._not_before = 0.0
         self._until: float | None = None
+        # Whether the device leaves since its control was silent.
+        self._is_leaving = False
         # The end that is stored, as it was read last: it is looked at often, and is seldom another one.
         self._stored_end: tuple[str, datetime] | None = None
         self._last = 0
@@ -121,7 +123,7 @@ class Offers:
         if until is not None and until <= now:
             self._drop(f"that of {message.time} is older than its validity")
             return
-        self._until = until
+        self._until, self._is_leaving = until, self._is_leaving and isinstance(self._asked, Leave)
         self.answer("")
         if isinstance(message.frame, Leave):
             self._offered = None
@@ -189,15 +191,18 @@ class Offers:
         return self.current is None and self._wanted is None
 
     def is_overdue(self, now: float) -> bool:
-        """Whether the offer has ended that the agent has: the control was silent for too long, and the device has to leave."""
-        return self._until is not None and now > self._until and self.current is not None and not isinstance(self._wanted, Leave)
+        """Whether the offer has ended that the agent has: the control was silent for too long, and the device leaves, or has to."""
+        if self.current is None or self._is_leaving:
+            return self.current is not None
+        return self._until is not None and now > self._until and not isinstance(self._wanted, Leave)
 
     def due(self, now: float, may_leave: bool = True) -> Wanted | None:
         """What to ask the agent for now, or None. It counts as asked.
 
         may_leave: whether the control has fallen back, so that the device may leave once its offer has ended
         """
-        if may_leave and self.is_overdue(now):
+        if may_leave and not self._is_leaving and self.is_overdue(now):
+            self._is_leaving = True
             self._log.warning("the control was silent for longer than the validity of its offer: the device leaves")
             self._wanted, self._offered = Leave(), None
         if self._wanted is None or self._asked is not None or now < self._not_before:
@@ -232,6 +237,7 @@ class Offers:
         self.references = self.references_with(resume)
         self._last = resume.last
         self.current = resume.demands if isinstance(resume, DeviceResume) else None
+        self._is_leaving = self._is_leaving and self.current is not None
         if is_answer:
             self._answered()
 

@@ -31,6 +31,9 @@ class PretendedMarket:
         self.events.append(("offer", offer))
         return self.number
 
+    def repeat(self):
+        self.events.append(("repeat", None))
+
     def close(self):
         self.events.append(("closed", None))
 

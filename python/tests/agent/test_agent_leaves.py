@@ -8,6 +8,7 @@ import pytest
 from brokers import wait_until
 from pretended_device import PretendedAgent
 
+from cogmaula.agent import running
 from cogmaula.agent.links import Setpoint
 from cogmaula.live.frames import Offer, Points
 
@@ -101,3 +102,11 @@ def test_a_state_just_outside_those_of_the_model_is_the_nearest_one(monkeypatch)
         one.device.state = 1000.4
         one.offers(lambda offer: isinstance(offer, Points) and [power for _, power in offer.points] == [0, 0, -2000])
         assert one.said == []
+
+
+def test_an_offer_is_said_again_so_that_the_market_sees_that_the_agent_lives(monkeypatch):
+    monkeypatch.setattr(running, "REPEATED", 0.1)
+    with PretendedAgent(monkeypatch) as one:
+        one.offers()
+        wait_until(lambda: one.events.count(("repeat", None)) >= 2, f"it is said again: {one.events}")
+        assert len([told for kind, told in one.events if kind == "offer"]) == 1

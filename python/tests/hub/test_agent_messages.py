@@ -126,12 +126,13 @@ def test_what_the_hub_says():
     assert json.loads(update_of(SilentMessage.of(json.dumps(silent).encode()))) == {"marketUpdate": silent}
     assert json.loads(error_line("wrong\nthing")) == {"error": "wrong\nthing"}
     assert b"\n" not in error_line("wrong\nthing")
-    assert json.loads(welcome("house", Cluster("street", "heat", "GBP"), Basis(-5, 5, 3), "0123456789abcdef", "now")) == {
+    assert json.loads(welcome("house", Cluster("street", "heat", "GBP"), Basis(-5, 5, 3), "0123456789abcdef", "now", 300.0)) == {
         "agentId": "house",
         "clusterId": "street",
         "marketBasis": {"commodity": "heat", "currency": "GBP", "minimumPrice": -5, "maximumPrice": 5, "priceSteps": 3},
         "session": "0123456789abcdef",
         "time": "now",
+        "offerValidity": 300.0,
     }
 
 

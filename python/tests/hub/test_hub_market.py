@@ -6,6 +6,7 @@ import os
 import random
 import signal
 import time
+from datetime import datetime
 
 import pytest
 from brokers import Certificates, wait_until
@@ -32,6 +33,34 @@ def settles(step, **agents):
     """Waits until each agent has a priceUpdate of this step, with its power in watts."""
     for agent, power in agents.values():
         agent.waits_for(step=step, power=power)
+
+
+def test_an_agent_that_hangs_falls_back_and_then_leaves_though_it_is_connected(live, tmp_path):
+    """The store gives 100 W from price 4 on, which the house takes. A bid that is said again keeps it, and one that is not lets it go."""
+    with HubInThread(tmp_path, live, validity=2.0, gone=2.5, offer_validity=1.0) as hub:
+        house, store = hub.agent("house"), hub.agent("store")
+        assert house.welcome["offerValidity"] == 1.0
+        begun = time.monotonic()
+        while time.monotonic() < begun + 3:
+            house.bids(CONSTANT, 1)
+            store.bids(falls_at(4, 0, -100), 2)
+            time.sleep(0.2)
+        assert store.has(power=-100, bidNumber=2) and house.has(power=100, price=4)
+        # The store hangs from now on.
+        told = len(store.told)
+
+        def is_gone():
+            house.bids(CONSTANT, 1)
+            return house.has(price=9)
+
+        wait_until(is_gone, f"the store leaves: {house.told[-1]}")
+        last = next(message for message in store.told[told:] if "marketUpdate" in message)
+        assert last["marketUpdate"]["market"] == "silent" and "offered nothing for too long" in last["marketUpdate"]["why"]
+        assert not any("priceUpdate" in message for message in store.told[store.told.index(last) :])
+        ends = datetime.fromisoformat(store.prices[-1]["until"]).timestamp()
+        alone = next(price for price in house.prices if price["price"] == 9 and price["clearing"] > store.prices[-1]["clearing"])
+        assert datetime.fromisoformat(alone["time"]).timestamp() >= ends, "it counts as long as it may hold its setpoint"
+        store.bids(falls_at(4, 0, -100), 3).waits_for(power=-100, bidNumber=3)
 
 
 def test_three_agents_over_tcp_and_websocket_with_tls(live, tmp_path):
