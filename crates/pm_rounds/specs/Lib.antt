@@ -1,0 +1,4 @@
+pub mod Rounds
+pub mod Sent
+pub mod Bounds
+pub mod SmallRounds
