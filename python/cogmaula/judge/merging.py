@@ -13,8 +13,8 @@ from collections import deque
 from collections.abc import Callable, Generator, Mapping
 from dataclasses import dataclass, field
 
-from ..live.frames import Bid, Expire, Gone, Old, Price
-from ..live.recording import IN, OUT
+from ..live.frames import Bid, Expire, Gone, Old, Price, RelayResume
+from ..live.recording import IN, OUT, STORED
 from .frame_words import words_of_bytes
 from .reading import Event, Recorded
 from .recording_faults import Faulty
@@ -32,6 +32,37 @@ def _key(data: bytes) -> bytes:
     return data if len(data) <= LONGEST_KEY else b"#" + hashlib.blake2b(data, digest_size=LONGEST_KEY).digest()
 
 
+class _NewBid:
+    """The Bid of a relay's new number: it is stored with its Resume, and is sent if the two are."""
+
+    def __init__(self) -> None:
+        """No number was given."""
+        self._stored = self._waits = 0
+        self._key = b""
+
+    def is_held(self, frame: bytes, key: bytes) -> bool:
+        """Takes a frame that the relay handles, and says whether it is sent only once its Resume is stored."""
+        if frame[0] == RelayResume.KIND:
+            self._waits, self._key = int.from_bytes(frame[1:5], "big"), b""
+        elif frame[0] == Bid.KIND and self._stored < self._waits == int.from_bytes(frame[3:7], "big"):
+            self._key = key
+            return True
+        return False
+
+    def stored(self) -> bytes:
+        """Takes that the Resume is stored. Gives the key of the Bid that is sent by that, b"" for none."""
+        key, self._key = self._key, b""
+        self._stored, self._waits = max(self._stored, self._waits), 0
+        return key
+
+    def starts(self, resume: bytes) -> bytes:
+        """Takes that the relay starts from a Resume, and gives what `stored` does: it may have been stored without a line."""
+        number = int.from_bytes(resume[1:5], "big")
+        key = self._key if number == self._waits else b""
+        self._stored, self._waits, self._key = number, 0, b""
+        return key
+
+
 @dataclass
 class _Walk:
     """How far a node has come. `event` is the next line, None at the end; `sent` has what it sent so far."""
@@ -40,6 +71,18 @@ class _Walk:
     events: Generator[Event, None, None]
     event: Event | None = None
     sent: set[bytes] = field(default_factory=set)
+    new_bid: _NewBid = field(default_factory=_NewBid)
+
+    def sends(self, event: Event) -> bytes:
+        """The key of what a line sends, b"" for nothing."""
+        first = self.recorded.first
+        is_relay = first is not None and first.sort == "relay"
+        if event.what == OUT:
+            key = _key(event.frame)
+            return b"" if is_relay and self.new_bid.is_held(event.frame, key) else key
+        if is_relay and event.start is not None:
+            return self.new_bid.starts(event.start.resume)
+        return self.new_bid.stored() if is_relay and event.what == STORED else b""
 
 
 class Merge:
@@ -91,11 +134,10 @@ class Merge:
         walk, woken = self._walks[name], list[str]()
         while walk.event is not None and not self._is_at_fault(name, walk.event):
             event = walk.event
-            if event.what == OUT:
-                key = _key(event.frame)
+            if key := walk.sends(event):
                 walk.sent.add(key)
                 woken += self._waiting.pop((name, key), [])
-            elif event.what == IN and self._is_waiting(name, event):
+            if event.what == IN and self._is_waiting(name, event):
                 self._waiting.setdefault((self._sender(name, event) or "", _key(event.frame)), []).append(name)
                 break
             elif event.what == IN:

@@ -16,6 +16,7 @@ from ..live.frames import (
     RESUMES,
     WRITES,
     AuctioneerResume,
+    Bid,
     DeviceResume,
     Expire,
     Frame,
@@ -164,7 +165,8 @@ class _Replay:
         resume = self._resume(event, due) if due[0] in RESUMES[sort] else None
         if isinstance(resume, AuctioneerResume):
             self._counts.clearings = resume.index
-        self._require(event, self._keeping.writes(resume))
+        is_bid = sort == "relay" and due[0] == Bid.KIND
+        self._require(event, self._keeping.writes(resume, int.from_bytes(due[3:7], "big") if is_bid else 0))
 
     def _resume(self, event: Event, data: bytes) -> Resume:
         assert self._start is not None

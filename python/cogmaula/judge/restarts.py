@@ -41,6 +41,8 @@ class Keeping:
         """Nothing is stored."""
         self._stored: Resume | None = None
         self._waits: Resume | None = None
+        # Whether the Bid of the Resume that waits was handled.
+        self._has_bid = False
         self._prices = {(0, 0)}
 
     def starts(self, resume: Resume | None, is_late: bool = False) -> str:
@@ -59,14 +61,21 @@ class Keeping:
             return f"it starts with {told}, and no Resume before had this price"
         return ""
 
-    def writes(self, resume: Resume | None) -> str:
-        """The node handles a Resume, or a frame that is none. One with another price alone need not be stored."""
+    def writes(self, resume: Resume | None, bid: int = 0) -> str:
+        """The node handles a Resume, or a frame that is none. One with another price alone need not be stored.
+
+        bid: the number of a relay's Bid, 0 for another frame; the Bid of a Resume's number is stored with it
+        """
+        before = 0 if self._stored is None else self._stored.last
+        if isinstance(self._waits, RelayResume) and before < self._waits.last == bid and not self._has_bid:
+            self._has_bid = True
+            return ""
         if self._waits is not None and self._stored is not None and _exact(self._waits) == _exact(self._stored):
             self._waits = None
         if self._waits is not None:
             return f"it is handled before the {words_of(self._waits)} is stored"
         if resume is not None:
-            self._waits = resume
+            self._waits, self._has_bid = resume, False
             self._prices.add(_price(resume))
         return ""
 

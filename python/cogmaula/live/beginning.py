@@ -7,7 +7,7 @@ from dataclasses import dataclass, replace
 
 from ..logs import NodeLog
 from .broker_link import Message
-from .children import LONGEST_NUMBER, BIDS_OF_SUM, FORM, RELAYS, SESSION, TIME
+from .children import BIDS_OF_SUM, FORM, LONGEST_NUMBER, OWN_BID, RELAYS, SESSION, TIME
 from .node_errors import BadFrame, BadMessage, NodeRefused, OtherTerms
 from .frames import BIDS, FIRST_FORM, RESUMES, AuctioneerResume, Bid, DeviceResume, Gone, RelayResume, Resume, ResumeGone, frame_of
 from .messages import VERSION, BasisMessage, SetpointMessage, StateMessage
@@ -250,7 +250,17 @@ class Beginning:
         relays = tuple(int(word) for word in message.properties.get(RELAYS, "").split() if word.isdecimal() and len(word) <= LONGEST_NUMBER)
         known = Stored(session, self.settings.basis, b"", time) if stored is None else stored
         all_relays = tuple(sorted({*relays, *known.relays}))
-        return replace(known, basis=self.settings.basis, frame=message.payload, time=time, setpoint=setpoint, relays=all_relays)
+        bid = self._bid_beside(message, resume)
+        return replace(known, basis=self.settings.basis, frame=message.payload, time=time, setpoint=setpoint, relays=all_relays, bid=bid)
+
+    def _bid_beside(self, message: Message, resume: Resume) -> bytes:
+        """The Bid of a relay's last number that the broker's copy of its Resume tells, b"" if an earlier version told none."""
+        try:
+            frame = frame_of(bytes.fromhex(message.properties.get(OWN_BID, "")), BIDS, self.settings.basis.steps)
+        except (BadFrame, ValueError):
+            return b""
+        is_own = isinstance(frame, Bid) and (frame.child, frame.number) == (self.settings.child, resume.last)
+        return frame.to_bytes() if is_own and isinstance(resume, RelayResume) else b""
 
     def _setpoint(self, session: Session) -> SetpointMessage | None:
         """The setpoint of this session that the broker retains, as it is stored, None without one."""

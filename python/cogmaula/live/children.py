@@ -18,8 +18,8 @@ from .topics import Topics
 # The user properties of MQTT 5 that frames have: the session, the time, the version of their form. A bid also has the sort and the name
 # of the node that sent it, and that of a device for how many seconds it holds.
 SESSION, TIME, FORM, SORT, NODE, VALID = "session", "time", "version", "sort", "node", "valid"
-# Those of a parent's Resume: which children are relays, and which bids are in its newest sum.
-RELAYS, BIDS_OF_SUM = "relays", "bids"
+# Those of a parent's Resume: which children are relays, which bids are in its newest sum, and of a relay the Bid of its last number.
+RELAYS, BIDS_OF_SUM, OWN_BID = "relays", "bids", "bid"
 
 # The most digits of a number of 32 bits.
 LONGEST_NUMBER = 10

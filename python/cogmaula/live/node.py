@@ -442,7 +442,9 @@ class Node:
         first = [f"/{ending}" for ending in ("heartbeat", "lapsed/" + str(self.settings.child))]
         messages = sorted(self._seen.values(), key=lambda message: not message.topic.endswith(tuple(first)))
         self._take_all(session, [message for message in messages if message.topic.endswith(tuple(first))])
-        self.serving.start(session, clock.now())
+        self._tell_state()
+        if session.is_known():
+            self.serving.start(session, clock.now())
         self._take_all(session, [message for message in messages if not message.topic.endswith(tuple(first))])
 
     @property

@@ -14,8 +14,8 @@ from dataclasses import replace
 
 from .. import clock
 from .broker_link import Publication
-from .children import BIDS_OF_SUM, NODE, RELAYS, SORT, VALID, Children
-from .node_errors import OtherTerms
+from .children import BIDS_OF_SUM, NODE, OWN_BID, RELAYS, SORT, VALID, Children
+from .node_errors import LiveError, OtherTerms
 from .frames import (
     RESUMES,
     AuctioneerResume,
@@ -92,8 +92,23 @@ class ServedSession:
         self._bid = self.other_basis = 0
         # The frames of the service that were not handled yet.
         self.pending: deque[Frame] = deque()
+        # Whether the broker has what was stored before this life.
+        self._is_known = False
         if stored.frame:
             self._publish_resume()
+        if stored.bid:
+            self._publish_bid(stored.bid)
+
+    def is_known(self) -> bool:
+        """Whether the broker has the node's state, its Resume and a relay's last Bid, as they were when the session began: then it may act.
+
+        So at most one number of a relay is stored whose Bid is not at the broker, however often the relay is killed.
+        """
+        if not self._is_known:
+            settings = self._settings
+            topics = [settings.own_topic(kind) for kind in ("state", "resume", *(["bid"] if settings.sort == "relay" else []))]
+            self._is_known = not self._parts.link.is_unconfirmed(topics)
+        return self._is_known
 
     @property
     def stored(self) -> Stored:
@@ -242,11 +257,29 @@ class ServedSession:
             if prices:
                 self._parts.recording.wrote(prices)
                 self._pass_on(prices)
-            else:
-                frame = self.pending.popleft()
-                self._parts.recording.wrote([frame])
-                self._handle(frame)
+                continue
+            if isinstance(frame, RelayResume) and frame.last > self.last:
+                if len(self.pending) < 2:
+                    return
+                self._keep_with_bid(frame, self.pending[1])
+                continue
+            frame = self.pending.popleft()
+            self._parts.recording.wrote([frame])
+            self._handle(frame)
         self.pricing.flush()
+
+    def _keep_with_bid(self, resume: RelayResume, bid: Frame) -> None:
+        """Handles a relay's Resume under a new number and the Bid behind it: the two are stored in one write, and then the Bid is sent.
+
+        Raises LiveError if the service wrote something else, and OSError.
+        """
+        if not isinstance(bid, Bid) or bid.number != resume.last:
+            raise LiveError(f"the service wrote a Resume of number {resume.last} without the Bid behind it: is it the program live of this version?")
+        for frame in (self.pending.popleft(), self.pending.popleft()):
+            self._parts.counts.wrote(frame, 0)
+        self._parts.recording.wrote([resume, bid])
+        self._keep(resume, bid)
+        self._send(bid)
 
     def _cut_prices(self) -> list[Price]:
         """Takes the Prices that come next, one directly behind the other: those of a clearing are recorded and handled together."""
@@ -273,12 +306,7 @@ class ServedSession:
             case RelayResume() | AuctioneerResume() | DeviceResume() | ResumeGone():
                 self._keep(frame)
             case Bid() | Gone():
-                self._parts.publisher.publish(self._settings.own_topic("bid"), frame.to_bytes(), now_text(), self._sender)
-                self._bid = frame.number
-                self._parts.asking.answered()
-                self.limiting.bids(frame.number, clock.now())
-                if isinstance(frame, Gone):
-                    self._parts.link.publish(Publication(self._settings.own_topic("setpoint"), b""))
+                self._send(frame)
             case Old() if self._settings.is_fence:
                 pass
             case Setpoint():
@@ -321,6 +349,18 @@ class ServedSession:
                         "live that it was made with, or begin a new session at the auctioneer by --new-session"
                     )
 
+    def _send(self, bid: Bid | Gone) -> None:
+        """Publishes a Bid or a Gone, whose Resume is stored."""
+        self._publish_bid(bid.to_bytes())
+        self._bid = bid.number
+        self._parts.asking.answered()
+        self.limiting.bids(bid.number, clock.now())
+        if isinstance(bid, Gone):
+            self._parts.link.publish(Publication(self._settings.own_topic("setpoint"), b""))
+
+    def _publish_bid(self, bid: bytes) -> None:
+        self._parts.publisher.publish(self._settings.own_topic("bid"), bid, now_text(), self._sender)
+
     @property
     def _count_lacking(self) -> int:
         """How many children were in the newest sum and are not heard."""
@@ -333,8 +373,10 @@ class ServedSession:
         who = ((SORT, settings.sort), (NODE, settings.name))
         return who if settings.sort == "relay" else (*who, (VALID, f"{self._parts.beating.silence.times.grace:g}"))
 
-    def _keep(self, resume: Resume) -> None:
+    def _keep(self, resume: Resume, bid: Bid | None = None) -> None:
         """Stores a Resume, before any frame behind it is handled. Raises OSError, and then the node has to end.
+
+        bid: the Bid of a relay's new number, which is stored with it
 
         The bids of the children that are in it are safe on disk before. If a device's Resume differs only in the price, it is noted, and
         stored with the next change: a device may come back with an older price.
@@ -355,6 +397,8 @@ class ServedSession:
                 noted["before"] = b"" if counts is None else counts.to_bytes()
             elif isinstance(resume, ResumeGone):
                 noted["before"] = b""
+        if bid is not None:
+            noted["bid"] = bid.to_bytes()
         self._parts.recording.make_safe()
         if isinstance(resume, RelayResume | AuctioneerResume):
             self._parts.bids.make_safe(self.children.asked)
@@ -378,7 +422,8 @@ class ServedSession:
         more = ((RELAYS, " ".join(map(str, stored.relays))),) if stored.relays else ()
         words = self.children.words_of_asked
         bids = ((BIDS_OF_SUM, words),) if words else ()
-        self._parts.publisher.publish(self._settings.own_topic("resume"), stored.frame, stored.time, more + bids)
+        own = ((OWN_BID, stored.bid.hex()),) if stored.bid else ()
+        self._parts.publisher.publish(self._settings.own_topic("resume"), stored.frame, stored.time, more + bids + own)
 
     def _time_of(self, index: int) -> str:
         """When the clearing of this index was, "" if that was not told."""

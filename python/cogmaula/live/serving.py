@@ -184,7 +184,7 @@ class Serving:
         session.work()
         if self._settings.sort == "device":
             session.keep_offer(now)
-        if self.service is None and now >= self._restart_at:
+        if self.service is None and now >= self._restart_at and session.is_known():
             self.start(session, now)
         session.tick(now)
         if self.service is not None:

@@ -5,7 +5,8 @@ The JSON has
 
 - of each node its name, its sort, the session and the basis of the Resume, when it was stored, and the frame's length in bytes;
 - of a device the newest setpoint, the references of its offers, and until when the newest offer holds;
-- of a parent which children are relays, which were let go, and the limits that it was given last.
+- of a parent which children are relays, which were let go, and the limits that it was given last;
+- of a relay the Bid of its Resume's last number: the two are of one write.
 
 Beside these files is the count of the node's starts.
 """
@@ -65,6 +66,7 @@ class Stored:
     given:      of a relay, the limits that it was given last, None if it was given none in this session
     offer:      of a device, the digest of the newest offer at its topic, "" without one
     until:      of a device, until when its newest offer holds (RFC 3339), "" without an end
+    bid:        of a relay, the bytes of the Bid of the Resume's last number, b"" if an earlier version stored the Resume
     before:     of a device, the bytes of the Resume of the offer that counts if the newest is refused, b"" without one
     version:    of the form of the Resume
     """
@@ -80,6 +82,7 @@ class Stored:
     given: Given | None = None
     offer: str = ""
     until: str = ""
+    bid: bytes = b""
     before: bytes = b""
     version: int = VERSION
 
@@ -153,6 +156,7 @@ class Store:
             "given": None if stored.given is None else vars(stored.given),
             "offer": stored.offer,
             "until": stored.until,
+            "bid": stored.bid.hex(),
             "before": stored.before.hex(),
         }
         behind = json.dumps(told).encode() + b"\n" + stored.frame
@@ -182,11 +186,11 @@ class Store:
             offer, until = str(told.get("offer", "")), str(told.get("until", ""))
             if until:
                 time_of(until)
-            before = bytes.fromhex(str(told.get("before", "")))
+            bid, before = (bytes.fromhex(str(told.get(word, ""))) for word in ("bid", "before"))
         except (ValueError, KeyError, IndexError, TypeError, AttributeError, BadMessage):
             raise damaged from None
         if length != len(frame):
             raise damaged
         if (node, sort) != (self.node, self.sort):
             raise BadStore(f"{path} is of the {sort} {node}, and this is the {self.sort} {self.node}: give another folder")
-        return Stored(session, basis, frame, str(time), setpoint, references, lapsed, relays, given, offer, until, before, version)
+        return Stored(session, basis, frame, str(time), setpoint, references, lapsed, relays, given, offer, until, bid, before, version)

@@ -58,7 +58,8 @@ class PretendedLink:
     def publish(self, publication):
         self.newest[publication.topic] = publication
         self.sent.append(publication)
-        if not self.confirms:
+        # A node that begins acts once its state and its Resume are confirmed.
+        if not self.confirms and not publication.topic.endswith(("/state", "/resume")):
             self.held.add(publication.topic)
 
     def publish_all(self):
@@ -165,6 +166,10 @@ class Joined:
         for topic, payload, *properties in retained:
             self.link.comes(topic, payload, *properties, retained=True)
         self.link.settles()
+        self.turned()
+        if self.service is None and self.node.serving.session is not None:
+            # It waits for the broker to confirm the Bid that is stored.
+            self.link.confirm()
         return self.turned()
 
     def turned(self):

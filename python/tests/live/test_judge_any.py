@@ -81,24 +81,32 @@ def exact(data):
     return data[:5] + data[end:], data[5:end]
 
 
+def is_new_bid(stored, waits, data):
+    """Whether a frame is the Bid of the new number of a relay's Resume, which is stored with it. Both are given by their bytes."""
+    return len(waits) == 1065 and stored[1:5] < waits[1:5] == data[3:7] and data[0] == 2
+
+
 def comes_back_with_newest(lives):
     """Whether each start comes back with what was stored last, or written since; and nothing is written before it is stored.
 
-    What differs from the stored in the price alone need not be stored."""
+    What differs from the stored in the price alone need not be stored. A relay's new Bid is stored with its Resume."""
     stored, waits, prices = b"", None, {b"", bytes(4), bytes(8)}
     for life in lives:
         begin = bytes.fromhex(life[0]["resume"] or "")
         if exact(begin)[0] not in [exact(resume)[0] for resume in (stored, waits) if resume is not None] or exact(begin)[1] not in prices:
             return False
-        stored, waits = begin, None
+        stored, waits, has_bid = begin, None, False
         for line in life[1:]:
             if line["what"] == "out":
                 data = bytes.fromhex(line["frame"])
+                if waits is not None and not has_bid and is_new_bid(stored, waits, data):
+                    has_bid = True
+                    continue
                 if waits is not None and exact(waits)[0] != exact(stored)[0]:
                     return False
                 waits = None
                 if data[0] in (RESUME, RESUME_GONE):
-                    waits = data
+                    waits, has_bid = data, False
                     prices.add(exact(data)[1])
             elif line["what"] == "stored":
                 if waits is None:
@@ -129,13 +137,29 @@ def sender_of(name, data):
 def has_an_order(told):
     """Whether all lines have an order in which each frame is sent before it is taken."""
     at, sent, moved = dict.fromkeys(told, 0), {name: set() for name in told}, True
+    # Of each node the Resume that is stored, the one that waits, and the Bid that is sent once that is stored.
+    kept = {name: [b"", b"", None] for name in told}
     while moved:
         moved = False
         for name, them in told.items():
             while at[name] < len(them):
                 line = them[at[name]]
-                if line["what"] == "out":
-                    sent[name].add(line["frame"])
+                stored, waits, held = kept[name]
+                if line["what"] == "start":
+                    begin = bytes.fromhex(line["resume"] or "")
+                    sent[name] |= {held} if held is not None and begin[1:5] == waits[1:5] else set()
+                    kept[name] = [begin, b"", None]
+                elif line["what"] == "stored":
+                    sent[name] |= set() if held is None else {held}
+                    kept[name] = [waits, b"", None]
+                elif line["what"] == "out":
+                    data = bytes.fromhex(line["frame"])
+                    if data[0] == RESUME:
+                        kept[name] = [stored, data, None]
+                    if is_new_bid(stored, waits, data):
+                        kept[name][2] = line["frame"]
+                    else:
+                        sent[name].add(line["frame"])
                 elif line["what"] == "in":
                     sender = sender_of(name, bytes.fromhex(line["frame"]))
                     if sender is not None and line["frame"] not in sent[sender]:

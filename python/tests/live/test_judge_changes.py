@@ -212,10 +212,18 @@ def test_a_start_without_the_stored_resume_is_named(lines, live, node):
 
 
 def test_a_frame_behind_a_resume_that_is_not_stored_is_named(lines, live):
+    file, at = lines.of("auctioneer", "stored")[0]
+    node, place, why = found(lines.drop(file, at), live)
+    assert (node, place) == ("auctioneer", (file, at))
+    assert why.startswith("it is handled before the Resume of clearing 1") and why.endswith("is stored")
+
+
+def test_a_bid_whose_resume_is_not_stored_was_not_sent(lines, live):
+    """The two are of one write."""
     file, at = lines.of("street", "stored")[0]
     node, place, why = found(lines.drop(file, at), live)
-    assert (node, place) == ("street", (file, at))
-    assert why == "it is handled before the Resume with number 1, answered 0 by clearing 0 is stored"
+    assert (node, place) == ("auctioneer", lines.of("auctioneer", "in", "Bid", child=1)[0])
+    assert why.startswith("Bid 1 of child 1 is taken, and street sends it only at ")
 
 
 def test_a_resume_that_is_stored_twice_is_named(lines, live):

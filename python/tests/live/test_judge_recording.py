@@ -50,9 +50,8 @@ def test_a_node_records_its_start_and_each_frame(joined, tmp_path):
         {"what": "start", **place, **basis, "session": SESSION.id, "begun": SESSION.begun, "resume": None},
         {"what": "in", "frame": bid(1, 1, 5, -3).to_bytes().hex()},
         {"what": "in", "frame": Send().to_bytes().hex()},
-        {"what": "out", "frame": FIRST.to_bytes().hex()},
+        {"what": "out", "frames": [FIRST.to_bytes().hex(), sent.to_bytes().hex()]},
         {"what": "stored"},
-        {"what": "out", "frame": sent.to_bytes().hex()},
         {"what": "in", "frame": price(3, 1, 7, 1).to_bytes().hex()},
         {"what": "end", "why": "stopped"},
     ]

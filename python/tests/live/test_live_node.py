@@ -112,7 +112,7 @@ def test_a_devices_resume_waits_until_the_broker_has_the_setpoint_before_it(join
 def test_prices_that_come_meanwhile_are_passed_over_for_the_newest(joined):
     """A service is fed a price, and asked to send, only once the broker has all that answers the price before."""
     one = joined("relay").begun(("market/street/bid/1", bid(1, 1, 5, -3).to_bytes(), OF_RELAY))
-    passed = relay_resume(1, 1, 7, numbers((1, 1)))
+    passed = relay_resume(0, 0, 7, numbers())
     one.writes(NotChanged(), price(1, 1, 7, 1), passed)
     fed = len(one.service.read)
     time.sleep(0.02)
@@ -148,12 +148,12 @@ def test_a_price_is_no_answer_to_a_relay_that_was_asked_to_send(joined):
     one = joined("relay").begun(("market/street/bid/1", bid(1, 1, 5, -3).to_bytes(), OF_RELAY))
     assert one.service.read[-1] == Send().to_bytes()
     one.link.confirms = True
-    one.writes(price(1, 1, 7, 1), RELAY_RESUME)
+    one.writes(price(1, 1, 7, 1), relay_resume(0, 0, 7, numbers()))
     one.link.comes("market/street/bid/1", bid(1, 2, 6, -3).to_bytes())
     time.sleep(0.02)
     one.turned()
     assert one.service.read.count(Send().to_bytes()) == 1
-    one.writes(bid(3, 1, 21, -3))
+    one.writes(RELAY_RESUME, bid(3, 1, 21, -3))
     time.sleep(0.02)
     one.turned()
     assert one.service.read.count(Send().to_bytes()) == 2

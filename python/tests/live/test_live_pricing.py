@@ -37,7 +37,7 @@ def a_heartbeat_later(one, monkeypatch):
 
 def test_one_table_has_the_prices_of_a_clearing_for_all_children(joined):
     one = parent(joined, TOGETHER)
-    one.writes(price(1, 1, 7, 1), price(2, 1, 7, 1), relay_resume(1, 1, 7, numbers((1, 1), (2, 1))))
+    one.writes(price(1, 1, 7, 1), price(2, 1, 7, 1), relay_resume(0, 0, 7, numbers()))
     assert one.link.of(TABLE) == [table(7, 1, c1=1, c2=1).to_bytes()]
     one.link.confirm()
     one.writes(price(1, 1, 8, 1), price(2, 1, 8, 1))

@@ -159,6 +159,8 @@ def test_a_number_is_of_one_bid_alone(joined, where, tmp_path):
         one.link.comes("market/street/resume", copy.payload, copy.properties, retained=True)
         one.link.settles()
         one.turned()
+        one.link.confirm()
+        one.turned()
     assert "1:4:" in dict(one.link.newest["market/street/resume"].properties)["bids"]
     other = bid(1, 4, 3_000, -3).to_bytes()
     for _ in range(2):
@@ -449,7 +451,7 @@ def test_a_full_disk_is_told_with_node_and_path(joined, monkeypatch, tmp_path):
 
     monkeypatch.setattr(os, "fsync", full)
     with pytest.raises(OSError, match=f"No space left on device: '{tmp_path}/relay/{SESSION.id}.bids'"):
-        retained_bids(one).writes(RELAY_RESUME)
+        retained_bids(one).writes(RELAY_RESUME, bid(3, 1, 116, -3))
 
 
 def test_without_paho_the_line_names_the_python(monkeypatch):
