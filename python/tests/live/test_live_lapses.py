@@ -63,7 +63,7 @@ def test_a_renewal_that_the_broker_alone_has_keeps_no_device_in_the_market(times
     node, parent = Silence(), Lapses()
     node.begin(times, 0.0)
     parent.begin(times)
-    parent.heard(1, "n1", times.grace, 0.0)
+    parent.heard(1, "n1", 0.0)
     node.bids(0.0)
     node.hear(Heartbeat(1, 1, "2026-01-31T06:30:00Z"), 0.0, retained=False)
     if is_confirmed_first:
