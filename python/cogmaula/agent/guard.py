@@ -21,7 +21,7 @@ class Limits:
     fallback:        what it takes if no setpoint comes for `silence`
     pace:            the least time between two writes of setpoints
     renew:           after which the same power is written again, as for a device that has lost it or watches for it
-    run, pause:      for how long it runs at least once it runs, and rests at least once it rests
+    run, pause:      for how long it runs at least once it runs, and rests at least once it rests; a start of the agent begins a rest
     """
 
     least: int
@@ -54,7 +54,9 @@ class Guard:
         self.is_silent = False
         # What was written last, and when; and since when it runs or rests, as far as that is known.
         self.written: int | None = None
-        self._written_at = self._since = -float("inf")
+        self._written_at = -float("inf")
+        # After a start nobody knows for how long the device has rested, so its pause begins anew.
+        self._since = now
         self.is_lost = False
         self._warned = ""
 
@@ -101,7 +103,7 @@ class Guard:
 
     def wrote(self, power: int, now: float) -> None:
         """Notes that the device has this power now."""
-        if self.written is None or bool(power) != bool(self.written):
+        if bool(power) != bool(self.written):
             self._since = now
         self.written, self._written_at, self.is_lost = power, now, False
 
@@ -111,10 +113,8 @@ class Guard:
 
     def fixed(self, now: float) -> int | None:
         """The power that the device has to offer at every price, since it may not yet stop or start; None if it is free."""
-        if self.written is None:
-            return None
         least = self._limits.run if self.written else self._limits.pause
-        return self.written if now - self._since < least else None
+        return self.written or 0 if now - self._since < least else None
 
     def bounded(self, offer: AnyOffer) -> AnyOffer:
         """What the device may offer, each power within its bounds. A kind with powers of its own is one whose powers are within them."""

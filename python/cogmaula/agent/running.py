@@ -63,6 +63,8 @@ class Agent:
         self._wanted: AnyOffer | None = None
         self._first: int | None = None
         self._said_at = self._begun
+        # Whether it has said that all is well.
+        self._is_healthy = False
         self._home = None if settings.entities is None else HomeAssistant(settings.entities, lambda is_on: self._words.put(TakesPart(is_on)))
         self._offered: AnyOffer | None = None
         self._tried, self._stepped = -float("inf"), self._begun
@@ -273,10 +275,13 @@ class Agent:
         self._tried = -float("inf")
         self._guard.wrote(power, now)
         self._log_change("write", "")
+        if not self._is_healthy and self._setpoint is not None and not self._guard.is_silent:
+            self._is_healthy = True
+            self._log.info(f"all is well: the device's state is read, the market has its offer, and it got its first setpoint, {power} W")
 
     def _log_change(self, subject: str, text: str) -> None:
-        """Warns of what is wrong with a subject, unless the warning before was the same; says that it is over."""
-        if text and self._said.get(subject, "") != text:
+        """Warns of what is wrong with a subject, once until it is over, and says that."""
+        if text and not self._said.get(subject):
             self._log.warning(text)
         elif not text and self._said.get(subject):
             if subject != "fixed":

@@ -133,7 +133,7 @@ class LivingCluster:
             child = children[node.above] = children.get(node.above, 0) + 1
             floor, ceiling = (node.floor, node.ceiling) if isinstance(node, Limited) else (-MOST, MOST)
             sort: Sort = "device" if node.is_device else "relay"
-            found.append(Settings(sort, node.name, str(folder / str(number)), basis, live, node.above, child, floor, ceiling, pause=PAUSE))
+            found.append(Settings(sort, node.name, str(folder / str(number)), basis, live, node.above, child, floor, ceiling, pause=PAUSE, offer_validity=None))
         return found
 
     def run(self, minutes: float | None = None) -> None:

@@ -101,7 +101,9 @@ def test_a_state_just_outside_those_of_the_model_is_the_nearest_one(monkeypatch)
         one.offers()
         one.device.state = 1000.4
         one.offers(lambda offer: isinstance(offer, Points) and [power for _, power in offer.points] == [0, 0, -2000])
-        assert one.said == []
+        assert not any("not offered" in line for line in one.said)
+        one.told(-700)
+        assert one.said == ["all is well: the device's state is read, the market has its offer, and it got its first setpoint, -700 W"]
 
 
 def test_an_offer_is_said_again_so_that_the_market_sees_that_the_agent_lives(monkeypatch):

@@ -4,15 +4,18 @@ from __future__ import annotations
 
 import http.server
 import math
+import os
+import struct
 import threading
+import tty
 from datetime import datetime
 
 import pytest
-from logged import log_to
+from logged import QUIET, log_to
 
 from cogmaula.agent import Guard, Limits, agent_settings_of
 from cogmaula.agent.links import HubLink, HubPlace
-from cogmaula.agent.modbus import ModbusPlace
+from cogmaula.agent.modbus import Modbus, ModbusPlace
 from cogmaula.agent.plain_sources import Command, CommandPlace, Csv, CsvPlace, Http, HttpPlace
 from cogmaula.agent.device_values import NoReading, NotWritten, Place, number_in
 from cogmaula.live.node_errors import BadSettings
@@ -86,8 +89,9 @@ def test_a_device_that_never_hears_the_market_gets_its_fallback_too():
 
 def test_minimum_times_hold_a_device_on_and_off():
     limits = Limits(0, 2000, run=10, pause=20, pace=0)
-    found, _ = told(limits, (1, 1500), (5, 0), (10.9, None), (11, None), (12, 1500), (30.9, None), (31, None))
-    assert found == [(1, 1500), (11, 0), (31, 1500)]
+    # It may have rested since a moment ago when the agent starts.
+    found, _ = told(limits, (1, 1500), (19.9, None), (20, None), (25, 0), (29.9, None), (30, None), (31, 1500), (49.9, None), (50, None))
+    assert found == [(1, 0), (20, 1500), (30, 0), (50, 1500)]
     # The fallback does not wait: it protects the line.
     assert told(Limits(0, 2000, run=100, silence=10), (1, 1500), (11, None))[0] == [(1, 1500), (11, 0)]
 
@@ -108,13 +112,27 @@ def test_a_device_that_may_have_lost_its_power_gets_it_again():
 
 def test_what_a_device_has_to_offer_while_it_may_not_change():
     guard = Guard(Limits(0, 2000, run=10, pause=20), print, 0.0)
-    assert guard.fixed(0) is None
-    guard.wrote(1500, 1)
-    assert (guard.fixed(10), guard.fixed(11)) == (1500, None)
-    guard.wrote(1200, 12)
-    assert guard.fixed(12) is None
-    guard.wrote(0, 15)
-    assert (guard.fixed(34), guard.fixed(35)) == (0, None)
+    assert (guard.fixed(0), guard.fixed(19), guard.fixed(20)) == (0, 0, None)
+    guard.wrote(1500, 21)
+    assert (guard.fixed(30), guard.fixed(31)) == (1500, None)
+    guard.wrote(1200, 32)
+    assert guard.fixed(32) is None
+    guard.wrote(0, 35)
+    assert (guard.fixed(54), guard.fixed(55)) == (0, None)
+
+
+def test_pace_and_renew_hold_while_the_device_may_have_lost_its_power():
+    """As of a device whose state is too old: its fallback was written at each look at the clock."""
+    guard = Guard(Limits(0, 2000, fallback=100, pace=5, renew=60), QUIET, 0.0)
+    guard.fall_back("the state is too old")
+    written = []
+    for second in range(1, 130):
+        if second == 2:
+            guard.lose()
+        if (power := guard.due(float(second))) is not None:
+            guard.wrote(power, float(second))
+            written.append((second, power))
+    assert written == [(1, 100), (6, 100), (66, 100), (126, 100)]
 
 
 @pytest.mark.parametrize(
@@ -186,6 +204,60 @@ def test_registers_by_hand(kind, order, number, registers):
     place = ModbusPlace(host="127.0.0.1", register=0, type=kind, word_order=order)
     assert place.registers_of(number) == registers
     assert place.number_of(registers) == number
+
+
+def crc_of(data):
+    """The check of a frame of Modbus RTU, by its definition."""
+    crc = 0xFFFF
+    for byte in data:
+        crc ^= byte
+        for _ in range(8):
+            crc = crc >> 1 ^ (0xA001 if crc & 1 else 0)
+    return struct.pack("<H", crc)
+
+
+def test_registers_by_a_serial_line():
+    """The test is device 7 at the other end of the line. It has 300 and -100 in registers 10 and 12, and takes function 6 alone."""
+    pytest.importorskip("pymodbus.client", reason="pymodbus is not installed: apt-get install python3-pymodbus python3-serial-asyncio")
+    assert crc_of(b"\x01\x03\x00\x00\x00\x01") == b"\x84\x0a", "the example of the standard"
+    device, line = os.openpty()
+    tty.setraw(line)
+    heard = []
+
+    def answers():
+        while True:
+            request = b""
+            while len(request) < 8:
+                request += os.read(device, 8 - len(request))
+            assert crc_of(request[:-2]) == request[-2:]
+            heard.append(request[:-2])
+            register = int.from_bytes(request[2:4], "big")
+            told = request[:-2] if request[1] == 6 else bytes([7, 3, 2]) + struct.pack(">h", {10: 300, 12: -100}[register])
+            os.write(device, told + crc_of(told))
+
+    threading.Thread(target=answers, daemon=True).start()
+    common = {"serial": os.ttyname(line), "device": 7, "baudrate": 19_200}
+    state, setpoint = Modbus(ModbusPlace(register=10, also=(12,), **common)), Modbus(ModbusPlace(register=20, function=6, **common))
+    assert state._line is setpoint._line
+    assert state.read() == 200
+    setpoint.write(-2)
+    assert heard == [bytes([7, 3, 0, 10, 0, 1]), bytes([7, 3, 0, 12, 0, 1]), bytes([7, 6, 0, 20, 0xFF, 0xFE])]
+    state.close()
+    assert Modbus(ModbusPlace(register=10, also=(12,), mean=True, **common)).read() == 100
+    setpoint.close()
+
+
+@pytest.mark.parametrize(
+    ("more", "words"),
+    [
+        ({}, "a host of Modbus over TCP, or a serial line"), ({"host": "a", "serial": "b"}, "and not both"),
+        ({"host": "a", "function": 5}, "function is 5"), ({"host": "a", "function": 6, "type": "u32"}, "6 for a number of one register"),
+        ({"serial": "b", "parity": "X"}, "parity 'X'"), ({"host": "a", "also": (-1,)}, "register from 0"),
+    ],
+)
+def test_registers_that_are_none(more, words):
+    with pytest.raises(BadSettings, match=words):
+        ModbusPlace(register=0, **more)
 
 
 def test_a_number_that_does_not_fit_is_not_written():
