@@ -29,6 +29,10 @@ settings.register_profile("market", phases=DRAWN, database=None, derandomize=not
 settings.load_profile("market")
 
 
+# A node refuses folders of state and passwords that others may read: what tests make is of their user alone.
+os.umask(0o077)
+
+
 @pytest.fixture(scope="session")
 def program():
     """The proved program. Without one, the tests that run it are skipped."""

@@ -8,12 +8,12 @@ import threading
 import time
 from collections.abc import Callable
 from dataclasses import dataclass
-from pathlib import Path
 from typing import Any
 
 from ..errors import NoPackage
 from ..live.connection import send_at_once
 from ..live.node_errors import BadSettings
+from ..live.safely import read_password
 from .device_values import NoReading, NotWritten, Place, number_in, require_pointer, text_with
 
 # The seconds within which the broker has to confirm a message, its keepalive, and the most between tries to connect.
@@ -86,7 +86,7 @@ class Client:
         self.is_connected = False
         self._client: Any = paho.Client()
         if place.user is not None:
-            word = None if place.password_file is None else Path(place.password_file).read_text().partition("\n")[0]
+            word = None if place.password_file is None else read_password(place.password_file)
             self._client.username_pw_set(place.user, word)
         if place.ca is not None:
             self._client.tls_set(place.ca, tls_version=ssl.PROTOCOL_TLS_CLIENT)

@@ -50,6 +50,14 @@ def _tell_day(database: Database, day: datetime) -> int:
     return 0
 
 
+def _require_password(broker: BrokerSettings) -> None:
+    """Raises BadSettings if the password cannot be read, or others may read or write it."""
+    try:
+        broker.password()
+    except OSError as error:
+        raise BadSettings(f"broker.password_file is {error.filename}, which cannot be read: {error.strerror}") from None
+
+
 def main(arguments: argparse.Namespace) -> int:
     """Keeps the history until a signal ends it."""
     try:
@@ -61,6 +69,7 @@ def main(arguments: argparse.Namespace) -> int:
         if arguments.password_file is not None:
             table["password_file"] = arguments.password_file
         broker = value_of(BrokerSettings, table, "broker")
+        _require_password(broker)
         database = open_database(arguments.to)
     except BadSettings as error:
         print(f"cogmaula: {error}", file=sys.stderr)

@@ -23,7 +23,10 @@ def compress(path: Path) -> None:
     made = path.with_name(path.name + ENDING)
     fresh = path.with_name(made.name + FRESH)
     try:
-        with open(path, "rb") as source, open(os.open(fresh, os.O_WRONLY | os.O_CREAT | os.O_TRUNC | os.O_CLOEXEC, 0o600), "wb") as target:
+        with (
+            open(os.open(path, os.O_RDONLY | os.O_NOFOLLOW | os.O_CLOEXEC), "rb") as source,
+            open(os.open(fresh, os.O_WRONLY | os.O_CREAT | os.O_TRUNC | os.O_NOFOLLOW | os.O_CLOEXEC, 0o600), "wb") as target,
+        ):
             with gzip.GzipFile("", "wb", LEVEL, target, mtime=0) as packed:
                 shutil.copyfileobj(source, packed, PIECE)
             target.flush()

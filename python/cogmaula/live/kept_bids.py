@@ -10,12 +10,11 @@ import hashlib
 import json
 import os
 from collections.abc import Mapping
-from pathlib import Path
 
 from .children import Heard
 from .node_errors import BadFrame
 from .frames import BIDS, Bid, Gone, frame_of
-from .safely import replace_safely, with_path
+from .safely import Folder, with_path
 from .sessions import Session
 
 SUFFIX = ".bids"
@@ -26,11 +25,12 @@ SPARE = 512
 class BidLog:
     """The file of one session. Each call raises OSError if the disk does not take what is due, and then the node has to end."""
 
-    def __init__(self, folder: Path, steps: int) -> None:
+    def __init__(self, folder: Folder, steps: int) -> None:
         """Takes the folder of the node's Resume, and the steps of the market."""
         self._folder = folder
         self._steps = steps
-        self._path: Path | None = None
+        # The name of the session's file, "" before a session.
+        self._name = ""
         self._file: int | None = None
         self._lines = 0
         # What the file has of each child.
@@ -39,15 +39,16 @@ class BidLog:
     def begin(self, session: Session) -> list[Heard]:
         """Goes by the file of a session, and gives the bid that it has of each child."""
         self.close()
-        self._path = self._folder / f"{session.id}{SUFFIX}"
+        self._name = f"{session.id}{SUFFIX}"
         self._written = {}
-        if self._path.exists():
-            for line in self._path.read_bytes().splitlines(keepends=True):
+        data = self._folder.read(self._name)
+        if data is not None:
+            for line in data.splitlines(keepends=True):
                 heard = self._read(line)
                 if heard is None:
                     break
                 self._written[heard.frame.child] = heard
-            self._write_anew(self._path)
+            self._write_anew()
         return [self._written[child] for child in sorted(self._written)]
 
     def make_safe(self, bids: Mapping[int, Heard]) -> None:
@@ -55,13 +56,13 @@ class BidLog:
         written = self._written
         # Nearly all are those that were added before, and to see that takes no look into them.
         fresh = {child: bid for child, bid in bids.items() if (known := written.get(child)) is not bid and known != bid}
-        if not fresh or self._path is None:
+        if not fresh or not self._name:
             return
         self._written |= fresh
         if self._file is None or self._lines + len(fresh) > 2 * len(self._written) + SPARE:
-            self._write_anew(self._path)
+            self._write_anew()
             return
-        with with_path(self._path):
+        with with_path(self._folder.path / self._name):
             rest = b"".join(map(_line_of, fresh.values()))
             while rest:
                 rest = rest[os.write(self._file, rest) :]
@@ -70,18 +71,17 @@ class BidLog:
 
     def close(self) -> None:
         """Lets go of the file."""
-        file, self._file, self._path = self._file, None, None
+        file, self._file, self._name = self._file, None, ""
         if file is not None:
             os.close(file)
 
-    def _write_anew(self, path: Path) -> None:
+    def _write_anew(self) -> None:
         """Replaces the file by one with a line for each child, and opens it for more."""
         if self._file is not None:
             os.close(self._file)
             self._file = None
-        replace_safely(path, b"".join(map(_line_of, self._written.values())))
-        with with_path(path):
-            self._file = os.open(path, os.O_WRONLY | os.O_APPEND | os.O_CLOEXEC)
+        self._folder.replace(self._name, b"".join(map(_line_of, self._written.values())))
+        self._file = self._folder.open(self._name, os.O_WRONLY | os.O_APPEND)
         self._lines = len(self._written)
 
     def _read(self, line: bytes) -> Heard | None:

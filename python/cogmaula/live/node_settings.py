@@ -17,6 +17,7 @@ from .frames import CHILDREN, MOST, Sort, are_limits, is_basis
 from .device_kinds import DeviceKind
 from .page_settings import PageSettings
 from .market_times import Times
+from .safely import read_password
 from .toml_tables import read_tables, table_of, value_of
 from .topics import OF_CHILDREN, Topics, require_name, require_prefix
 
@@ -76,9 +77,9 @@ class BrokerSettings:
         return f"{self.host}:{self.port_due}"
 
     def password(self) -> str | None:
-        """The password now, or None. Raises OSError if its file cannot be read."""
+        """The password now, or None. Raises OSError if its file cannot be read, or others may read or write it."""
         if self.password_file is not None:
-            return Path(self.password_file).read_text().partition("\n")[0]
+            return read_password(self.password_file)
         return os.environ.get(PASSWORD_VARIABLE)
 
 
@@ -254,8 +255,10 @@ class Settings:
             if path is None:
                 continue
             try:
-                with open(path, "rb"):
-                    pass
+                if name == "password_file":
+                    read_password(path)
+                else:
+                    Path(path).open("rb").close()
             except OSError as error:
                 raise BadSettings(f"broker.{name} is {path}, which cannot be read: {error.strerror}") from None
 

@@ -72,7 +72,7 @@ class Serving:
             offers=self.offers,
             asking=self._asking,
             recording=self._recording,
-            bids=BidLog(store.folder, settings.basis.steps),
+            bids=BidLog(store.files, settings.basis.steps),
             beating=self.beating,
             controlling=self.controlling,
             counts=self.counts,

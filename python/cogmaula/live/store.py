@@ -26,7 +26,7 @@ from ..cluster import Basis
 from .node_errors import BadMessage, BadStore
 from .frames import Sort
 from .messages import VERSION, SetpointMessage
-from .safely import replace_safely, with_path
+from .safely import Folder
 from .sessions import Session, time_of
 
 # The first line of a file, by the version of the form that its Resume has.
@@ -91,51 +91,55 @@ class Store:
     """The folder of one node's Resumes. One process alone has it at a time."""
 
     def __init__(self, folder: str | os.PathLike[str], node: str, sort: Sort) -> None:
-        """Makes the folder if it is missing, and takes it. Raises BadStore if another process has it, and OSError."""
+        """Makes the folder if it is missing, and takes it. Raises BadStore if another process has it or others may enter it, and OSError."""
         self.folder = Path(folder)
+        self.files = Folder(folder)
         self.node = node
         self.sort = sort
         # How often something was made safe, and the seconds that this took in all.
         self.saves, self.seconds = 0, 0.0
-        self.folder.mkdir(mode=0o700, parents=True, exist_ok=True)
-        self._lock = os.open(self.folder / "lock", os.O_RDWR | os.O_CREAT | os.O_CLOEXEC, 0o600)
+        try:
+            self._lock = self.files.open("lock", os.O_RDWR | os.O_CREAT)
+        except (BadStore, OSError):
+            self.files.close()
+            raise
         try:
             fcntl.flock(self._lock, fcntl.LOCK_EX | fcntl.LOCK_NB)
         except OSError:
-            os.close(self._lock)
+            self.close()
             raise BadStore(f"{self.folder} is in use by another process: end it first, since a node runs once") from None
 
     def close(self) -> None:
         """Lets go of the folder."""
         os.close(self._lock)
+        self.files.close()
 
     def path(self, session: Session) -> Path:
         """The file of a session."""
-        return self.folder / f"{session.id}{SUFFIX}"
+        return self.folder / _name_of(session)
 
     def save(self, stored: Stored) -> None:
         """Replaces the session's file, safely: once this returns, a crash of the machine leaves the new Resume. Raises OSError."""
         began = time.monotonic()
-        replace_safely(self.path(stored.session), self._bytes_of(stored))
+        self.files.replace(_name_of(stored.session), self._bytes_of(stored))
         self.saves += 1
         self.seconds += time.monotonic() - began
 
     def next_start(self, known: int = 0) -> int:
         """The count of the node's starts from now on, above those that are stored and known elsewhere. It is stored. Raises OSError."""
-        path = self.folder / "starts"
-        with with_path(path):
-            text = path.read_bytes() if path.exists() else b""
+        text = self.files.read("starts") or b""
         starts = max(known, int(text) if text.isdigit() and len(text) < LONGEST_COUNT else 0) + 1
-        replace_safely(path, str(starts).encode())
+        self.files.replace("starts", str(starts).encode())
         return starts
 
     def load(self, session: Session) -> Stored | None:
         """The Resume of a session, or None if there is no file. Raises BadStore if it is damaged, and OSError."""
-        return self._read(self.path(session)) if self.path(session).exists() else None
+        return self._read(_name_of(session))
 
     def newest(self) -> Stored | None:
         """The Resume of the newest session, or None if there is no file. Raises BadStore and OSError."""
-        found = [self._read(path) for path in sorted(self.folder.glob(f"*{SUFFIX}"))]
+        named = [self._read(name) for name in self.files.names() if name.endswith(SUFFIX)]
+        found = [stored for stored in named if stored is not None]
         return max(found, key=lambda stored: stored.session.order) if found else None
 
     def _bytes_of(self, stored: Stored) -> bytes:
@@ -163,8 +167,11 @@ class Store:
         first = FIRST_LINES[VERSION] + b"\n"
         return first + hashlib.sha256(first + behind).hexdigest().encode() + b"\n" + behind
 
-    def _read(self, path: Path) -> Stored:
-        first, checksum, behind = (path.read_bytes().split(b"\n", 2) + [b"", b""])[:3]
+    def _read(self, name: str) -> Stored | None:
+        path, data = self.folder / name, self.files.read(name)
+        if data is None:
+            return None
+        first, checksum, behind = (data.split(b"\n", 2) + [b"", b""])[:3]
         line, _, frame = behind.partition(b"\n")
         damaged = BadStore(f"{path} is damaged: bring it back as it was, or move it away, and the broker's copy counts")
         version = {line: version for version, line in FIRST_LINES.items()}.get(first)
@@ -194,3 +201,8 @@ class Store:
         if (node, sort) != (self.node, self.sort):
             raise BadStore(f"{path} is of the {sort} {node}, and this is the {self.sort} {self.node}: give another folder")
         return Stored(session, basis, frame, str(time), setpoint, references, lapsed, relays, given, offer, until, bid, before, version)
+
+
+def _name_of(session: Session) -> str:
+    """The name of the file of a session."""
+    return f"{session.id}{SUFFIX}"

@@ -35,6 +35,7 @@ from cogmaula.live.children import Heard
 from cogmaula.live.frames import Leave, NotCaughtUp, NotChanged, Offer, Send, Setpoint
 from cogmaula.live.messages import LOST
 from cogmaula.live.page_settings import PageSettings
+from cogmaula.live.safely import Folder
 from cogmaula.live.market_reader import Reader
 from cogmaula.live.sessions import now_text, time_text
 from cogmaula.live.node_settings import BrokerSettings, ChildSettings
@@ -104,7 +105,7 @@ HEARD = [Heard(bid(1, number, number, 0), "device", "house", 150.0) for number i
 
 @pytest.mark.parametrize("change", [lambda data: data[:-1], lambda data: data[:-9] + b"x" + data[-8:], lambda data: data + b"half a li"])
 def test_a_cut_or_damaged_line_ends_the_file_and_it_goes_on_behind_the_whole_ones(tmp_path, change):
-    log = kept_bids.BidLog(tmp_path, 2)
+    log = kept_bids.BidLog(Folder(tmp_path), 2)
     assert log.begin(SESSION) == []
     for heard in HEARD:
         log.make_safe({1: heard})
@@ -122,7 +123,7 @@ def test_a_cut_or_damaged_line_ends_the_file_and_it_goes_on_behind_the_whole_one
 
 def test_the_file_of_bids_does_not_grow_without_end(tmp_path, monkeypatch):
     monkeypatch.setattr(kept_bids, "SPARE", 8)
-    log = kept_bids.BidLog(tmp_path, 2)
+    log = kept_bids.BidLog(Folder(tmp_path), 2)
     log.begin(SESSION)
     for number in range(2, 80, 2):
         log.make_safe({1: Heard(bid(1, number, 5, 0), "device", "house", 150.0)})
@@ -135,7 +136,7 @@ def test_the_file_of_bids_does_not_grow_without_end(tmp_path, monkeypatch):
 
 def test_a_bid_that_the_file_has_is_not_added_again(tmp_path):
     """Neither the same one, nor an equal one that was heard again."""
-    log = kept_bids.BidLog(tmp_path, 2)
+    log = kept_bids.BidLog(Folder(tmp_path), 2)
     log.begin(SESSION)
     same = Heard(bid(1, 2, 5, 0), "device", "house", 150.0)
     for heard, lines in ((same, 1), (same, 1), (Heard(bid(1, 2, 5, 0), "device", "house", 150.0), 1), (Heard(bid(1, 4, 5, 0), "device", "house", 150.0), 2)):

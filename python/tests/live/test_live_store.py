@@ -11,7 +11,9 @@ from pretended import BASIS, LATER, MOMENT, SESSION
 
 from cogmaula.cluster import Basis
 from cogmaula.live.node_errors import BadStore
+from cogmaula.live.kept_bids import BidLog
 from cogmaula.live.messages import SetpointMessage
+from cogmaula.live.node_settings import BrokerSettings
 from cogmaula.live.store import Store, Stored
 
 FRAME = bytes.fromhex("0C 00000001 00000007 000001F4 FFFFFED4")
@@ -129,9 +131,9 @@ def test_the_file_is_on_the_disk_before_it_has_its_name_and_the_folder_after(sto
         done.append(os.path.basename(os.readlink(f"/proc/self/fd/{number}")))
         fsync(number)
 
-    def noted_replace(one, other):
+    def noted_replace(one, other, **folders):
         done.append("replace")
-        replace(one, other)
+        replace(one, other, **folders)
 
     monkeypatch.setattr(os, "fsync", noted_fsync)
     monkeypatch.setattr(os, "replace", noted_replace)
@@ -148,3 +150,77 @@ def test_a_disk_that_is_full_is_told(store, monkeypatch):
     with pytest.raises(OSError, match="No space left"):
         store.save(Stored(SESSION, BASIS, b"newer", MOMENT))
     assert store.load(SESSION) == STORED
+
+
+# Files that are their owner's alone.
+
+
+@pytest.mark.parametrize("mode", [0o750, 0o705, 0o720, 0o701])
+def test_a_folder_that_others_may_enter_is_refused_with_the_cure(tmp_path, mode):
+    folder = tmp_path / "state"
+    folder.mkdir(mode=0o700)
+    folder.chmod(mode)
+    with pytest.raises(BadStore, match=f"chmod 700 {folder}"):
+        Store(folder, "house", "device")
+    folder.chmod(0o700)
+    Store(folder, "house", "device").close()
+
+
+@pytest.mark.parametrize("name", ["lock", "starts", f"{SESSION.id}.resume", f"{SESSION.id}.bids", "fresh"])
+def test_no_link_in_a_folder_is_followed(tmp_path, name):
+    """What the link is to is not read, written, or made."""
+    other, folder = tmp_path / "other", tmp_path / "state"
+    other.write_bytes(b"7")
+    folder.mkdir(mode=0o700)
+    (folder / name).symlink_to(other)
+
+    def works():
+        store = Store(folder, "street", "relay")
+        try:
+            store.next_start()
+            store.load(SESSION)
+            store.save(Stored(SESSION, BASIS, b"x", MOMENT))
+            BidLog(store.files, BASIS.steps).begin(SESSION)
+        finally:
+            store.close()
+
+    if name == "fresh":
+        works()
+    else:
+        with pytest.raises(BadStore, match=f"{name} is a symbolic link, and none is followed"):
+            works()
+    assert other.read_bytes() == b"7"
+
+
+def test_a_folder_is_one_though_its_path_is_given_to_another(tmp_path):
+    """The store goes by the folder that it opened."""
+    folder = tmp_path / "state"
+    store = Store(folder, "street", "relay")
+    folder.rename(tmp_path / "moved")
+    folder.mkdir()
+    store.save(Stored(SESSION, BASIS, b"x", MOMENT))
+    store.close()
+    assert [path.name for path in folder.iterdir()] == []
+    assert (tmp_path / "moved" / f"{SESSION.id}.resume").exists()
+
+
+@pytest.mark.parametrize(("mode", "is_link", "why"), [
+    (0o640, False, "others may read or write it: chmod 600"), (0o604, False, "others may"), (0o622, False, "others may"),
+    (0o600, True, "it is a symbolic link"), (0o600, False, None), (0o400, False, None),
+])
+def test_a_password_that_others_may_read_is_refused_with_the_cure(tmp_path, monkeypatch, mode, is_link, why):
+    path = tmp_path / "password"
+    path.write_text("word\nmore\n")
+    path.chmod(mode)
+    if is_link:
+        path = path.rename(tmp_path / "other") and path
+        path.symlink_to(tmp_path / "other")
+    broker = BrokerSettings(user="house", password_file=str(path))
+    if why is None:
+        assert broker.password() == "word"
+        return
+    with pytest.raises(OSError, match=why):
+        broker.password()
+    if not is_link:
+        monkeypatch.setenv("CREDENTIALS_DIRECTORY", str(tmp_path))
+        assert broker.password() == "word", "systemd gives the user of a unit a right beside that of the owner"
