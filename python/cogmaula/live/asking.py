@@ -3,7 +3,7 @@
 from __future__ import annotations
 
 
-# The least seconds before a question is asked again that was not answered by a bid or a clearing, however short the pause is.
+# The least seconds between two questions, however short the pause is. They bound how many clearings a session can have.
 AGAIN = 0.01
 
 
@@ -29,16 +29,13 @@ class Asking:
             return False
         if self._last is None:
             return self._period is not None or self._has_news or self._is_again
-        if self._period is not None and now >= self._last + self._period:
-            return True
-        wait = self._wait()
-        return wait is not None and now >= self._last + wait
+        return any(now >= self._last + wait for wait in self._waits())
 
-    def _wait(self) -> float | None:
-        """For how long to wait after the last question, None if there is neither news nor a question to ask again."""
-        if self._is_again:
-            return max(self._pause, AGAIN)
-        return self._pause if self._period is None and self._has_news else None
+    def _waits(self) -> list[float]:
+        """For how long to wait after the last question: by the period, and by the pause if there is news or a question to ask again."""
+        is_due = self._is_again or (self._period is None and self._has_news)
+        waits = [*([self._pause] if is_due else []), *([] if self._period is None else [self._period])]
+        return [max(wait, AGAIN) for wait in waits]
 
     def due_at(self) -> float | None:
         """When to ask next, None if that is not yet known: after news, or an answer."""
@@ -46,7 +43,7 @@ class Asking:
             return None
         if self._last is None:
             return 0.0 if self.is_due(0.0) else None
-        waits = [wait for wait in (self._wait(), self._period) if wait is not None]
+        waits = self._waits()
         return self._last + min(waits) if waits else None
 
     def asked(self, now: float) -> None:

@@ -12,7 +12,9 @@ from ..logs import NodeLog
 from .broker_link import Message
 from .node_errors import BadFrame
 from .frames import BIDS, Bid, Gone, frame_of
+from .jumps import most_of_child
 from .messages import VERSION
+from .sessions import Session
 from .topics import Topics
 
 # The user properties of MQTT 5 that frames have: the session, the time, the version of their form. A bid also has the sort and the name
@@ -61,6 +63,7 @@ class BidFault(Enum):
     ODD_NUMBER = auto()
     OLDER_NUMBER = auto()
     NUMBER_AGAIN = auto()
+    NUMBER_FAR = auto()
 
 
 class Children:
@@ -72,7 +75,10 @@ class Children:
         self._topics = topics
         self._steps = steps
         self._log = log
-        self._session = ""
+        self._session: Session | None = None
+        # The numbers that the newest Resume has of the children, and of those that gave one far beyond its last, that number.
+        self._numbers: tuple[int, ...] = ()
+        self.far: dict[int, int] = {}
         self._newest: dict[int, Heard] = {}
         # Of each child the one before, which counts again if the newest is too much.
         self._before: dict[int, Heard] = {}
@@ -84,12 +90,14 @@ class Children:
         # Of each child the number and the digest of the bid that was in the newest sum, if the broker alone has it.
         self._known: dict[int, tuple[int, str]] = {}
 
-    def begin(self, session: str, kept: Iterable[Heard] = (), known: str = "") -> None:
+    def begin(self, session: Session, kept: Iterable[Heard] = (), known: str = "", numbers: tuple[int, ...] = ()) -> None:
         """Forgets all of an earlier session, and goes by what the disk has of this one.
 
-        known: what `words_of_asked` gave of the newest sum
+        known:   what `words_of_asked` gave of the newest sum
+        numbers: of all children, those in the newest Resume
         """
-        self._session = session
+        self._session, self._numbers = session, numbers
+        self.far.clear()
         self._known = _known_of(known)
         self._before.clear()
         self._told.clear()
@@ -130,9 +138,9 @@ class Children:
         """
         if not message.payload:
             return None
-        session = message.properties.get(SESSION, "")
-        if session != self._session:
-            self._warn_once(child, BidFault.OTHER_SESSION, f"is of session {session or '(none)'} and not {self._session}: it is not taken")
+        session, own = message.properties.get(SESSION, ""), "" if self._session is None else self._session.id
+        if session != own:
+            self._warn_once(child, BidFault.OTHER_SESSION, f"is of session {session or '(none)'} and not {own}: it is not taken")
             return None
         if message.properties.get(FORM) != str(VERSION):
             self._warn_once(child, BidFault.OTHER_VERSION, "comes from a node of another version: it is not taken. Install this version there")
@@ -164,13 +172,33 @@ class Children:
         if frame.number == newest and (frame != last if last is not None else digest_of(frame) != digest):
             self._warn_once(child, BidFault.NUMBER_AGAIN, f"has number {frame.number} once more with another bid: it is not taken, and the first counts")
             return None
+        if self._is_far(child, frame.number, newest):
+            return None
         heard = Heard(frame, *_sender(message), is_new=frame != last)
         if heard.is_new:
             if child in self._newest:
                 self._before[child] = self._newest[child]
             self._newest[child] = heard
             self._last[child] = frame
+            self.far.pop(child, None)
         return heard
+
+    def _is_far(self, child: int, number: int, newest: int) -> bool:
+        """Whether a number is one that the child cannot have come to, beyond the newest that was heard; 0 if none was."""
+        counted = self._numbers[child - 1] if self._numbers else 0
+        most = None if self._session is None else most_of_child(max(newest, counted), self._session)
+        if most is None or number <= most:
+            return False
+        self.far[child] = number
+        told = f"has number {number}, and at most {most} can be: it is not taken. Its login may be stolen"
+        self._warn_once(child, BidFault.NUMBER_FAR, told)
+        return True
+
+    @property
+    def alarm(self) -> str:
+        """Which children gave a number far beyond their last, "" if none did."""
+        told = [f"child {child} gave number {number}" for child, number in sorted(self.far.items())]
+        return f"{', '.join(told)}, far beyond its last: its login may be stolen" if told else ""
 
     def too_much(self, child: int, number: int) -> None:
         """Notes that the service did not take the child's bid of this number: the one before it counts."""

@@ -42,6 +42,7 @@ from .frames import (
     frame_of,
     size_of,
 )
+from .jumps import most_by_time
 from .keeping import Keeping
 from .letting import Letting
 from .limiting import Limiting
@@ -75,7 +76,8 @@ class ServedSession:
         self.keeping = Keeping(parts.store, stored)
         kept = [] if settings.sort == "device" else parts.bids.begin(stored.session)
         self.children = Children(settings.name, settings.topics, settings.basis.steps, parts.log)
-        self.children.begin(stored.session.id, kept, known)
+        numbers = resume.numbers if isinstance(resume, RelayResume | AuctioneerResume) else ()
+        self.children.begin(stored.session, kept, known, numbers)
         self.pricing = Pricing(parts, stored.session, self.children.is_gone)
         self.letting = Letting(parts, self.keeping, self.children, self.pricing, times)
         self.letting.begin(resume if isinstance(resume, RelayResume | AuctioneerResume) else None, kept, now)
@@ -90,6 +92,8 @@ class ServedSession:
         self._lines_from = 0.0
         # The number of the Bid or Gone that was published last, and how many prices were of another basis.
         self._bid = self.other_basis = 0
+        # What is wrong with the index of the parent's newest price, "" if nothing is.
+        self.far = ""
         # The frames of the service that were not handled yet.
         self.pending: deque[Frame] = deque()
         # Whether the broker has what was stored before this life.
@@ -129,7 +133,8 @@ class ServedSession:
     def alarm(self) -> str:
         """What is wrong with a relay's limits or the basis of its prices, and whom a parent waits for; "" if nothing is."""
         basis = f"{self.other_basis} prices were of another basis" if self.other_basis else ""
-        return "; ".join(words for words in (self._words_of_lacking, self.limiting.alarm, basis) if words)
+        parts = (self._words_of_lacking, self.limiting.alarm, basis, self.children.alarm, self.far)
+        return "; ".join(words for words in parts if words)
 
     @property
     def _words_of_lacking(self) -> str:
@@ -175,6 +180,12 @@ class ServedSession:
 
     def hear_price(self, price: Price, moment: str) -> None:
         """Takes a Price of the parent, unless a newer one came. `moment` is when its clearing was, "" if that was not told."""
+        most = most_by_time(self.stored.session)
+        if most is not None and price.index > most:
+            self.far = f"{self._settings.parent} gave clearing {price.index}, and at most {most} can be: its login may be stolen"
+            self._log.of_stranger("clearings too far").error(f"ALARM: {self.far}. It is not taken")
+            return
+        self.far = ""
         self.prices.hear(price, moment)
         self._feed_price(clock.now())
 

@@ -94,7 +94,7 @@ def test_what_was_refused_is_asked_again_after_the_pause(period):
 def test_without_a_pause_news_is_asked_at_once_and_what_was_refused_soon():
     """A relay that is not caught up would else be asked as fast as it answers."""
     asking = Asking(None, 0.0)
-    for now in (1.0, 1.0, 1.5):
+    for now in (1.0, 1.011, 1.5):
         asking.has_news()
         assert asking.is_due(now)
         asking.asked(now)
