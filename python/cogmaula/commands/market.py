@@ -9,7 +9,7 @@ from pathlib import Path
 from tempfile import TemporaryDirectory
 
 from .. import cli
-from ..deploy import Member, add_device, fence_settings, init_market, read_tree
+from ..deploy import Member, add_device, fence_settings, init_market, read_tree, renumber_device, revoke_login, rotate_login
 from ..deploy.time_line import time_line
 from ..history import open_database
 from ..history.why import lines_of, why
@@ -21,7 +21,7 @@ from ..live.node_settings import BrokerSettings, read_toml
 from ..live.toml_tables import value_of
 
 CALLS_PROGRAM = False
-HELP = "makes the files of a market at a broker, adds a device, says its times, lets a device go, clears a topic, fences or limits a relay, or says why a power was told"
+HELP = "makes and changes the files of a market at a broker, and says an operator's words to it"
 MORE = (
     "init makes all files from one that names the tree, machines, limits and logins; add adds a device to them. They need openssl and"
     " mosquitto. times says of such a file when each device falls back and is let go. drop, clear, fence and limits go to the broker of"
@@ -62,6 +62,14 @@ def add_arguments(parser: argparse.ArgumentParser) -> None:
     adding.add_argument("--control", action="store_true", help="its control logs in at the broker by itself")
     timing = below.add_parser("times", help="says when each device of a market falls back, and when it is let go")
     timing.add_argument("tree", metavar="TREE", help="the TOML file that names the market")
+    undoing = {
+        "revoke": below.add_parser("revoke", help="bars a login: the broker ends its connection, and lets it in no more"),
+        "rotate": below.add_parser("rotate", help="gives a login another password: the broker ends the connection of before"),
+        "renumber": below.add_parser("renumber", help="lets a device that is down begin anew under a fresh child number"),
+    }
+    for word, one in undoing.items():
+        one.add_argument("name", metavar="DEVICE" if word == "renumber" else "LOGIN", help="its name")
+        one.add_argument("--out", metavar="FOLDER", required=True, help="the folder that init made")
     dropping = below.add_parser("drop", help="lets a device go at once: its bid does not count any more. It must take nothing")
     dropping.add_argument("node", metavar="NODE", help="the parent, a relay or the auctioneer")
     dropping.add_argument("child", metavar="CHILD", type=int, help="the device's number there")
@@ -109,6 +117,18 @@ def _times(arguments: argparse.Namespace) -> str:
     return "\n".join(time_line(read_tree(arguments.tree)))
 
 
+def _revoke(arguments: argparse.Namespace) -> str:
+    return "\n".join(revoke_login(Path(arguments.out), arguments.name))
+
+
+def _rotate(arguments: argparse.Namespace) -> str:
+    return "\n".join(rotate_login(Path(arguments.out), arguments.name))
+
+
+def _renumber(arguments: argparse.Namespace) -> str:
+    return "\n".join(renumber_device(Path(arguments.out), arguments.name))
+
+
 def _limits(arguments: argparse.Namespace) -> str:
     limits = LimitsMessage(arguments.floor, arguments.ceiling, arguments.until, arguments.reference)
     return give_limits(_broker_of(arguments.config), arguments.node, limits, arguments.seconds)
@@ -136,7 +156,10 @@ def _why(arguments: argparse.Namespace) -> str:
         database.close()
 
 
-_WORDS = {"init": _init, "add": _add, "drop": _drop, "clear": _clear, "fence": _fence, "limits": _limits, "times": _times, "why": _why}
+_WORDS = {
+    "init": _init, "add": _add, "times": _times, "revoke": _revoke, "rotate": _rotate, "renumber": _renumber, "drop": _drop, "clear": _clear,
+    "fence": _fence, "limits": _limits, "why": _why,
+}
 
 
 def main(arguments: argparse.Namespace) -> int:

@@ -6,7 +6,10 @@
 """
 
 from ..live.node_errors import BadSettings
-from .market_files import add_device, fence_settings, init_market
+from .market_files import add_device, fence_settings, init_market, renumber_device, revoke_login, rotate_login
 from .market_file import Login, Member, Tree, read_tree
 
-__all__ = ["BadSettings", "Login", "Member", "Tree", "add_device", "fence_settings", "init_market", "read_tree"]
+__all__ = [
+    "BadSettings", "Login", "Member", "Tree", "add_device", "fence_settings", "init_market", "read_tree", "renumber_device", "revoke_login",
+    "rotate_login",
+]

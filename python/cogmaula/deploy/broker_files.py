@@ -3,6 +3,7 @@
 from __future__ import annotations
 
 import os
+from collections.abc import Collection
 from dataclasses import dataclass
 
 from .files import Places
@@ -53,10 +54,12 @@ def _rounded(number: int) -> int:
     return 1 << (number - 1).bit_length()
 
 
-def rights_text(tree: Tree) -> str:
-    """The broker's list of rights."""
+def rights_text(tree: Tree, revoked: Collection[str] = ()) -> str:
+    """The broker's list of rights, without those of logins that are barred."""
     lines = ["# Made by `cogmaula market`. Who may read and write what: each login has its own topics, and no other."]
     for login, rights in tree.rights().items():
+        if login in revoked:
+            continue
         lines += ["", f"user {login}", *(f"topic {right.access} {right.topic}" for right in rights)]
     return "\n".join(lines) + "\n"
 
@@ -90,6 +93,8 @@ def configuration_text(tree: Tree, places: Places) -> str:
         f"max_queued_bytes {limits.queued}",
         f"memory_limit {limits.memory}",
     ]
+    if here:
+        lines.append(f"pid_file {places.state('broker')}/mosquitto.pid")
     if here and os.getuid() == 0:
         # As another user it could not read the files of root.
         lines.append("user root")

@@ -6,7 +6,7 @@ import ipaddress
 import secrets
 import shutil
 import subprocess
-from collections.abc import Iterable
+from collections.abc import Collection, Iterable
 from pathlib import Path
 from tempfile import TemporaryDirectory
 
@@ -65,10 +65,12 @@ def _kind_of(host: str) -> str:
     return "IP"
 
 
-def make_passwords(logins: Iterable[tuple[str, Path]], hashes: Path) -> None:
+def make_passwords(logins: Iterable[tuple[str, Path]], hashes: Path, revoked: Collection[str] = ()) -> None:
     """Draws a password for each login whose file lacks one, and adds what the broker's file of hashes lacks.
 
-    logins: each login, and the file of its password
+    logins:  each login, and the file of its password
+    revoked: the logins that are barred: their hashes are of passwords that nobody has. A broker that reads its file again ends a connection
+             whose password is another one there, and leaves one whose login is gone
     """
     kept = hashes.read_text().splitlines() if hashes.exists() else []
     known = {line.partition(":")[0] for line in kept}
@@ -78,7 +80,7 @@ def make_passwords(logins: Iterable[tuple[str, Path]], hashes: Path) -> None:
             write_file(path, secrets.token_hex(24) + "\n", SECRET)
             known.discard(login)
         if login not in known:
-            fresh[login] = path.read_text().strip()
+            fresh[login] = secrets.token_hex(24) if login in revoked else path.read_text().strip()
     if not fresh:
         return
     hashes.parent.mkdir(mode=0o700, parents=True, exist_ok=True)

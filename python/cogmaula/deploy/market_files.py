@@ -9,8 +9,10 @@ from collections.abc import Mapping
 from pathlib import Path
 
 from ..live.node_errors import BadSettings
-from ..live.node_settings import Settings
-from . import broker_files, history_files, installing, node_files, site_files
+from ..live.node_settings import BrokerSettings, Settings
+from ..live.operating import forget_node
+from ..live.toml_tables import value_of
+from . import broker_files, history_files, installing, logins, node_files, site_files
 from .containers import compose_text
 from .files import OPEN, RUN, SECRET, Places, text_of, write_file
 from .front_files import front_text, front_unit_text
@@ -44,6 +46,42 @@ def add_device(out: Path, device: Member, site: str | None = None) -> list[str]:
     changed = list(dict.fromkeys(["broker", *nodes, *(folder for folder in _folders(tree) if folder not in known)]))
     first = ["Let the broker read its files again, by SIGHUP."] if tree.market.here else []
     return [*first, *_lines(tree, out, changed)]
+
+
+def revoke_login(out: Path, login: str) -> list[str]:
+    """Bars a login: the broker ends its connection and lets it in no more. Gives lines about what to do. Raises as `add_device` does."""
+    tree = read_tree(out / TREE)
+    logins.revoke(out, tree, login)
+    _make(tree, out)
+    return [logins.tell_broker(out, tree), f"{login} is barred, until `cogmaula market rotate {login}`."]
+
+
+def rotate_login(out: Path, login: str) -> list[str]:
+    """Gives a login another password: the broker ends its connection. Gives lines about what to do. Raises as `add_device` does."""
+    tree = read_tree(out / TREE)
+    folder = logins.folder_of_login(tree, login)
+    logins.rotate(out, tree, login)
+    _make(tree, out)
+    told = [logins.tell_broker(out, tree)]
+    if tree.market.here:
+        return [*told, f"{login} has another password, in {out / folder}. Who reads it at each connection goes on by itself."]
+    return [*told, *_lines(tree, out, ["broker", folder])]
+
+
+def renumber_device(out: Path, name: str) -> list[str]:
+    """Lets a device, which is down, begin anew under a child number that nobody had. Its numbers of before are forgotten, also at the broker.
+
+    Gives lines about what to do. Raises as `add_device` does.
+    """
+    before = read_tree(out / TREE)
+    member, tree = before.member(name), logins.with_fresh_number(before, name)
+    table = node_files.broker_table(before, before.folder_of(name), str(out.resolve() / before.folder_of(name)))
+    forget_node(value_of(BrokerSettings, table, "broker"), name, member.parent or "", member.child or 0)
+    away = logins.put_state_away(out, before, member)
+    _make(tree, out)
+    told = [f"{name} is child {tree.member(name).child} of {member.parent}, and was {member.child}.", away, logins.tell_broker(out, tree)]
+    changed = dict.fromkeys(["broker", tree.folder_of(member.parent or ""), tree.folder_of(name)])
+    return [*told, *_lines(tree, out, list(changed))]
 
 
 def fence_settings(out: Path, name: str, state: str) -> Settings:
@@ -84,7 +122,9 @@ def _make(tree: Tree, out: Path) -> None:
     make_certificate(authority, broker, tree.broker.host)
     folders = node_files.folders_of(tree)
     make_passwords(
-        [(login, out / folder / f"{login}.password") for folder, logins in folders.items() for login in logins], broker / "passwords"
+        [(login, out / folder / f"{login}.password") for folder, them in folders.items() for login in them],
+        broker / "passwords",
+        logins.revoked_in(out),
     )
     ca = (authority / "ca.crt").read_text()
     for folder in ("broker", *folders):
@@ -122,7 +162,7 @@ def _make(tree: Tree, out: Path) -> None:
 
 def _make_broker(tree: Tree, places: Places) -> None:
     folder = places.out / "broker"
-    write_file(folder / "mosquitto.acl", broker_files.rights_text(tree), SECRET)
+    write_file(folder / "mosquitto.acl", broker_files.rights_text(tree, logins.revoked_in(places.out)), SECRET)
     write_file(folder / "subscriptions.json", subscriptions_text(tree), SECRET)
     write_file(folder / "mosquitto.conf", broker_files.configuration_text(tree, places), OPEN)
     write_file(folder / "mosquitto.service.conf", broker_files.unit_text(tree), OPEN)

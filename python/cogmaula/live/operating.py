@@ -200,6 +200,23 @@ def clear(broker: BrokerSettings, topic: str, seconds: float = 10.0) -> str:
     return f"{topic} is cleared"
 
 
+def forget_node(broker: BrokerSettings, name: str, parent: str, child: int, seconds: float = 10.0) -> None:
+    """Clears a device's Resume, bid and setpoint at the broker, by its own login. Raises LiveError if it is up, and if that fails."""
+    topics = Topics(broker.prefix)
+    own = [topics.of(name, "resume"), topics.bid(parent, child), topics.of(name, "setpoint")]
+    with Words(broker, [topics.of(name, "state"), *own], seconds) as words:
+        try:
+            state = _state_of(words, topics, name)
+        except BadMessage:
+            # Whoever had the login may have written anything.
+            state = None
+        if state is not None and state.state == "up":
+            raise LiveError(f"{name} is up since {state.started}: stop it first")
+        for topic in own:
+            words.publish(topic, b"", True)
+        words.wait(lambda: not any(words.newest(topic)[0] for topic in own), f"the broker has not cleared the Resume and the bid of {name}")
+
+
 def give_limits(broker: BrokerSettings, node: str, limits: LimitsMessage, seconds: float = 10.0) -> str:
     """Gives limits to a relay, and says in a line from which clearing on setpoints keep them. Raises LiveError if they are refused."""
     LimitsMessage.of(limits.to_bytes())
