@@ -17,7 +17,7 @@ from .moments import later, zone_name
 from .money import Rate, currency_of
 from .phases import Tick
 from .program import Program, found_program
-from .states import Snapshot, last_snapshot
+from .states import Bid, Snapshot, last_snapshot
 from .texts import Bill, PhaseEnd, Report, bill_of, report_of, report_text
 
 if TYPE_CHECKING:
@@ -25,6 +25,7 @@ if TYPE_CHECKING:
     from pandas import DataFrame, MultiIndex
 
     from .figures import Figures
+    from .figures.stores import Stores
     from .held import Held
 
 # The data frames of a run that are written to files, a file each.
@@ -42,6 +43,9 @@ class Run:
     All data frames are made when they are first asked for. They need pandas, and raise NoPackage without it.
     """
 
+    # Whether the kinds of its devices have plain rules, by which figures compare.
+    has_plain_rules = True
+
     def __init__(
         self,
         cluster: Cluster,
@@ -58,7 +62,7 @@ class Run:
         report = text if isinstance(text, Report) else report_of(text)
         self.cluster = cluster
         self._text = None if isinstance(text, Report) else text
-        self.ends: tuple[PhaseEnd, ...] = report.ends
+        self.ends: Sequence[PhaseEnd] = report.ends
         self.changes = report.changes
         self.start = start or cluster.start or data_frames.START
         self._program = program
@@ -67,7 +71,7 @@ class Run:
     @cached_property
     def text(self) -> bytes:
         """The report, as the program writes it."""
-        return report_text(Report(self.ends, self.changes)) if self._text is None else self._text
+        return report_text(Report(tuple(self.ends), self.changes)) if self._text is None else self._text
 
     @property
     def program(self) -> Program:
@@ -169,6 +173,20 @@ class Run:
     def violations(self) -> DataFrame:
         """The rows of `limited_groups` in which the sum is outside the limits: no price brings the group within them."""
         return self.limited_groups[self.limited_groups["excess_W"] != 0]
+
+    @cached_property
+    def stores(self) -> Stores:
+        """What the batteries hold over the ticks, as arrays. It needs numpy."""
+        data_frames.arrays()
+        from .figures.stores import Stores
+
+        return Stores.of(self.cluster, self.held, self.held.powers)
+
+    def bids_of_connection(self, name: str) -> list[Bid]:
+        """The bid that a manual device has over each tick."""
+        from .figures.supplier_tariffs import bids_over, connection_in
+
+        return bids_over(self.cluster, connection_in(self.cluster, name))
 
     @cached_property
     def bill(self) -> Bill:

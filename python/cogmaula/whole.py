@@ -50,4 +50,4 @@ def whole_run(
 
 def with_bill_of(done: Run, known: Bill) -> Run:
     """The run with a bill that is known."""
-    return Run(done.cluster, Report(done.ends, done.changes), done.start, done.program, bill=lambda: known)
+    return Run(done.cluster, Report(tuple(done.ends), done.changes), done.start, done.program, bill=lambda: known)

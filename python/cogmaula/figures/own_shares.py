@@ -30,7 +30,7 @@ def own_shares(cluster: Cluster, held: Held, stores: Stores, connection: str | N
     """The shares of a run.
 
     Of a manual device nobody knows what it is: without a connection it may be the supplier, and one that takes and gives may be a
-    battery. Then both shares are None.
+    battery, as may any other model. Then both shares are None.
     """
     own = [at for at, device in enumerate(cluster.devices) if device.kind not in ("battery", "objective") and device.name != connection]
     if not all(_is_known(device, held.powers[:, at], connection) for at, device in enumerate(cluster.devices)):
@@ -45,9 +45,11 @@ def own_shares(cluster: Cluster, held: Held, stores: Stores, connection: str | N
 
 def _is_known(device: Any, powers: Any, connection: str | None) -> bool:
     """Whether what a device does may be told from its powers."""
-    if not isinstance(device, Manual) or device.name == connection:
+    if device.kind in ("battery", "objective") or device.name == connection:
         return True
-    return connection is not None and not (bool((powers > 0).any()) and bool((powers < 0).any()))
+    if isinstance(device, Manual) and connection is None:
+        return False
+    return not (bool((powers > 0).any()) and bool((powers < 0).any()))
 
 
 def _kept(whole: float, away: float) -> float | None:
@@ -80,7 +82,7 @@ def _away(surplus: Any, stored: Any, minutes: Any, stores: Stores) -> tuple[floa
         used = min(lack, given)
         sold += extra + (given - used) * share_own
         bought += lack - used + used * share_foreign
-        left = max(0.0, begin - given) / begin if begin else 0.0
+        left = min(1.0, end / begin) if begin else 0.0
         own, foreign = own * left, foreign * left
     return sold, bought
 

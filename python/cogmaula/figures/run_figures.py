@@ -32,10 +32,10 @@ def figures_of(run: Run, connection: str | None = None, currency: Currency | Non
     money, held = currency or Currency(), run.held
     site = Site.of(run, connection)
     exchange = site.exchange(held.powers)
-    plain = plain_powers(run.cluster, held, connection)
+    plain = plain_powers(run.cluster, held, connection) if run.has_plain_rules else None
     costs = UNKNOWN if connection is None else Costs.of(run, connection, [exchange, *site.without_market(run, plain)])
     own = [at for at, device in enumerate(run.cluster.devices) if device.kind not in ("battery", "objective") and device.name != connection]
-    stores = Stores.of(run.cluster, held, held.powers)
+    stores = run.stores
     shares = own_shares(run.cluster, held, stores, connection)
     consumed, produced = (total(numpy.maximum(sign * held.powers[:, own], 0).sum(axis=1), held) for sign in (1, -1))
     bought, sold = (total(numpy.maximum(sign * exchange, 0), held) for sign in (1, -1))
@@ -60,7 +60,7 @@ def figures_of(run: Run, connection: str | None = None, currency: Currency | Non
         cost_without_battery=in_money(costs.without_battery),
         left_kWh=stores.left / 1000,
         left_value=worth(stores.left),
-        left_plain_value=None if connection is None else worth(Stores.of(run.cluster, held, plain).left),
+        left_plain_value=None if connection is None or plain is None else worth(Stores.of(run.cluster, held, plain).left),
         bought_kWh=bought / WATT_MINUTES,
         sold_kWh=sold / WATT_MINUTES,
         consumed_kWh=consumed / WATT_MINUTES,
@@ -96,10 +96,14 @@ class Site:
         return powers[:, self.columns].sum(axis=1)
 
     def without_market(self, run: Run, plain: Any) -> list[Any]:
-        """The exchange that the devices have by these plain powers, and that without the batteries."""
+        """The exchange that the devices have by these plain powers, and that without the batteries.
+
+        Without plain rules it is that of the run, with its batteries and without them.
+        """
         batteries = [at for at, device in enumerate(run.cluster.devices) if isinstance(device, Battery)]
-        whole = self.exchange(plain)
-        return [whole, whole - plain[:, batteries].sum(axis=1)]
+        powers = run.held.powers if plain is None else plain
+        whole = self.exchange(powers)
+        return [whole, whole - powers[:, batteries].sum(axis=1)]
 
 
 @dataclass(frozen=True)
@@ -121,11 +125,11 @@ class Costs:
         held, own = run.held, run.held.column_of(connection)
         if any(bool((~held.members[:, own] & (exchange != 0)).any()) for exchange in exchanges):
             raise NoConnection(f"the connection {connection} is no member of the market all the time: its prices are not known")
-        asked = prices_asked(run.cluster, connection, exchanges, run.program)
+        asked = prices_asked(run.cluster, connection, run.bids_of_connection(connection), exchanges, run.program)
         market, plain, without = (exact_sum([exchange, price, held.minutes]) for exchange, price in zip(exchanges, asked, strict=True))
         billed, exchange = held.prices[:, held.column[own]], exchanges[0]
         above, below = (exchange < 0) & (billed > asked[0]), (exchange > 0) & (billed < asked[0])
-        return Costs(market, plain, without, -total(exchange * above, held), total(exchange * below, held))
+        return Costs(market, plain if run.has_plain_rules else None, without, -total(exchange * above, held), total(exchange * below, held))
 
 
 UNKNOWN = Costs(None, None, None, None, None)
@@ -177,7 +181,7 @@ def shifted_of(run: Run, plain: Any, connection: str | None) -> dict[str, float]
     """The energy that each device with a plain rule had at another time than by that rule, in kilowatt-hours."""
     found, held = {}, run.held
     for at, device in enumerate(run.cluster.devices):
-        if device.kind in (*WITHOUT_RULE, "objective") or device.name == connection:
+        if device.kind in (*WITHOUT_RULE, "objective") or device.name == connection or (plain is None and not isinstance(device, Battery)):
             continue
         # A battery that follows its plain rule shifts too, so it is compared with one that rests.
         is_battery, powers = isinstance(device, Battery), held.powers[:, at]

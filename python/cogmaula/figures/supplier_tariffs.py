@@ -48,16 +48,17 @@ def bids_over(cluster: Cluster, node: Manual) -> list[Bid]:
     return found
 
 
-def prices_asked(cluster: Cluster, name: str, exchanges: Sequence[Any], program: Program) -> list[Any]:
+def prices_asked(cluster: Cluster, name: str, bids: Sequence[Bid], exchanges: Sequence[Any], program: Program) -> list[Any]:
     """What the connection asks for each exchange: for each series of exchanges a series of prices.
 
+    bids:      the bid of the connection over each tick
     exchanges: arrays of watts for each tick; above 0 the site takes from the connection, below 0 it gives
 
     Raises NoConnection, and what `Program.answer` raises.
     """
     node = connection_in(cluster, name)
     places: dict[Bid, list[int]] = {}
-    for at, bid in enumerate(bids_over(cluster, node)):
+    for at, bid in enumerate(bids):
         places.setdefault(bid, []).append(at)
     prices = [numpy.zeros(len(exchange), dtype=numpy.int64) for exchange in exchanges]
     for bid, rows in places.items():

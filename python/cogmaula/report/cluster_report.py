@@ -25,6 +25,7 @@ from .intervals import Interval, intervals_of
 
 if TYPE_CHECKING:
     from ..data.supplier_connection import Supply
+    from ..simulation.as_run import SimulatedRun
     from .long_course import Course
 
 # The minutes of a bill's span if the user names none.
@@ -74,21 +75,40 @@ def findings_of(
 ) -> Findings:
     """Runs a cluster and finds what its report tells. The arguments are those of `report`."""
     # These need numpy, which the command line does without until a page is made.
-    from ..figures.run_figures import figures_of
     from ..figures.supplier_tariffs import connection_in
-    from .long_course import Course
 
     program, data = program or found_program(), bytes_of(source)
     cluster = source if isinstance(source, Cluster) else Cluster.from_json(data)
     if connection is not None:
         connection_in(cluster, connection)
     done = whole_run(cluster, start=start, program=program, quiet=quiet, with_bill=True)
-    intervals = intervals_of(cluster)
-    spans = list(bills_of(done, span_for(cluster.minutes) if span is None else span, connection))
+    return findings_of_run(
+        done, title or title_of(source), (start or cluster.start) is not None, connection, currency, span,
+        flexibility_of(continued(done), targets, program), hashlib.sha256(data).hexdigest(), supply,
+    )
+
+
+def findings_of_run(
+    done: Run,
+    title: str,
+    has_start: bool,
+    connection: str | None,
+    currency: Currency | None,
+    span: int | None,
+    flexibility: Flexibility,
+    digest: str,
+    supply: Supply | None = None,
+) -> Findings:
+    """What the report of a run tells. `flexibility` is that at its end, and `digest` that of its file."""
+    from ..figures.run_figures import figures_of
+    from .long_course import Course
+
+    intervals = intervals_of(done.cluster)
+    spans = list(bills_of(done, span_for(done.cluster.minutes) if span is None else span, connection))
     return Findings(
-        title or title_of(source),
+        title,
         done,
-        (start or cluster.start) is not None,
+        has_start,
         connection,
         bill_with_supplier(done, connection),
         figures_of(done, connection, currency),
@@ -97,8 +117,8 @@ def findings_of(
         tuple(groups_of(done, intervals)),
         tuple(spans),
         currency or Currency(),
-        flexibility_of(continued(done), targets, program),
-        hashlib.sha256(data).hexdigest(),
+        flexibility,
+        digest,
         None if supply is None else (supply.tariff.currency, supply.bill(done.series(), connection)),
     )
 
@@ -158,3 +178,17 @@ def report(
         except ImportError:
             raise NoPackage("a report needs matplotlib: on Debian, apt-get install python3-matplotlib") from None
     return page_of(found.result())
+
+
+def report_of_run(done: SimulatedRun, title: str, *, connection: str | None, currency: Currency | None, span: int | None) -> str:
+    """The page of a simulation, as a run of models. Raises NoConnection, and NoPackage without matplotlib."""
+    from ..figures.supplier_tariffs import connection_in
+
+    try:
+        from .sections import page_of
+    except ImportError:
+        raise NoPackage("a report needs matplotlib: on Debian, apt-get install python3-matplotlib") from None
+    if connection is not None:
+        connection_in(done.cluster, connection)
+    flexibility = flexibility_of(done.simulation.at_the_end(), None, done.program)
+    return page_of(findings_of_run(done, title, True, connection, currency, span, flexibility, ""))

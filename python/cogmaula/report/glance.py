@@ -63,12 +63,12 @@ def cost(found: Findings) -> str:
 
 
 def compared(figures: Figures) -> list[tuple[str, float | None, float]]:
-    """The costs that are compared, all at the prices that the connection asks, and what is left in the batteries at the end of each."""
-    return [
-        ("the run", figures.cost_at_connection, figures.left_value),
-        ("by plain rules *", figures.cost_plain, figures.left_plain_value or 0.0),
-        ("without batteries *", figures.cost_without_battery, 0.0),
-    ]
+    """The costs that are compared, all at the prices that the connection asks, and what is left in the batteries at the end of each.
+
+    Models of a simulation have no plain rules.
+    """
+    plain = [("by plain rules *", figures.cost_plain, figures.left_plain_value or 0.0)] if figures.cost_plain is not None else []
+    return [("the run", figures.cost_at_connection, figures.left_value), *plain, ("without batteries *", figures.cost_without_battery, 0.0)]
 
 
 def left_words(found: Findings) -> str:

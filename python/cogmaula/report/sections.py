@@ -100,10 +100,16 @@ def price_facts(found: Findings) -> Iterator[tuple[str, str]]:
 
 def foot(found: Findings) -> str:
     """Where the numbers come from."""
-    told = (
-        "Powers, prices, accounts and answers are those of the program market. This page adds, compares and rounds them. "
-        f"The cluster file has the SHA-256 {found.digest}."
-    )
+    if found.digest:
+        told = (
+            "Powers, prices, accounts and answers are those of the program market. This page adds, compares and rounds them. "
+            f"The cluster file has the SHA-256 {found.digest}."
+        )
+    else:
+        told = (
+            "The devices are models of a simulation. Prices and answers are those of the program market over what they bid, and each power is "
+            "what the device's bid names at its price. This page adds up the accounts, and compares and rounds."
+        )
     return f"<footer>{markup.words(told)}</footer>"
 
 
@@ -235,20 +241,20 @@ def exchange(found: Findings) -> Iterator[str]:
 def has_use(found: Findings) -> bool:
     """Whether something is to be said of the use of devices."""
     figures = found.figures
-    return bool(figures.batteries or any(figures.shifted_kWh.values()) or figures.cost_plain is not None)
+    return bool(figures.batteries or any(figures.shifted_kWh.values()) or figures.cost_at_connection is not None)
 
 
 def is_use_wide(found: Findings) -> bool:
     """Whether there is more than one table of the use of devices, so that it needs the whole width."""
     figures = found.figures
-    return [figures.cost_plain is not None, bool(figures.batteries), any(figures.shifted_kWh.values())].count(True) > 1
+    return [figures.cost_at_connection is not None, bool(figures.batteries), any(figures.shifted_kWh.values())].count(True) > 1
 
 
 def use(found: Findings) -> Iterator[str]:
     """What the market changed: costs with and without it, the use of batteries, and what each device shifted."""
     figures, unit = found.figures, found.currency.unit
     tables = []
-    if figures.cost_plain is not None:
+    if figures.cost_at_connection is not None:
         costs = [("the market's bill", figures.cost, figures.left_value)]
         costs += [(f"at the connection's prices, {name}", value or 0.0, left) for name, value, left in compared(figures)]
         rows = [[name, money(value), money(left), money(value - left)] for name, value, left in costs]

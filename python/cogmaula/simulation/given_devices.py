@@ -2,6 +2,7 @@
 
 from __future__ import annotations
 
+from collections.abc import Callable
 from dataclasses import dataclass
 from datetime import datetime
 
@@ -46,15 +47,18 @@ class Solar(_Given):
 
 @dataclass
 class Manual:
-    """A device that always makes the same bid, such as the connection to a supplier who sells at one price and buys at another."""
+    """A device that makes the bid that it is given, such as the connection to a supplier who sells at one price and buys at another.
+
+    offer: the bid; or a function that gives that of a moment, such as the price of an exchange for the hour
+    """
 
     name: str
-    offer: Bid
+    offer: Bid | Callable[[datetime], Bid]
     state: float = 0.0
 
     def bid(self, now: datetime) -> Bid:
         """See Device."""
-        return self.offer
+        return self.offer(now) if callable(self.offer) else self.offer
 
     def step(self, power: int, minutes: float) -> None:
         """See Device. It changes nothing."""

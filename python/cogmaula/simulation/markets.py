@@ -8,20 +8,21 @@ from __future__ import annotations
 
 import struct
 import subprocess
-from collections.abc import Callable, Mapping, Sequence
+from collections.abc import Mapping, Sequence
 from contextlib import ExitStack
 from dataclasses import dataclass, field
+from functools import cached_property
 from types import TracebackType
-from typing import TypeGuard
 
 from ..cluster import Basis
-from ..live.frames import CHILDREN, WRITES, Bid, Clear, Fault, Frame, Hello, Price, RelayResume, Send, Splitter, are_limits, is_basis
+from ..live.frames import CHILDREN, WRITES, Bid, Clear, Dropped, Fault, Hello, Price, RelayResume, Send, are_limits, is_basis, size_of
 from ..program import Program, chosen, live_at, live_program
 from .device import Demands
 from .streams import LONGEST, PIECE, ROOM, Stream, open_live
 
-# An answer Price of `serve`, with its kind.
+# An answer Price of `serve`, with its kind; that of a relay begins alike. And what a Bid has before its demands.
 PRICE, PRICE_KIND = struct.Struct(">BHIIH"), 5
+BID = struct.Struct(">BHI")
 
 
 @dataclass(frozen=True)
@@ -66,6 +67,11 @@ class _Node(Stream):
         """What a process is told first that takes the place of another one."""
         return self._hello
 
+    @property
+    def has_children(self) -> bool:
+        """Whether a child has bid."""
+        return bool(self._bids)
+
     def bid(self, child: int, frame: bytes) -> None:
         """Takes a bid of a child, whose number has risen."""
         if self._due + len(frame) > LONGEST - ROOM:
@@ -95,85 +101,107 @@ class _Auctioneer(_Node):
         self.index = 0
         return self._program.open("serve")
 
-    def clear(self) -> dict[int, int]:
-        """The step of each child, once a bid is new. Raises ProgramFault."""
+    def clear(self) -> int:
+        """The step that all children have, once a bid is new. Raises ProgramFault."""
         self.ask(Clear().to_bytes())
         self.index += 1
         self.has_news = False
-        steps: dict[int, int] = {}
-        for kind, child, _, index, step in PRICE.iter_unpack(self.read_all(len(self._bids) * PRICE.size)):
-            if kind != PRICE_KIND or index != self.index:
-                raise self.fault("it wrote no Price of this clearing")
-            steps[child] = step
-        return steps
+        told = self.read_all(len(self._bids) * PRICE.size)
+        found = {(kind, index, step) for kind, _, _, index, step in PRICE.iter_unpack(told)}
+        kind, index, step = found.pop()
+        if found or (kind, index) != (PRICE_KIND, self.index):
+            raise self.fault("it wrote no Price of this clearing")
+        return int(step)
 
 
 class _Relay(_Node):
-    """The program `live relay` of a group."""
+    """The program `live relay` of a group. What it is asked for and what it answers are apart, so that all relays work side by side."""
 
     def __init__(self, group: Group, child: int, basis: Basis, live: str) -> None:
         self.child = child
         self._basis = basis
         self._words = [live, "relay", str(child), str(group.floor), str(group.ceiling)]
+        self._sizes = {first: size_of(kind, basis.steps, first) for first, kind in WRITES["relay"].items()}
         self._number, self._resume, self._index = 0, b"", 0
         super().__init__(" ".join(self._words), basis)
 
     def open(self) -> subprocess.Popen[bytes]:
         """See Stream."""
-        self._frames = Splitter(WRITES["relay"], self._basis.steps)
+        self._kept = b""
         return open_live(self._words)
 
     def _again(self) -> bytes:
         return self._hello + self._resume
 
-    def _answers(self, frame: Frame, is_last: Callable[[Frame], bool]) -> list[Frame]:
-        """The frames with which it answers one, up to the last of them. Raises ProgramFault."""
-        self.ask(frame.to_bytes())
-        found: list[Frame] = []
-        while not any(map(is_last, found)):
-            found += self._frames.feed(self.read(PIECE))
-            if found and isinstance(found[-1], Fault):
+    def _frame(self) -> bytes:
+        """Its next frame. Raises ProgramFault."""
+        while True:
+            size = self._sizes.get(self._kept[0], 0) if self._kept else 1
+            if size == 0 or (self._kept and self._kept[0] in (Fault.KIND, Dropped.KIND)):
                 raise self.fault("it found a bad frame")
-        for answer in found:
-            self._resume = answer.to_bytes() if isinstance(answer, RelayResume) else self._resume
-        return found
+            if len(self._kept) >= size:
+                frame, self._kept = self._kept[:size], self._kept[size:]
+                return frame
+            self._kept += self.read(PIECE)
+
+    def ask_bid(self) -> None:
+        """Asks for the bid of the group, once a bid in it is new."""
+        self.has_news = False
+        self.ask(Send().to_bytes())
 
     def announced(self) -> bytes:
-        """The bid of the group for the auctioneer, once a bid in it is new. One that was started anew may first give its last bid again."""
-        self.has_news = False
-        found = [answer for answer in self._answers(Send(), self._is_newer) if self._is_newer(answer)]
-        self._number = found[0].number
-        return found[0].to_bytes()
+        """The bid that was asked for. A relay that was started anew may first give its last bid again."""
+        while True:
+            frame = self._frame()
+            if frame[0] == RelayResume.KIND:
+                self._resume = frame
+            elif frame[0] == Bid.KIND and (number := BID.unpack_from(frame)[2]) > self._number:
+                self._number = number
+                return frame
 
-    def _is_newer(self, frame: Frame) -> TypeGuard[Bid]:
-        return isinstance(frame, Bid) and frame.number > self._number
-
-    def pass_down(self, step: int) -> dict[int, int]:
-        """The step of each device of the group, after the auctioneer has cleared at this step. Indices are the relay's own."""
+    def tell(self, step: int) -> None:
+        """Tells it that the auctioneer has cleared at this step."""
         self._index += 1
         basis = self._basis
-        price = Price(self.child, self._number, self._index, step, basis.min, basis.max, basis.steps)
-        found = self._answers(price, lambda frame: isinstance(frame, RelayResume))
-        return {frame.child: frame.step for frame in found if isinstance(frame, Price)}
+        self.ask(Price(self.child, self._number, self._index, step, basis.min, basis.max, basis.steps).to_bytes())
+
+    def told(self) -> int:
+        """The step that its devices have at the price that it was told."""
+        steps = set[int]()
+        while (frame := self._frame())[0] != RelayResume.KIND:
+            if frame[0] == Price.KIND:
+                steps.add(PRICE.unpack_from(frame)[4])
+        self._resume = frame
+        if len(steps) != 1:
+            raise self.fault("it wrote no Price, or several")
+        return steps.pop()
 
 
 @dataclass(frozen=True)
 class Cleared:
-    """What a market came to: its step, and the step of each group and each device."""
+    """What a market came to: its step, and the step of each group. Devices of no group have the market's.
+
+    inside: the group of each device that has bid, or None
+    """
 
     step: int
     groups: Mapping[str, int]
-    devices: Mapping[str, int]
+    inside: Mapping[str, str | None] = field(repr=False)
+
+    @cached_property
+    def devices(self) -> Mapping[str, int]:
+        """The step of each device that has bid."""
+        return {name: self.step if group is None else self.groups[group] for name, group in self.inside.items()}
 
 
-@dataclass
+@dataclass(slots=True)
 class _Child:
-    """A device of a market: its place, the number of its last bid, and that bid."""
+    """A device of a market: its place, the number of its last bid, and that bid as bytes."""
 
     group: str | None
     child: int
     number: int = 0
-    demands: Demands | None = field(default=None, repr=False)
+    data: bytes = field(default=b"", repr=False)
 
 
 class Market:
@@ -200,8 +228,9 @@ class Market:
         if not is_basis(basis):
             raise ValueError(f"{basis}: a market has 2 to 1,000 steps from min to a greater max, and max - min is a multiple of steps - 1")
         self._basis = basis
-        self._bid = struct.Struct(f">BHI{basis.steps}i")
+        self._demands = struct.Struct(f">{basis.steps}i")
         self._children = _places(devices, groups)
+        self._inside: dict[str, str | None] = {}
         self._is_changed = False
         self._cleared = Cleared(0, {group.name: 0 for group in groups}, {})
         self._stack = ExitStack()
@@ -225,37 +254,36 @@ class Market:
         """Ends its processes."""
         self._stack.close()
 
-    def bid(self, device: str, demands: Demands) -> None:
-        """Takes the demand of a device at each step, in watts. The same again is no new bid."""
+    def bid(self, device: str, demands: Demands | bytes) -> None:
+        """Takes the demand of a device at each step, in watts, or as the bytes that a frame has. The same again is no new bid."""
         child = self._children[device]
-        if demands == child.demands:
+        data = demands if isinstance(demands, bytes) else self._demands.pack(*demands)
+        if data == child.data:
             return
-        child.demands, self._is_changed = demands, True
+        if not child.number:
+            self._inside = {**self._inside, device: child.group}
+        child.data, self._is_changed = data, True
         child.number += 1
         to = self._auctioneer if child.group is None else self._relays[child.group]
-        to.bid(child.child, self._bid.pack(Bid.KIND, child.child, child.number, *demands))
+        to.bid(child.child, BID.pack(Bid.KIND, child.child, child.number) + data)
 
     def clear(self) -> Cleared:
         """Clears over the newest bids. Without a new one all is as before; without any the step is 0. Raises ProgramFault."""
         if not self._is_changed:
             return self._cleared
         self._is_changed = False
-        for relay in self._relays.values():
-            if relay.has_news:
-                self._auctioneer.bid(relay.child, relay.announced())
-        self._cleared = self._told(self._auctioneer.clear())
+        asked = [relay for relay in self._relays.values() if relay.has_news]
+        for relay in asked:
+            relay.ask_bid()
+        for relay in asked:
+            self._auctioneer.bid(relay.child, relay.announced())
+        step = self._auctioneer.clear()
+        with_bids = {name: relay for name, relay in self._relays.items() if relay.has_children}
+        for relay in with_bids.values():
+            relay.tell(step)
+        groups = dict.fromkeys(self._relays, step) | {name: relay.told() for name, relay in with_bids.items()}
+        self._cleared = Cleared(step, groups, self._inside)
         return self._cleared
-
-    def _told(self, steps: dict[int, int]) -> Cleared:
-        below = {name: relay.pass_down(steps[relay.child]) for name, relay in self._relays.items() if relay.child in steps}
-        # All devices of a group have one step, and so have all children of the auctioneer.
-        step = next(iter(steps.values()))
-        groups = {name: next(iter(below.get(name, {}).values()), step) for name in self._relays}
-        devices = {
-            name: steps[child.child] if child.group is None else below[child.group][child.child]
-            for name, child in self._children.items() if child.demands is not None
-        }
-        return Cleared(step, groups, devices)
 
 
 def _places(devices: Sequence[str], groups: Sequence[Group]) -> dict[str, _Child]:

@@ -2,6 +2,7 @@
 
 from __future__ import annotations
 
+import fcntl
 import os
 import subprocess
 from collections.abc import Sequence
@@ -13,6 +14,8 @@ from ..errors import ProgramFault
 LONGEST, ROOM = 1_073_741_824, 4_096
 # The seconds in which a process ends whose input has ended, and the bytes that are read of it at once.
 LAST_SECONDS, PIECE = 5.0, 65_536
+# The bytes that a pipe to it holds, if the system gives as many; and what `fcntl` is asked for.
+PIPE, F_SETPIPE_SZ = 1 << 20, 1031
 
 
 class Stream:
@@ -29,6 +32,10 @@ class Stream:
     def start(self) -> None:
         """Has a new process from now on. Raises NoProgram and ProgramFault."""
         self._process = self.open()
+        for end in (self._process.stdin, self._process.stdout):
+            # A tick of many devices then goes through at once.
+            with suppress(OSError):
+                fcntl.fcntl(end, F_SETPIPE_SZ, PIPE)  # type: ignore[arg-type]
 
     def write(self, data: bytes) -> None:
         """Writes at once. Raises ProgramFault."""

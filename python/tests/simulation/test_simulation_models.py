@@ -91,9 +91,9 @@ def test_a_program_makes_what_is_new_alone_and_a_long_stream_is_followed_by_anot
         assert maker.demands({"load": offer_of(3, TEN, "load")}) == {"load": (3,) * 10} and not opened
         found = maker.demands(offers)
         assert [entry[0] for entry in found.values()] == list(range(10, 20)) and {entry[5] for entry in found.values()} == {0}
-        assert maker.demands(offers) == found and asked == [8, 2]
+        assert maker.demands(offers) == found and asked == [10]
         assert maker.demands({**offers, "d9": offer_of([(0, 5), (5, 0)], TEN, "d")})["d9"] == (5, 4, 3, 2, 1, 0, 0, 0, 0, 0)
-    assert (asked, len(opened)) == ([8, 2, 1], 2)
+    assert (asked, len(opened)) == ([10, 1], 2)
 
 
 def test_a_program_that_is_no_agent_is_told(tmp_path):
