@@ -21,7 +21,7 @@ from .broker_link import Arrived, Confirmed, Event, Link, Message, Publication, 
 from .control import Control, StandardControl
 from .counting import NodeFacts
 from .node_errors import BadFrame, BadMessage, LiveError, NodeRefused
-from .frames import CHILDREN, MOST, Leave
+from .frames import CHILDREN, MOST, Leave, RelayResume
 from .messages import LOST, BasisMessage, StateMessage
 from .parent import Parent
 from .served_session import ServedSession
@@ -90,6 +90,8 @@ class Node:
         self._seen: dict[str, Message] = {}
         self._state_told: tuple[object, ...] = ()
         self._begun = ""
+        # The children that counted in the session before, until the next one has begun.
+        self._counted: frozenset[int] = frozenset()
         # When the node looked last, and when it reads again what the broker retains.
         self._looked = clock.now()
         self._gap = max(GAP, 2 * tick)
@@ -431,7 +433,11 @@ class Node:
         told = beginning.basis()
         times = self.settings.times if self.settings.sort == "auctioneer" or told is None else told.times
         known = beginning.bids_of_sum(stored.session, stored.frame)
+        counted = self._counted_before(stored.session)
         session = self.serving.begin(stored, resume, times, clock.now(), self._starts, known)
+        if counted and resume is None:
+            session.waits_for(counted, clock.now(), times.grace)
+            self._log.info(f"sends no sum before children {', '.join(map(str, sorted(counted)))} are heard: they may hold setpoints of the session before")
         if self.settings.is_fence:
             session.letting.let_all_go("its relay has left")
         elif self.settings.leave:
@@ -452,6 +458,18 @@ class Node:
         """What to do about a node that counts at its parent and whose Resume is lost."""
         is_relay = self.settings.sort == "relay"
         return "begin a new session" if is_relay else f"cogmaula market drop {self.settings.parent} {self.settings.child}"
+
+    def _counted_before(self, session: Session) -> frozenset[int]:
+        """The children that a relay counted in the session before, in this process or by the disk. They may hold setpoints of it."""
+        counted, self._counted = self._counted, frozenset()
+        if self.settings.sort != "relay" or counted:
+            return counted
+        newest = self._store.newest()
+        if newest is None or newest.session.order >= session.order:
+            return frozenset()
+        resume = resume_of(self.settings, newest.frame)
+        numbers = enumerate(resume.numbers, 1) if isinstance(resume, RelayResume) else ()
+        return frozenset(child for child, number in numbers if number) - newest.lapsed.keys()
 
     def _session_before(self) -> str:
         """The id of the session before, in this process or on disk, "" without one."""
@@ -476,6 +494,7 @@ class Node:
             raise NodeRefused(f"another auctioneer has begun session {told.session.id}: end one of the two")
         else:
             self._log.info(f"session {own.id} is over: session {told.session.id} has begun")
+            self._counted = session.counted if self.settings.sort == "relay" else frozenset()
             self.serving.end("it waits for its session")
             self._begin()
 

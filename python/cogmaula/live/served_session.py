@@ -8,6 +8,7 @@ fed or handled, and it is on disk before a Resume is stored.
 
 from __future__ import annotations
 
+import math
 from collections import deque
 from collections.abc import Collection, Iterable
 from dataclasses import replace
@@ -94,6 +95,9 @@ class ServedSession:
         self._bid = self.other_basis = 0
         # What is wrong with the index of the parent's newest price, "" if nothing is.
         self.far = ""
+        # The children that the session before counted and that were not heard in this one, and until when they may hold its setpoints.
+        self._held: frozenset[int] = frozenset()
+        self._held_until = -math.inf
         # The frames of the service that were not handled yet.
         self.pending: deque[Frame] = deque()
         # Whether the broker has what was stored before this life.
@@ -123,6 +127,21 @@ class ServedSession:
         """Goes by other times of the market from now on."""
         self._parts.beating.silence.times = times
         self.letting.lapses.take_times(times)
+
+    @property
+    def counted(self) -> frozenset[int]:
+        """The children that count: they bid, and were not let go."""
+        return frozenset(bid.child for bid in self.children.newest if isinstance(bid, Bid)) - self.stored.lapsed.keys()
+
+    def waits_for(self, children: frozenset[int], now: float, grace: float) -> None:
+        """Sends no sum before these children are heard, which may hold setpoints of the session before, for so many seconds at most."""
+        self._held, self._held_until = children, now + grace
+
+    def waits(self, now: float) -> bool:
+        """Whether a relay does not send yet, since a child of the session before is not heard: its sum would lack what that may take."""
+        if self._held:
+            self._held = frozenset(child for child in self._held if not self.children.number(child)) if now < self._held_until else frozenset()
+        return bool(self._held)
 
     @property
     def last(self) -> int:

@@ -123,12 +123,15 @@ class Serving:
     @property
     def asks_at(self) -> float | None:
         """When a parent asks its service next, None as long as that is not known."""
-        return self._asking.due_at() if self.service is not None and self.session is not None and not self.session.pending else None
+        session = self.session
+        if self.service is None or session is None or session.pending or session.waits(clock.now()):
+            return None
+        return self._asking.due_at()
 
     @property
     def is_awaited(self) -> bool:
         """Whether something else is due soon by the clock: a session, a service, or a bid whose pause is not over."""
-        return self.service is None or self.session is None or self.session.letting.has_waiting
+        return self.service is None or self.session is None or self.session.letting.has_waiting or self.session.waits(clock.now())
 
     @property
     def has_left(self) -> bool:
@@ -197,7 +200,7 @@ class Serving:
             wanted = self.offers.due(now, self.controlling.may_leave(now))
             for data in [b""] if wanted is None else [frame.to_bytes() for frame in frames_of(wanted)]:
                 self._feed(data)
-        elif not session.pending and self._asking.is_due(now):
+        elif not session.pending and not session.waits(now) and self._asking.is_due(now):
             self._asking.asked(now)
             session.children.asks()
             self._feed((Clear() if self._settings.sort == "auctioneer" else Send()).to_bytes())

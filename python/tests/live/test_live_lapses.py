@@ -8,6 +8,7 @@ import pytest
 from brokers import live_program, wait_until
 from pretended import BASIS_TOPIC, LATER, MARKED, SESSION, basis_payload, bid, device_resume, gone, numbers, price, relay_resume, saved, state_payload
 
+from cogmaula import clock
 from cogmaula.live import BadSettings, serving
 from cogmaula.live.frames import RESUMES, Expire, Old, Send, TooMuch, frame_of
 from cogmaula.live.lapses import Lapses
@@ -537,3 +538,40 @@ def test_the_times_of_each_device_of_a_market_are_told(tmp_path, capsys):
         "device  parent  told its fallback by  let go from  left for",
         "house   street  61.6 s                89.1 s       27.5 s",
     ]
+
+
+# A session that follows another one.
+
+
+def sends(one):
+    return one.service.read.count(Send().to_bytes())
+
+
+@pytest.mark.parametrize("is_restarted", [False, True])
+def test_a_relay_sends_no_sum_of_a_new_session_before_it_knows_who_may_hold_setpoints(joined, tmp_path, monkeypatch, is_restarted):
+    """In the session before it counted children 1 and 2. Child 1 bids first; child 2 may take by its setpoint of before until that has ended."""
+    if is_restarted:
+        saved(tmp_path, "relay", "street", relay_resume(2, 0, 0, numbers((1, 2), (2, 2), (3, 5))), lapsed={3: 5})
+        one = joined("relay")
+        one.link.comes(BASIS_TOPIC, basis_payload(LATER))
+        one.link.settles()
+        one.turned()
+    else:
+        bids = [(f"market/street/bid/{child}", bid(child, 2, 5, -3).to_bytes()) for child in (1, 2)]
+        one = joined("relay").begun(*bids)
+        one.link.comes(BASIS_TOPIC, basis_payload(LATER))
+        one.turned()
+    of_later = [("session", LATER.id), *[pair for pair in MARKED if pair[0] != "session"]]
+    one.link.comes("market/street/bid/1", bid(1, 2, 5, -3).to_bytes(), of_later)
+    one.turned()
+    assert sends(one) == 0
+    begun = clock.now()
+    monkeypatch.setattr(clock, "now", lambda: begun + 140)
+    one.turned()
+    assert sends(one) == 0
+    if is_restarted:
+        monkeypatch.setattr(clock, "now", lambda: begun + 151)
+    else:
+        one.link.comes("market/street/bid/2", bid(2, 2, 5, -3).to_bytes(), of_later)
+    one.turned()
+    assert sends(one) == 1
