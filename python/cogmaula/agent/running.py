@@ -4,6 +4,7 @@ from __future__ import annotations
 
 import logging
 import queue
+import re
 import threading
 import time
 from dataclasses import dataclass
@@ -24,6 +25,10 @@ from .device_values import NoReading, NotWritten
 LEAST_LOOK, MOST_LOOK, AGAIN = 0.02, 0.5, 1.0
 # The seconds in which an agent that ends tries to give its device the fallback, and those after which it says the same offer again.
 LAST_SECONDS, REPEATED = 3.0, 60.0
+
+
+# A number in a text.
+_NUMBER = re.compile(r"-?\d+(?:\.\d+)?")
 
 
 @dataclass(frozen=True)
@@ -280,10 +285,15 @@ class Agent:
             self._log.info(f"all is well: the device's state is read, the market has its offer, and it got its first setpoint, {power} W")
 
     def _log_change(self, subject: str, text: str) -> None:
-        """Warns of what is wrong with a subject, once until it is over, and says that."""
-        if text and not self._said.get(subject):
+        """Warns of what is wrong with a subject, once for each cause until it is over, and says that. A number in it is no other cause."""
+        if text and _cause(text) != _cause(self._said.get(subject, "")):
             self._log.warning(text)
         elif not text and self._said.get(subject):
             if subject != "fixed":
                 self._log.info(f"{'the state is read' if subject == 'state' else 'it works'} again")
         self._said[subject] = text
+
+
+def _cause(text: str) -> str:
+    """A text without its numbers."""
+    return _NUMBER.sub("0", text)

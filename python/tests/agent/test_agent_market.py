@@ -323,7 +323,7 @@ def test_a_hub_that_refuses_or_is_away(live, tmp_path, capsys):
     from cogmaula.cli import main
 
     with HubInThread(tmp_path, live) as hub:
-        tables = tables_of(hub, {"by": "csv", "file": "none", "column": "a"}, {"by": "csv", "file": str(tmp_path / "out")})
+        tables = tables_of(hub, {"by": "csv", "file": "none", "column": "a", "unit": "Wh"}, {"by": "csv", "file": str(tmp_path / "out")})
         (tmp_path / "store.token").write_text("wrong")
         with Working(tables) as agent:
             agent.says("the login of 'store' is refused")
