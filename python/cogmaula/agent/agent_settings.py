@@ -24,7 +24,7 @@ from .mqtt import BrokerPlace, Mqtt, MqttPlace
 from .plain_sources import Command, CommandPlace, Csv, CsvPlace, Http, HttpPlace
 from .stated import StatedDevice
 
-TABLES = ("agent", "market", "device", "limits", "state", "setpoint", "homeassistant")
+TABLES = ("agent", "market", "device", "limits", "state", "setpoint", "time_out", "homeassistant")
 # Those that each file has.
 NEEDED = ("market", "device", "limits", "setpoint")
 # The units of a state by what it is.
@@ -101,12 +101,39 @@ class Times:
 
 
 @dataclass(frozen=True)
+class TimeOut:
+    """The device's own time-out: it takes its fallback by itself if nothing is written for so many seconds.
+
+    place:   where the seconds are written, before each power; its scale is of seconds, such as 0.001 for milliseconds
+    seconds: longer than from one power to the next, and no longer than a setpoint holds
+    """
+
+    place: Any
+    seconds: float
+
+    def require(self, limits: Limits) -> None:
+        """Raises BadSettings if it is no longer than `renew`, or longer than `silence`."""
+        if not 2 * limits.renew <= self.seconds <= limits.silence:
+            raise BadSettings(
+                f"time_out.seconds is {self.seconds:g}, limits.renew {limits.renew:g} and limits.silence {limits.silence:g}: give a time-out of twice "
+                "renew or more, and of silence or less"
+            )
+
+    @property
+    def number(self) -> float:
+        """What is written."""
+        found = float(self.seconds / self.place.scale + self.place.offset)
+        return round(found) if abs(found - round(found)) < 1e-9 else found
+
+
+@dataclass(frozen=True)
 class AgentSettings:
     """One agent: its market, its device as a model, the member that is the device's state, where that is read, and where power is written.
 
     state:    None if the model keeps its own state, by the powers that were written and the time that passes
     capacity: what a state in % is a share of
     bounds:   what a reading may be
+    time_out: the device's own time-out, None if it has none
     entities: what Home Assistant shows of the agent, None if it shows nothing
     """
 
@@ -120,6 +147,7 @@ class AgentSettings:
     capacity: float
     entities: Entities | None = None
     bounds: StateBounds = StateBounds()
+    time_out: TimeOut | None = None
 
     def link(self) -> Link:
         """What joins the agent to its market."""
@@ -152,7 +180,7 @@ def agent_settings_of(tables: Mapping[str, Mapping[str, Any]], folder: Path = Pa
     for name in NEEDED:
         if name not in tables:
             needed = ", ".join(f"[{table}]" for table in NEEDED)
-            raise BadSettings(f"the table [{name}] is missing: a file has {needed}, and may have [agent], [state] and [homeassistant]")
+            raise BadSettings(f"the table [{name}] is missing: a file has {needed}, and may have [agent], [state], [time_out] and [homeassistant]")
     limits = value_of(Limits, tables["limits"], "limits")
     is_stated = "kind" in tables["device"]
     device, member = (_stated_of(tables, limits), "state") if is_stated else _device_of(dict(tables["device"]), folder)
@@ -176,7 +204,18 @@ def agent_settings_of(tables: Mapping[str, Mapping[str, Any]], folder: Path = Pa
         float(getattr(device, "capacity", 1.0)),
         _entities_of(tables["homeassistant"], market, device) if "homeassistant" in tables else None,
         bounds,
+        _time_out_of(dict(tables["time_out"]), limits) if "time_out" in tables else None,
     )
+
+
+def _time_out_of(table: dict[str, Any], limits: Limits) -> TimeOut:
+    """The device's own time-out. Raises BadSettings."""
+    seconds = table.pop("seconds", None)
+    if type(seconds) not in (int, float):
+        raise BadSettings(f"time_out.seconds is {seconds!r}: give the seconds after which the device takes its fallback by itself")
+    found = TimeOut(_place_of(table, "time_out"), float(seconds))
+    found.require(limits)
+    return found
 
 
 def _units_of(table: Mapping[str, Any], device: Any) -> tuple[str, ...]:

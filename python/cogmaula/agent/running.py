@@ -7,6 +7,7 @@ import queue
 import re
 import threading
 import time
+from collections.abc import Callable
 from dataclasses import dataclass
 from datetime import datetime
 
@@ -41,12 +42,17 @@ class TakesPart:
 class Agent:
     """An agent, from its start to its end. `run` does the work, and `stop` ends it from anywhere."""
 
-    def __init__(self, settings: AgentSettings, log: NodeLog | None = None) -> None:
-        """Takes the settings, and a log, by default that of this module. Raises NoPackage, and OSError if a password cannot be read."""
+    def __init__(self, settings: AgentSettings, log: NodeLog | None = None, turns: Callable[[], None] = lambda: None) -> None:
+        """Takes the settings, and a log, by default that of this module. Raises NoPackage, and OSError if a password cannot be read.
+
+        turns: is called each time that the agent's loop turns
+        """
+        self._turns = turns
         self._settings = settings
         self._log = log or NodeLog(logging.getLogger(__name__))
         self._source: Access | None = None if settings.state is None else settings.access(settings.state)
         self._sink: Access = settings.access(settings.setpoint)
+        self._time_out: Access | None = None if settings.time_out is None else settings.access(settings.time_out.place)
         self._link = settings.link()
         self._begun = clock.now()
         self._guard = Guard(settings.limits, self._log, self._begun)
@@ -82,6 +88,7 @@ class Agent:
         look = min(max(self._settings.times.every / 10, LEAST_LOOK), MOST_LOOK)
         try:
             while not self._is_over.is_set():
+                self._turns()
                 self._take_words(look)
                 self._decide(clock.now())
                 self._write(clock.now())
@@ -91,7 +98,7 @@ class Agent:
             self._is_over.set()
             self._end()
             reads.join(MOST_LOOK)
-            for access in (self._source, self._sink):
+            for access in (self._source, self._sink, self._time_out):
                 if access is not None:
                     access.close()
 
@@ -270,7 +277,11 @@ class Agent:
         power = self._guard.due(now)
         if power is None or now - self._tried < AGAIN and not self._is_over.is_set():
             return
+        time_out = self._settings.time_out
         try:
+            if time_out is not None and self._time_out is not None:
+                # The device may have forgotten it, so it comes before each power.
+                self._time_out.write(time_out.number)
             self._sink.write(self._settings.setpoint.to_write(power))
         except NotWritten as error:
             self._tried = now

@@ -3,6 +3,7 @@
 from __future__ import annotations
 
 import argparse
+import os
 import signal
 import sys
 
@@ -19,20 +20,25 @@ MORE = (
 
 def add_arguments(parser: argparse.ArgumentParser) -> None:
     """Adds the arguments of agent."""
-    parser.add_argument("file", metavar="SETTINGS", help="a TOML file with the tables [agent], [market], [device], [limits], [state], [setpoint] and [homeassistant]")
+    parser.add_argument("file", metavar="SETTINGS", help="a TOML file with the tables [agent], [market], [device], [limits], [state], [setpoint], [time_out] and [homeassistant]")
 
 
 def main(arguments: argparse.Namespace) -> int:
     """Runs the agent until a signal ends it."""
     from ..agent import Agent, read_agent_toml
+    from ..live.notifying import Notifier
 
     logs.show("cogmaula agent")
+    notifier = Notifier(os.environ)
     try:
-        agent = Agent(read_agent_toml(arguments.file))
+        agent = Agent(read_agent_toml(arguments.file), turns=notifier.turns)
     except BadSettings as error:
         print(f"cogmaula: {error}", file=sys.stderr)
         return cli.MISUSED
     for number in (signal.SIGTERM, signal.SIGINT):
         signal.signal(number, lambda *_: agent.stop())
-    agent.run()
+    try:
+        agent.run()
+    finally:
+        notifier.stops()
     return 0

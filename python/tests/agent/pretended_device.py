@@ -61,21 +61,22 @@ class PretendedDevice:
 class PretendedAgent:
     """An agent at work in a thread of the test. What it did is in `events`, and what it said in `said`."""
 
-    def __init__(self, monkeypatch, state=500.0, device=BATTERY, times=(), folder=Path(), **limits):
+    def __init__(self, monkeypatch, state=500.0, device=BATTERY, times=(), folder=Path(), tables=None, turns=lambda: None, **limits):
         self.events, self.said = [], []
         self.market, self.device = PretendedMarket(self.events), PretendedDevice(self.events, state)
         monkeypatch.setattr(AgentSettings, "link", lambda _: self.market)
         monkeypatch.setattr(AgentSettings, "access", lambda _settings, _place: self.device)
         file = {"by": "csv", "file": "none"}
-        tables = {
+        told = {
             "agent": {"every": 0.02, "stale": 0.2, **dict(times)},
             "market": {"hub": "127.0.0.1:1", "agent": "a", "token_file": "none"},
             "device": device,
             "limits": {"least": -2000, "greatest": 2000, "pace": 0, "silence": 30, **limits},
             "state": {**file, "unit": "Wh"},
             "setpoint": file,
+            **(tables or {}),
         }
-        self.agent = Agent(agent_settings_of(tables, folder), log_to(self.said.append))
+        self.agent = Agent(agent_settings_of(told, folder), log_to(self.said.append), turns)
         self.thread = threading.Thread(target=self.agent.run)
 
     def __enter__(self):

@@ -11,6 +11,7 @@ from pretended_device import PretendedAgent
 from cogmaula.agent import running
 from cogmaula.agent.links import Setpoint
 from cogmaula.live.frames import Offer, Points
+from cogmaula.live.node_errors import BadSettings
 
 LEFT = ("offer", None)
 RISING = """
@@ -112,3 +113,27 @@ def test_an_offer_is_said_again_so_that_the_market_sees_that_the_agent_lives(mon
         one.offers()
         wait_until(lambda: one.events.count(("repeat", None)) >= 2, f"it is said again: {one.events}")
         assert len([told for kind, told in one.events if kind == "offer"]) == 1
+
+
+def test_a_device_s_own_time_out_is_written_before_each_power(monkeypatch):
+    """In milliseconds. So the device falls back by itself if its agent, or the agent's machine, stands still."""
+    more = {"time_out": {"by": "csv", "file": "none", "scale": 0.001, "seconds": 25}}
+    with PretendedAgent(monkeypatch, tables=more, renew=10) as one:
+        one.offers().told(1500)
+    written = [number for kind, number in one.events if kind == "write"]
+    assert written == [25_000, 1500, 25_000, 0]
+
+
+@pytest.mark.parametrize("seconds", [19.9, 30.1, "soon"])
+def test_a_time_out_is_longer_than_the_renewal_and_no_longer_than_silence(monkeypatch, seconds):
+    more = {"time_out": {"by": "csv", "file": "none", "seconds": seconds}}
+    with pytest.raises(BadSettings, match="time_out.seconds is"):
+        PretendedAgent(monkeypatch, tables=more, renew=10)
+
+
+def test_the_agent_tells_that_its_loop_turns(monkeypatch):
+    turns = []
+    with PretendedAgent(monkeypatch, turns=lambda: turns.append(True)) as one:
+        one.offers()
+        before = len(turns)
+        wait_until(lambda: len(turns) > before + 3, "the loop turns")
