@@ -13,9 +13,10 @@ from ..progress import Progress
 from .demands import BidMaker
 from .device import Device
 from .fleet import Fleet
+from .given_devices import Load, Solar
 from .markets import Group, Market
 from .outcome import BidsNotKept, Simulation
-from .profiles import fault_in
+from .profiles import fault_in, kilowatts_in
 
 __all__ = ["BidsNotKept", "Simulation", "simulate"]
 
@@ -72,4 +73,6 @@ def _require_numbers(device: Device | Fleet, begin: datetime, end: datetime) -> 
     """Raises ValueError, before anything is simulated, if a table that a device is given has no number at some time."""
     for word, profile in vars(device).items() if hasattr(device, "__dict__") else ():
         if (fault := fault_in(profile, begin, end)) is not None:
-            raise ValueError(f"{getattr(device, 'name', 'a fleet')}: its {word} has {fault}: fill the gap, or begin elsewhere")
+            raise ValueError(f"{getattr(device, 'name', 'a fleet')}: its {word} has {fault}: mend the table, or begin elsewhere")
+    if isinstance(device, Load | Solar) and (fault := kilowatts_in(device.power)) is not None:
+        raise ValueError(f"{device.name}: its power has {fault}")

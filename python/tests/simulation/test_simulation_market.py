@@ -129,7 +129,7 @@ def test_a_gap_in_a_table_is_told_before_anything_is_simulated(program):
     """With the device and the time; a table that goes on behind the simulation is not looked at there."""
     values = [1.0] * 30 + [float("nan")]
     house = Load(name="house", power=Held(START, 60, values))
-    with pytest.raises(ValueError, match=r"^house: its power has nan at 2026-06-02T06:00:00: fill the gap"):
+    with pytest.raises(ValueError, match=r"^house: its power has nan at 2026-06-02T06:00:00: mend the table"):
         simulate([house], TEN, ticks=124, start=START, program=program)
     assert house._now is None
     assert len(simulate([house], TEN, ticks=120, start=START, program=program)) == 120

@@ -187,3 +187,45 @@ def test_a_vehicle_and_a_heat_pump_have_kinds_of_their_own_on_the_page(program, 
     pump = HeatPump(name="pump", power=1500, loss=150, constant=60, outdoor=3.0, low=19, high=22, prices=(2, 8), temperature=20.5)
     done = simulate([car, pump], TEN, ticks=4, start=START, program=program, live=live)
     assert [node.kind for node in done.run.cluster.nodes] == ["vehicle", "heat_pump"]
+
+
+# Profiles from series.
+
+
+def series_of(values, begin="2026-06-01", zone=None, step="15min"):
+    import pandas
+
+    return pandas.Series(values, index=pandas.date_range(begin, periods=len(values), freq=step, tz=zone), dtype=float)
+
+
+def test_a_series_is_a_profile_by_its_index(program):
+    """Of another zone too: midnight in Berlin is 22:00 of the day before in UTC. Behind its end the last value holds."""
+    loads = series_of([100, 200, 300], begin="2026-05-31 22:00", zone="UTC")
+    done = simulate([Load(name="house", power=loads)], TEN, ticks=4, start=datetime(2026, 6, 1, tzinfo=BERLIN), program=program)
+    assert done.powers["house"].tolist() == [100, 200, 300, 300]
+    weather = series_of([0.0, 30.0], step="60min")
+    pump = HeatPump(name="pump", power=1500, loss=150, constant=60, outdoor=weather, low=1, high=2, prices=(2, 8), temperature=20)
+    done = simulate([pump], TEN, ticks=2, minutes=60, start=START, program=program)
+    assert done.states["pump"].tolist() == pytest.approx([20, 20 * numpy.exp(-1 / 60)])
+
+
+@pytest.mark.parametrize(
+    ("series", "told"),
+    [
+        (series_of([1000, float("nan"), 1000]), "^house: its power has nan at 2026-06-01T00:15:00: mend the table"),
+        (series_of([1000, 1000, 1000]).drop(series_of([0, 0, 0]).index[1]), None),
+        (series_of([1000, 1000, 1000, 1000]).drop(series_of([0] * 4).index[2]), "^house: its power has a gap at 2026-06-01T00:15:00: the next row is of 2026-06-01T00:45:00"),
+        (series_of([1000, 1000, 1000]).iloc[[0, 1, 1, 2]], "^house: its power has 2026-06-01T00:15:00 twice"),
+        (series_of([1000, 1000], zone="Europe/Berlin"), "^house: its power has 2026-06-01T00:00:00\\+02:00 has a zone and 2026-06-01T00:00:00 has none"),
+        (series_of([0.344, 2.1]), "^house: its power has 0.344 at 2026-06-01T00:00:00: are these kilowatts"),
+        (series_of([1.0, 2.0]).reset_index(drop=True), "^house: its power has a series without rows, or whose index has no times"),
+    ],
+)
+def test_a_bad_series_is_told_with_device_and_time_before_anything_is_simulated(program, series, told):
+    house = Load(name="house", power=series)
+    if told is None:
+        assert len(simulate([house], TEN, ticks=3, start=START, program=program)) == 3
+        return
+    with pytest.raises(ValueError, match=told) as found:
+        simulate([house], TEN, ticks=3, start=START, program=program)
+    assert "\n" not in str(found.value) and house._now is None
