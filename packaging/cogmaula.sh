@@ -15,6 +15,7 @@ if ! command -v python3 >/dev/null; then
     exit 1
 fi
 export PYTHONPATH="$root@datadir@/market/python${PYTHONPATH:+:$PYTHONPATH}" COGMAULA_MARKET="${COGMAULA_MARKET:-$folder/market}"
+export COGMAULA_COMMIT="@commit@"
 export COGMAULA_LIVE="${COGMAULA_LIVE:-$root@libexecdir@/market/live}"
 # Nothing is written beside what is installed.
 exec python3 -B -m cogmaula "$@"

@@ -11,14 +11,14 @@ import pkgutil
 import sys
 from collections.abc import Iterator, Sequence
 from datetime import datetime
-from typing import Protocol, cast
+from typing import Any, Protocol, cast
 
 from . import commands
 from .data.faults import RecipeFault, TableFault
 from .errors import Invalid, MarketError, Refused, TooLong, Unreadable
 from .moments import read_moment
 from .program import VARIABLE, Program
-from .version import __version__
+from .version import build
 
 # The exit status of a command that could not do its work; of one that was called wrongly, by its words, its recipe or its tables; of
 # one whose file is refused, too long, invalid or no cluster file; and of one that the user ended.
@@ -79,6 +79,19 @@ def source_of(name: str) -> str | bytes:
     return sys.stdin.buffer.read() if name == "-" else name
 
 
+class _Version(argparse.Action):
+    """Prints the version, of which the commit is asked for only then."""
+
+    def __init__(self, option_strings: Sequence[str], dest: str, **more: Any) -> None:
+        """Takes no argument."""
+        super().__init__(option_strings, dest, nargs=0, **more)
+
+    def __call__(self, parser: argparse.ArgumentParser, *_: object) -> None:
+        """Ends with status 0."""
+        print(f"cogmaula {build()}")
+        parser.exit()
+
+
 def make_parser(only: str | None = None) -> argparse.ArgumentParser:
     """The parser of all commands, or of one alone, since to load all of them takes longer than to do what one does."""
     parser = argparse.ArgumentParser(
@@ -86,7 +99,7 @@ def make_parser(only: str | None = None) -> argparse.ArgumentParser:
         description="From measured data to a decision, around the proved electronic market.",
         epilog="cogmaula COMMAND --help says more of a command.",
     )
-    parser.add_argument("--version", action="version", version=f"cogmaula {__version__}")
+    parser.add_argument("--version", action=_Version, help="prints the version and the commit, and ends")
     below = parser.add_subparsers(dest="command", metavar="COMMAND", required=True)
     for name, module in command_names().items():
         if only not in (None, name):

@@ -15,7 +15,7 @@ import pytest
 from conftest import EXAMPLES, TOP
 
 import cogmaula
-from cogmaula import Cluster, Events, Join, run
+from cogmaula import Cluster, Events, Join, run, version
 from cogmaula.cli import command_names, command_of, main
 from cogmaula.progress import Progress, tracked
 
@@ -139,8 +139,20 @@ def test_the_version_is_that_of_the_market(capsys):
         main(["--version"])
     assert ended.value.code == 0
     due = (TOP / "VERSION").read_text().strip()
-    assert capsys.readouterr().out == f"cogmaula {due}\n"
+    told = capsys.readouterr().out
+    assert re.fullmatch(rf"cogmaula {re.escape(due)} \(([0-9a-f]{{7,40}}(-modified)?|no commit known)\)\n", told), told
     assert cogmaula.__version__ == due
+
+
+@pytest.mark.parametrize(
+    ("given", "due"), [("1a2b3c4", "1a2b3c4"), ("1a2b3c4-modified", "1a2b3c4-modified"), ("unknown", None), ("x y", None)]
+)
+def test_an_install_says_its_commit_by_its_command(monkeypatch, given, due):
+    monkeypatch.setenv("COGMAULA_COMMIT", given)
+    monkeypatch.setattr(version, "__file__", "/nowhere/python/cogmaula/version.py")
+    version.commit.cache_clear()
+    assert version.build() == f"{version.__version__} ({due or 'no commit known'})"
+    version.commit.cache_clear()
 
 
 def test_a_command_that_the_user_ends(monkeypatch, capsys):

@@ -129,6 +129,7 @@ class StateMessage:
     version: of the form of what the node writes
     lost:    whether the broker told it by the last will: only the connection was lost, and the process may live
     site:    the site in whose process the node runs, whose `run` is the node's; None of a process of its own
+    build:   the version and the commit of the node's program, "" of an earlier one
     """
 
     state: Literal["up", "down"]
@@ -148,6 +149,7 @@ class StateMessage:
     version: int = VERSION
     lost: bool = False
     site: str | None = None
+    build: str = ""
 
     @property
     def may_live(self) -> bool:
@@ -179,7 +181,8 @@ class StateMessage:
         silent = None if told.get("silent") is None else _text(told, "silent", what)
         starts = _whole(told, "starts", what) if "starts" in told else 0
         site = None if told.get("site") is None else _text(told, "site", what)
-        more = (sort, parent, child, floor, ceiling, alarm, silent, starts, version_of(told), told.get("lost") is True, site)
+        build = _text(told, "build", what) if "build" in told else ""
+        more = (sort, parent, child, floor, ceiling, alarm, silent, starts, version_of(told), told.get("lost") is True, site, build)
         return StateMessage(told["state"], run, started, session, time, why, *more)
 
 

@@ -6,6 +6,7 @@ from collections.abc import Iterable, Iterator, Sequence
 from typing import Any
 
 from ..errors import NoPackage
+from ..version import __version__, commit
 from .counting import NodeFacts
 from .node_errors import BadMessage
 from .sessions import time_of
@@ -40,6 +41,7 @@ OF_MARKET: dict[str, tuple[str, tuple[str, ...], str]] = {
     "market_clearing": ("gauge", (), "The index of the clearing of that price"),
 }
 OF_PAGE: dict[str, tuple[str, tuple[str, ...], str]] = {
+    "market_build_info": ("gauge", ("version", "commit"), "1, with the version and the commit of the program"),
     "market_page_connected": ("gauge", (), "Whether the page hears the market"),
     "market_messages_not_taken": ("gauge", (), "How many messages are not what their topics hold"),
 }
@@ -66,6 +68,7 @@ def metrics_bytes(view: MarketView | None, is_connected: bool, facts: Sequence[N
     """
     package = prometheus_package()
     samples: list[Sample] = [("market_page_connected", (), float(is_connected))]
+    samples.append(("market_build_info", (__version__, commit()), 1.0))
     for facts_of_node in facts:
         samples += _of_facts(facts_of_node)
     if view is not None:
@@ -94,7 +97,7 @@ class _Collector:
         """The metrics that have samples."""
         for name, found in self._samples.items():
             kind, more, what = ALL[name]
-            labels = [] if name in OF_PAGE else ["node", *more]
+            labels = [*more] if name in OF_PAGE else ["node", *more]
             core = self._package.core
             family = (core.CounterMetricFamily if kind == "counter" else core.GaugeMetricFamily)(name, what, labels=labels)
             for values, number in found:

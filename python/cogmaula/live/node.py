@@ -14,6 +14,7 @@ from collections.abc import Callable
 from typing import Literal
 
 from .. import clock
+from ..version import build
 from ..logs import NodeLog
 from .beginning import Beginning, resume_of
 from .broker import Broker
@@ -285,7 +286,9 @@ class Node:
         limits = (floor if floor > -MOST else None, ceiling if ceiling < MOST else None)
         life = (self.serving.alarm, self.serving.silent_since(clock.now()))
         more = (settings.sort, settings.parent, settings.child, *limits, *life)
-        message = StateMessage(state, self._run_id, self._started, session, now_text(), why, *more, starts=self._starts, lost=lost, site=self._site)
+        message = StateMessage(
+            state, self._run_id, self._started, session, now_text(), why, *more, starts=self._starts, lost=lost, site=self._site, build=build()
+        )
         return Publication(settings.own_topic("state"), message.to_bytes())
 
     def _marker(self) -> Publication:

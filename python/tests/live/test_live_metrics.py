@@ -23,6 +23,8 @@ from cogmaula.live.counting import OF_BIDS, OF_PRICES, Counts, NodeFacts
 from cogmaula.live.frames import Dropped, NotCaughtUp, NotChanged, OutOfLimits, TooMuch, WindowFull
 from cogmaula.live.metrics import ALL
 from cogmaula.live.notifying import Notifier
+from cogmaula.live.messages import StateMessage
+from cogmaula.version import __version__, commit
 
 RULES, DASHBOARD = TOP / "packaging" / "prometheus" / "market.rules.yml", TOP / "packaging" / "prometheus" / "market.dashboard.json"
 COUNTERS = {name for name, (kind, _, _) in ALL.items() if kind == "counter"}
@@ -55,6 +57,11 @@ def test_each_frame_counts_once(frame, due):
     assert {word: number for word, number in getattr(counts, kind).items() if number} == {outcome: 1}
     assert sum([*counts.bids.values(), *counts.prices.values(), counts.clearings]) == 1
     assert counts.waiting == (4 if outcome == "not_caught_up" else 0)
+
+
+def test_a_state_has_the_build(joined):
+    told = StateMessage.of(joined("relay").begun().node._state("up", "").payload)
+    assert told.build == f"{__version__} ({commit()})"
 
 
 def test_a_relay_counts_what_it_does(joined):
@@ -96,6 +103,7 @@ def test_a_scrape_has_the_market_and_the_process():
         'market_ceiling_watts{node="street"}': 50, 'market_floor_watts{node="street"}': -4000, 'market_node_up{node="street",parent="auctioneer",sort="relay"}': 1,
     }
     assert {series: found[series] for series in due} == due
+    assert found[f'market_build_info{{commit="{commit()}",version="{__version__}"}}'] == 1
     names = {series.partition("{")[0] for series in found}
     assert names == SAMPLES, "each metric is in a scrape, and no other"
 
