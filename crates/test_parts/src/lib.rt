@@ -1,5 +1,5 @@
 //! The parts of a node, driven call by call: sources and sinks; links, caches, windows and sums of bids; the parents, the relay,
-//! the control of a device; and the server of a stream of bids.
+//! the control of a device; the guard; and the server of a stream of bids.
 //!
 //! A crate of tests alone: the crates that it tests are proved without them.
 #![tactic(auto)]
@@ -16,6 +16,8 @@ mod cells;
 mod concentrator;
 #[cfg(test)]
 mod control;
+#[cfg(test)]
+mod guard;
 #[cfg(test)]
 mod io;
 #[cfg(test)]

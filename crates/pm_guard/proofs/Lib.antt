@@ -1,0 +1,9 @@
+mod Ends
+mod Nodes
+mod Pairs
+mod Kept
+mod Further
+mod Relays
+mod Choices
+mod AtOnce
+mod Silent
