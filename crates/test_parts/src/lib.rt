@@ -1,5 +1,5 @@
 //! The parts of a node, driven call by call: sources and sinks; links, caches, windows and sums of bids; the parents, the relay,
-//! the control of a device; the guard; and the server of a stream of bids.
+//! the control of a device; the guard and the lease; and the server of a stream of bids.
 //!
 //! A crate of tests alone: the crates that it tests are proved without them.
 #![tactic(auto)]
@@ -32,6 +32,8 @@ mod scarce;
 mod session;
 #[cfg(test)]
 mod shared;
+#[cfg(test)]
+mod silence;
 #[cfg(test)]
 mod watched;
 #[cfg(test)]

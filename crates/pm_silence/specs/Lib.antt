@@ -1,0 +1,11 @@
+pub mod Holding
+pub mod Placing
+pub mod Clocks
+pub mod Leases
+pub mod Timely
+pub mod Worked
+pub mod Market
+pub mod Beating
+pub mod ChildPlaces
+pub mod Path
+pub mod Silencing
