@@ -1,0 +1,2 @@
+pub mod Takeovers
+pub mod Blind
