@@ -23,7 +23,7 @@ use Rattle.std.proofs.Common.{
   arith,
 }
 use Rattle.std.proofs.lemmas.Bool.{cases_eq}
-use Rattle.pm_takeover.specs.Takeovers.{SharedRow, Machine, Node, Changes, IsNew, In, NameOneBid}
+use Rattle.pm_takeover.specs.Takeovers.{SharedRow, Machine, SharedNode, Changes, IsNewSharedNode, In, NameOneBid}
 
 -- from the newest row to the first the numbers fall, and all are below this one
 abbrev pub Fall : ℕ → List SharedRow → Type 0
@@ -40,7 +40,7 @@ AllNamed stored [] = Unit {0}
 AllNamed stored (r ∷ rows) = Names r.number r.bid stored × AllNamed stored rows
 
 -- what holds at each moment, where these rows were stored
-pub record Sound (stored : List SharedRow) (node : Node) : Type 0 where
+pub record Sound (stored : List SharedRow) (node : SharedNode) : Type 0 where
   -- the numbers stored fall, and are at most that of the row
   pub fall : Fall (node.row.number + 1) stored
   pub row_in : Names node.row.number node.row.bid stored
@@ -56,7 +56,7 @@ pub record Sound (stored : List SharedRow) (node : Node) : Type 0 where
   pub handed_in : AllNamed stored node.handed
 
 -- a machine is the one that changed, or it is as it was
-pub which : (old new : Node) (at : ℕ) (machine : Machine) (row : SharedRow) (handed : List SharedRow) → Changes old new at machine row handed →
+pub which : (old new : SharedNode) (at : ℕ) (machine : Machine) (row : SharedRow) (handed : List SharedRow) → Changes old new at machine row handed →
     (k : ℕ) →
     ((k ≡ at) × (new.machine k ≡ machine)) ⊎ ((k ≡ at → ⊥) × (new.machine k ≡ old.machine k))
 which old new at machine row handed changes k = elim (cases_eq k at) [
@@ -98,14 +98,14 @@ named stored (r ∷ rows) all a (inl is) = subst (λ (x : SharedRow). Names x.nu
 named stored (r ∷ rows) all a (inr found) = named stored rows all.1 a found
 
 -- where a node is sound, its bids are one a number
-pub names_one : (stored : List SharedRow) (node : Node) → Sound stored node → NameOneBid node.handed
+pub names_one : (stored : List SharedRow) (node : SharedNode) → Sound stored node → NameOneBid node.handed
 names_one stored node sound a b in_a in_b same =
     let first = named stored node.handed sound.handed_in a in_a in
     let second = named stored node.handed sound.handed_in b in_b in
     one_name (node.row.number + 1) b.number a.bid b.bid stored sound.fall (subst (λ n. Names n a.bid stored) same first) second
 
 -- a node of which nothing runs is sound
-pub sound_first : (node : Node) → IsNew node → Sound (node.row ∷ []) node
+pub sound_first : (node : SharedNode) → IsNewSharedNode node → Sound (node.row ∷ []) node
 sound_first node new = record {
   fall = (omega arith, tt);
   row_in = inl (refl, refl);

@@ -25,7 +25,7 @@ use Rattle.std.proofs.Common.{
 use Rattle.pm_takeover.specs.Takeovers.{
   SharedRow,
   Machine,
-  Node,
+  SharedNode,
   TakeoverEvent,
   Reads,
   Starts,
@@ -39,12 +39,12 @@ use Rattle.pm_takeover.specs.Takeovers.{
   HandsOut,
   TakeoverHappens,
   TakeoversHappen,
-  IsNew,
+  IsNewSharedNode,
   TakeoversNameOneBid,
 }
 use Rattle.pm_takeover.proofs.Rows.{Fall, Names, AllNamed, Sound, which, fall_more, false_true, all_more, names_one, sound_first}
 
-module _ (old new : Node) (at : ℕ) (machine : Machine) (row : SharedRow) (handed : List SharedRow)
+module _ (old new : SharedNode) (at : ℕ) (machine : Machine) (row : SharedRow) (handed : List SharedRow)
     (changes : Changes old new at machine row handed) where
   -- a process of an other machine was there before
   was_running : (k : ℕ) → new.machine k ≡ old.machine k → (new.machine k).runs ≡ true → (old.machine k).runs ≡ true
@@ -112,7 +112,7 @@ module _ (old new : Node) (at : ℕ) (machine : Machine) (row : SharedRow) (hand
         handed_in = subst (AllNamed stored) (sym changes.handed_is) all;
       }
 
-store_sound : (old new : Node) (at bid : ℕ) (stored : List SharedRow) → Sound stored old → Puts true old new at bid →
+store_sound : (old new : SharedNode) (at bid : ℕ) (stored : List SharedRow) → Sound stored old → Puts true old new at bid →
     Sound (row_with_bid (old.machine at).own bid ∷ stored) new
 store_sound old new at bid stored sound puts =
     let newest : old.row.start ≡ (old.machine at).own.start = puts.newest in
@@ -123,7 +123,7 @@ store_sound old new at bid stored sound puts =
     (λ k other runs. let le = sound.behind k runs in
     (omega (arith, le, newest), λ e. other (sound.one k at runs puts.runs (e ∙ sym newest) (sym newest)), inr (sound.own_in k runs)))
 
-start_sound : (old new : Node) (at : ℕ) (stored : List SharedRow) → Sound stored old → PutsStart true old new at → Sound stored new
+start_sound : (old new : SharedNode) (at : ℕ) (stored : List SharedRow) → Sound stored old → PutsStart true old new at → Sound stored new
 start_sound old new at stored sound puts =
     let is : old.row ≡ (old.machine at).saw = puts.unchanged in
     let start : old.row.start ≡ (old.machine at).saw.start = ap (λ (r : SharedRow). r.start) is in
@@ -134,7 +134,7 @@ start_sound old new at stored sound puts =
     (omega (arith, le, start), λ e. omega (arith, le, start, e), sound.own_in k runs))
 
 -- an event keeps a node sound
-pub step_sound : (old new : Node) (event : TakeoverEvent) (stored : List SharedRow) → Sound stored old → TakeoverHappens true old event new →
+pub step_sound : (old new : SharedNode) (event : TakeoverEvent) (stored : List SharedRow) → Sound stored old → TakeoverHappens true old event new →
     (later : List SharedRow) × Sound later new
 step_sound old new (Reads m) stored sound did = (stored, stay_sound old new m _ _ _ did stored sound refl sound.handed_in (inr refl))
 step_sound old new (Starts m) stored sound (inl same) = (stored, subst (Sound stored) (sym same) sound)
@@ -148,7 +148,7 @@ step_sound old new (Hands m) stored sound did =
     (stored, stay_sound old new m _ _ _ did.changes stored sound refl (sound.own_in m did.runs, sound.handed_in) (inl refl))
 
 -- events keep a node sound
-pub run_sound : (first last : Node) (events : List TakeoverEvent) (stored : List SharedRow) → Sound stored first →
+pub run_sound : (first last : SharedNode) (events : List TakeoverEvent) (stored : List SharedRow) → Sound stored first →
     TakeoversHappen true first events last →
     (later : List SharedRow) × Sound later last
 run_sound first last [] stored sound happen = (stored, subst (Sound stored) happen sound)

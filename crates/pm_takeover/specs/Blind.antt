@@ -1,6 +1,6 @@
 -- Runs over a row that takes whatever comes, as a retained message does; and one over a row that tests.
 use Rattle.std.specs.Prelude.{◌≡◌, ℕ, zero, suc, Bool, true, false, List, [], ◌∷◌}
-use Rattle.pm_takeover.specs.Takeovers.{SharedRow, Machine, Node, TakeoverEvent, Reads, Starts, Stores, Hands, TakeoversHappen, IsNew}
+use Rattle.pm_takeover.specs.Takeovers.{SharedRow, Machine, SharedNode, TakeoverEvent, Reads, Starts, Stores, Hands, TakeoversHappen, IsNewSharedNode}
 
 abbrev pub row : ℕ → ℕ → ℕ → SharedRow
 row start' number' bid' = record { start = start'; number = number'; bid = bid' }
@@ -14,13 +14,13 @@ two a b zero = a
 two a b (suc zero) = b
 two a b (suc (suc k)) = idle
 
-abbrev pub no_start : Node
+abbrev pub no_start : SharedNode
 no_start = record { row = row 0 0 0; machine = two idle idle; handed = [] }
 
 -- a run to these bids, the newest first
 pub record LeadsTo (tests : Bool) (events : List TakeoverEvent) (handed : List SharedRow) : Type 0 where
-  pub last : Node
-  pub is_new : IsNew no_start
+  pub last : SharedNode
+  pub is_new : IsNewSharedNode no_start
   pub happen : TakeoversHappen tests no_start events last
   pub gives : last.handed ≡ handed
 

@@ -14,7 +14,7 @@ pub record Machine : Type 0 where
   pub own : SharedRow
 
 -- the row, the machines, and all bids that were handed out, the newest first
-pub record Node : Type 0 where
+pub record SharedNode : Type 0 where
   pub row : SharedRow
   pub machine : ℕ → Machine
   pub handed : List SharedRow
@@ -39,43 +39,43 @@ Tested true holds = holds
 Tested false holds = Unit {0}
 
 -- one machine changes, and with it the row and the bids that were handed out
-pub record Changes (old new : Node) (at : ℕ) (machine : Machine) (row : SharedRow) (handed : List SharedRow) : Type 0 where
+pub record Changes (old new : SharedNode) (at : ℕ) (machine : Machine) (row : SharedRow) (handed : List SharedRow) : Type 0 where
   pub it : new.machine at ≡ machine
   pub others : (k : ℕ) → (k ≡ at → ⊥) → new.machine k ≡ old.machine k
   pub row_is : new.row ≡ row
   pub handed_is : new.handed ≡ handed
 
 -- the row is as the machine read it, if the row tests that; with it the row has one start more
-pub record PutsStart (tests : Bool) (old new : Node) (at : ℕ) : Type 0 where
+pub record PutsStart (tests : Bool) (old new : SharedNode) (at : ℕ) : Type 0 where
   pub unchanged : Tested tests (old.row ≡ (old.machine at).saw)
   pub changes : Changes old new at (record { saw = (old.machine at).saw; runs = true; own = row_with_start (old.machine at).saw })
       (row_with_start (old.machine at).saw) old.handed
 
 -- the process of a machine runs, and its start is the newest in the row, if the row tests that; with it the row has the next number
-pub record Puts (tests : Bool) (old new : Node) (at bid : ℕ) : Type 0 where
+pub record Puts (tests : Bool) (old new : SharedNode) (at bid : ℕ) : Type 0 where
   pub runs : (old.machine at).runs ≡ true
   pub newest : Tested tests (old.row.start ≡ (old.machine at).own.start)
   pub changes : Changes old new at (record { saw = (old.machine at).saw; runs = true; own = row_with_bid (old.machine at).own bid })
       (row_with_bid (old.machine at).own bid) old.handed
 
 -- nothing is tested where a bid is handed out
-pub record HandsOut (old new : Node) (at : ℕ) : Type 0 where
+pub record HandsOut (old new : SharedNode) (at : ℕ) : Type 0 where
   pub runs : (old.machine at).runs ≡ true
   pub changes : Changes old new at (old.machine at) old.row ((old.machine at).own ∷ old.handed)
 
 -- a put that is refused changes nothing
-abbrev pub TakeoverHappens : Bool → Node → TakeoverEvent → Node → Type 0
+abbrev pub TakeoverHappens : Bool → SharedNode → TakeoverEvent → SharedNode → Type 0
 TakeoverHappens tests old (Reads m) new = Changes old new m (record { saw = old.row; runs = false; own = (old.machine m).own }) old.row old.handed
 TakeoverHappens tests old (Starts m) new = (new ≡ old) ⊎ PutsStart tests old new m
 TakeoverHappens tests old (Stores m bid) new = (new ≡ old) ⊎ Puts tests old new m bid
 TakeoverHappens tests old (Hands m) new = HandsOut old new m
 
-abbrev pub TakeoversHappen : Bool → Node → List TakeoverEvent → Node → Type 0
+abbrev pub TakeoversHappen : Bool → SharedNode → List TakeoverEvent → SharedNode → Type 0
 TakeoversHappen tests old [] new = old ≡ new
-TakeoversHappen tests old (event ∷ events) new = (mid : Node) × TakeoverHappens tests old event mid × TakeoversHappen tests mid events new
+TakeoversHappen tests old (event ∷ events) new = (mid : SharedNode) × TakeoverHappens tests old event mid × TakeoversHappen tests mid events new
 
 -- no process runs, and nothing was handed out
-pub record IsNew (node : Node) : Type 0 where
+pub record IsNewSharedNode (node : SharedNode) : Type 0 where
   pub runs : (m : ℕ) → (node.machine m).runs ≡ false
   pub handed : node.handed ≡ []
 
@@ -89,14 +89,14 @@ abbrev pub NameOneBid : List SharedRow → Type 0
 NameOneBid rows = (a b : SharedRow) → In a rows → In b rows → a.number ≡ b.number → a.bid ≡ b.bid
 
 abbrev pub TakeoversNameOneBid : Type 0
-TakeoversNameOneBid = (first last : Node) (events : List TakeoverEvent) → IsNew first → TakeoversHappen true first events last →
+TakeoversNameOneBid = (first last : SharedNode) (events : List TakeoverEvent) → IsNewSharedNode first → TakeoversHappen true first events last →
     NameOneBid last.handed
 
 -- To who stores, a take-over is as a crash. The next start finds what the row has, which is what the last process stored; from then on each
 -- put of that process is refused; and counts never fall.
 pub record TakeoversAreFenced : Type 0 where
-  pub finds : (old new : Node) (m : ℕ) → TakeoverHappens true old (Starts m) new →
+  pub finds : (old new : SharedNode) (m : ℕ) → TakeoverHappens true old (Starts m) new →
       (new ≡ old) ⊎ (((new.machine m).own ≡ row_with_start old.row) × (new.row ≡ row_with_start old.row))
-  pub refused : (old new : Node) (m bid : ℕ) → (old.machine m).own.start < old.row.start → TakeoverHappens true old (Stores m bid) new →
+  pub refused : (old new : SharedNode) (m bid : ℕ) → (old.machine m).own.start < old.row.start → TakeoverHappens true old (Stores m bid) new →
       new ≡ old
-  pub counts : (old new : Node) (event : TakeoverEvent) → TakeoverHappens true old event new → old.row.start ≤ new.row.start
+  pub counts : (old new : SharedNode) (event : TakeoverEvent) → TakeoverHappens true old event new → old.row.start ≤ new.row.start

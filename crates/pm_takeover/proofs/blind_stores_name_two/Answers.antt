@@ -3,7 +3,7 @@ use Rattle.std.proofs.Common.{◌≡◌, ◌⊎◌, inl, inr, ℕ, zero, suc, Bo
 use Rattle.pm_takeover.specs.Takeovers.{
   SharedRow,
   Machine,
-  Node,
+  SharedNode,
   TakeoverEvent,
   Reads,
   Starts,
@@ -14,7 +14,7 @@ use Rattle.pm_takeover.specs.Takeovers.{
   PutsStart,
   HandsOut,
   TakeoversHappen,
-  IsNew,
+  IsNewSharedNode,
 }
 use Rattle.pm_takeover.specs.Blind.{row, idle, two, no_start, LeadsTo, both_read, goes_on, is_overwritten, is_tested, BlindStoresNameTwo}
 use Rattle.pm_takeover.proofs.blind_stores_name_two.Goals as goal
@@ -25,10 +25,10 @@ r = row
 abbrev m : SharedRow → Bool → SharedRow → Machine
 m saw' runs' own' = record { saw = saw'; runs = runs'; own = own' }
 
-abbrev st : SharedRow → Machine → Machine → List SharedRow → Node
+abbrev st : SharedRow → Machine → Machine → List SharedRow → SharedNode
 st row' a b handed' = record { row = row'; machine = two a b; handed = handed' }
 
-new : IsNew no_start
+new : IsNewSharedNode no_start
 new = record { runs = idle_two; handed = refl }
   where
     idle_two : (k : ℕ) → (two idle idle k).runs ≡ false
