@@ -15,9 +15,10 @@ sys.path[:0] = [str(HERE), str(HERE.parents[1])]
 import interleaving
 import layers
 import network
+import rounds
 import tree
 
-DIAGRAMS = {"tree": tree, "layers": layers, "interleaving": interleaving, "network": network}
+DIAGRAMS = {"tree": tree, "layers": layers, "interleaving": interleaving, "network": network, "rounds": rounds}
 
 
 def main() -> int:

@@ -27,6 +27,7 @@ use Rattle.pm_net.specs.Agrees.{NetworkAgrees, GoesOn}
 use Rattle.pm_net.specs.Settled.{made_number}
 use Rattle.pm_rounds.specs.Rounds.{IsCarried, IsRound}
 use Rattle.pm_rounds.specs.Sent.{AllSent}
+use Rattle.pm_rounds.specs.Bounds.{HaveRoom}
 use Rattle.pm_net.proofs.Messages.{either, each_sent, past}
 use Rattle.pm_net.proofs.Runs.{event_goes_on}
 use Rattle.pm_net.proofs.Steps.{hears_each}
@@ -35,8 +36,8 @@ use Rattle.pm_net.proofs.Unstuck.{takes_newer}
 use Rattle.pm_rounds.proofs.Sent.{sent_step, carried_on}
 use Rattle.pm_rounds.proofs.Counting.{Rises, has_record, step_up, step_keeps_prices}
 use Rattle.pm_rounds.proofs.Rising.{Stage, All_inner, fits_all, has_all, stage_step, stage_after}
-use Rattle.pm_rounds.proofs.Rising.{last_level}
-use Rattle.pm_rounds.proofs.Arriving.{without_news, after_up}
+use Rattle.pm_rounds.proofs.Rising.{last_level, Level, fits_level, clear_round}
+use Rattle.pm_rounds.proofs.Arriving.{NoNews, without_news, after_up}
 
 -- ---- what is sent down
 
@@ -178,11 +179,11 @@ module _ (lists : Lists) (law : Lawful lists) (one : phases lists ≡ 1) (p : Pr
 
   -- ---- levels
 
-  -- all bids are held, each record is had, and the nodes down to level m took each price
+  -- all bids are held, each relay has its record, and the nodes down to level m took each price
   pub record Falls (m : ℕ) (net : Network) : Type 0 where
     -- all bids are there
     pub up : AllUp net
-    pub whole : (y : ℕ) → IsInner lists y → y ≤ nodes lists → 1 ≤ has_record net y
+    pub whole : (c : ℕ) → IsConcentrator lists c → 1 ≤ has_record net c
     -- each price to the levels above is taken
     pub down : (x : ℕ) → IsNode lists x → path_depth lists (parent lists x) < m → TookAll net x
 
@@ -209,7 +210,7 @@ module _ (lists : Lists) (law : Lawful lists) (one : phases lists ≡ 1) (p : Pr
       let rises : Rises net (network_step lists p net e) = step_up lists p net e carried in
       record {
         up = up_step net s agrees falls.up e carried;
-        whole = λ y inner le. omega (arith, falls.whole y inner le, rises.whole y);
+        whole = λ c conc. omega (arith, falls.whole c conc, rises.whole c);
         down = λ x node lt k inside.
             let at = no_newer_step net s agrees sent falls.up x node (still_above m net falls x node (omega (arith, lt))) e carried k inside in
             omega (arith, at.2, falls.down x node lt at.0 at.1, rises.taken x);
@@ -244,7 +245,7 @@ module _ (lists : Lists) (law : Lawful lists) (one : phases lists ≡ 1) (p : Pr
                   ))
                   | inr w ↦ absurd (omega (
                     arith,
-                    falls.whole x inner node.1,
+                    falls.whole x (node.0, node.1, inner),
                     cond-false {A = ℕ} (leb (net.whole_from x) (net.last_number x)) 1 0 w,
                   ))
                 ]
@@ -322,57 +323,67 @@ module _ (lists : Lists) (law : Lawful lists) (one : phases lists ≡ 1) (p : Pr
             );
       }
 
-  -- ---- each record is had again
+  -- ---- each relay has its record again, in the round in which the auctioneer clears
 
-  looks_now : (net : Network) → AllUp net → (y : ℕ) → IsInner lists y → y ≤ nodes lists →
-      1 ≤ has_record (network_step lists p net (Rebuilds y)) y
+  -- the bids of all devices and relays are held, and no relay has news
+  abbrev pub AtLastLevel : Network → Type 0
+  AtLastLevel net = Stage lists law one p by depth deep depth (Level lists law one p by depth deep depth) net
+
+  looks_now : (net : Network) (c : ℕ) → IsConcentrator lists c → NoNews lists net c → 1 ≤ has_record (network_step lists p net (Rebuilds c)) c
   unfolding can_rebuild
-  looks_now net up y inner le =
-      let after : Network = after_rebuilding net y in
-      elim (cases_Bool (leb (net.whole_from y) (net.last_number y))) [
+  looks_now net c conc none =
+      let after : Network = after_rebuilding net c in
+      elim (cases_Bool (leb (net.whole_from c) (net.last_number c))) [
         | inl w ↦ omega (
           arith,
-          cond-true {A = ℕ} (leb (net.whole_from y) (net.last_number y)) 1 0 w,
-          (step_up lists p net (Rebuilds y) (inner, le)).whole y,
+          cond-true {A = ℕ} (leb (net.whole_from c) (net.last_number c)) 1 0 w,
+          (step_up lists p net (Rebuilds c) (conc.2, conc.1)).whole c,
         )
         | inr w ↦
-            let lost : net.last_number y < net.whole_from y = elim (cases_lt (net.last_number y) (net.whole_from y)) [
+            let lost : net.last_number c < net.whole_from c = elim (cases_lt (net.last_number c) (net.whole_from c)) [
               | inl lt ↦ lt
-              | inr ge ↦ absurd (both_ways (leb (net.whole_from y) (net.last_number y)) w (le-leb (net.whole_from y) (net.last_number y) ge))
+              | inr ge ↦ absurd (both_ways (leb (net.whole_from c) (net.last_number c)) w (le-leb (net.whole_from c) (net.last_number c) ge))
             ] in
             omega (
               arith,
-              ap (λ (n : Network). has_record n y) (cond-true (can_rebuild lists net y) after net (and_from _ _
-                  (lt-ltb (net.last_number y) (net.whole_from y) lost) (not_from_false (has_news lists net y) (no_news net up y inner le)))),
-              cond-true {A = ℕ} (leb (after.whole_from y) (net.last_number y)) 1 0 (le-leb (after.whole_from y) (net.last_number y)
-                  (omega (arith, updated_same net.whole_from y (net.last_number y)))),
+              ap (λ (n : Network). has_record n c) (cond-true (can_rebuild lists net c) after net (and_from _ _
+                  (lt-ltb (net.last_number c) (net.whole_from c) lost) (not_from_false (has_news lists net c) (without_news lists net c none)))),
+              cond-true {A = ℕ} (leb (after.whole_from c) (net.last_number c)) 1 0 (le-leb (after.whole_from c) (net.last_number c)
+                  (omega (arith, updated_same net.whole_from c (net.last_number c)))),
             )
       ]
 
-  looks : (events : List Event) (net : Network) (s : State) → NetworkAgrees lists p net s → AllUp net → All (IsCarried lists) events → (y : ℕ) →
-      IsInner lists y → y ≤ nodes lists → (i : ℕ) → i < length events → get_or events i (Rebuilds y) ≡ Rebuilds y →
-      1 ≤ has_record (network_after lists p net events) y
-  looks [] net s agrees up all y inner le i lt is = absurd (omega (arith, lt))
-  looks (e ∷ es) net s agrees up all y inner le zero lt is =
+  last_step : (net : Network) (s : State) → NetworkAgrees lists p net s → AtLastLevel net → (e : Event) → IsCarried lists e →
+      AtLastLevel (network_step lists p net e)
+  last_step net s agrees stage e carried =
+      (stage_step lists law one p by depth deep depth (Level lists law one p by depth deep depth) (fits_level lists law one p by depth deep depth)
+      (λ c level. level) net s agrees stage e carried).stage
+
+  looks : (events : List Event) (net : Network) (s : State) → NetworkAgrees lists p net s → AtLastLevel net → All (IsCarried lists) events →
+      (c : ℕ) → IsConcentrator lists c → (i : ℕ) → i < length events → get_or events i (Rebuilds c) ≡ Rebuilds c →
+      1 ≤ has_record (network_after lists p net events) c
+  looks [] net s agrees stage all c conc i lt is = absurd (omega (arith, lt))
+  looks (e ∷ es) net s agrees stage all c conc zero lt is =
       let next : Network = network_step lists p net e in
       omega (
         arith,
-        subst (λ (f : Event). 1 ≤ has_record (network_step lists p net f) y) (sym is) (looks_now net up y inner le),
-        (after_up lists p es next (λ k o lt. all (suc k) o (omega (arith, lt)))).whole y,
+        subst (λ (f : Event). 1 ≤ has_record (network_step lists p net f) c) (sym is)
+            (looks_now net c conc (stage.quiet c (last_level lists law one p by depth deep c conc))),
+        (after_up lists p es next (λ k o lt. all (suc k) o (omega (arith, lt)))).whole c,
       )
-  looks (e ∷ es) net s agrees up all y inner le (suc i) lt is =
+  looks (e ∷ es) net s agrees stage all c conc (suc i) lt is =
       let next : Network = network_step lists p net e in
       let goes : GoesOn lists p s next = event_goes_on lists law one p by net s agrees e in
-      looks es next (after_from lists s goes.moves) goes.agrees (up_step net s agrees up e (all 0 e (omega arith)))
-      (λ k o lt. all (suc k) o (omega (arith, lt))) y inner le i (omega (arith, lt)) is
+      looks es next (after_from lists s goes.moves) goes.agrees (last_step net s agrees stage e (all 0 e (omega arith)))
+      (λ k o lt. all (suc k) o (omega (arith, lt))) c conc i (omega (arith, lt)) is
 
-  -- a round in which each node looks
-  pub look_round : (events : List Event) (net : Network) (s : State) → NetworkAgrees lists p net s → AllUp net → IsRound lists p net events →
-      Falls 0 (network_after lists p net events)
-  look_round events net s agrees up round = record {
-    up = up_after events net s agrees up round.carried;
-    whole = λ y inner le.
-        let at = round.looks y inner le in
-        looks events net s agrees up round.carried y inner le at.0 at.1 at.2;
+  -- a round in which the auctioneer clears and each relay looks
+  pub look_round : (events : List Event) (net : Network) (s : State) → NetworkAgrees lists p net s → AtLastLevel net →
+      IsRound lists p net events → HaveRoom lists p net events → Falls 0 (network_after lists p net events)
+  look_round events net s agrees stage round room = record {
+    up = clear_round lists law one p by depth deep events net s agrees stage round room;
+    whole = λ c conc.
+        let at = round.looks c conc.2 conc.1 in
+        looks events net s agrees stage round.carried c conc at.0 at.1 at.2;
     down = λ x node lt. absurd (omega (arith, lt));
   }

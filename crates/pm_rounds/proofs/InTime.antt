@@ -20,7 +20,7 @@ use Rattle.pm_rounds.specs.Sent.{AllSent}
 use Rattle.pm_rounds.specs.Bounds.{RoundsHaveRoom, rounds_of_depth}
 use Rattle.pm_rounds.proofs.Rounds.{after_round}
 use Rattle.pm_rounds.proofs.Rising.{Stage, Level}
-use Rattle.pm_rounds.proofs.Rising.{first_round, send_round, take_round, clear_round}
+use Rattle.pm_rounds.proofs.Rising.{first_round, send_round, take_round}
 use Rattle.pm_rounds.proofs.Quiet.{heard_gone}
 use Rattle.pm_rounds.proofs.Falling as falling
 use Rattle.pm_rounds.proofs.Falling.{no_news, all_heard, up_after, fallen, fall_round, look_round}
@@ -81,20 +81,16 @@ module _ (lists : Lists) (law : Lawful lists) (one : phases lists ≡ 1) (p : Pr
 
   clears_on : (rounds : List (List Event)) (net : Network) (s : State) → NetworkAgrees lists p net s → AllSent lists p net →
       Stage lists law one p by depth deep depth (Level lists law one p by depth deep depth) net → AreRounds lists p net rounds →
-      RoundsHaveRoom lists p net rounds → depth + 3 ≤ length rounds → IsSettledNetwork lists (after_rounds lists p net rounds)
+      RoundsHaveRoom lists p net rounds → depth + 2 ≤ length rounds → IsSettledNetwork lists (after_rounds lists p net rounds)
   clears_on [] net s agrees sent stage are room many = absurd (omega (arith, many))
-  clears_on (round ∷ []) net s agrees sent stage are room many = absurd (omega (arith, many))
-  clears_on (round ∷ second ∷ rounds) net s agrees sent stage are room many =
-      let then : Network = network_after lists p net round in
+  clears_on (round ∷ rounds) net s agrees sent stage are room many =
       let next = after_round lists law one p by round net s agrees sent are.0.carried in
-      let later = after_round lists law one p by second then next.0 next.1 next.2 are.1.0.carried in
-      let up : AllUp then = clear_round lists law one p by depth deep round net s agrees stage are.0 room.0 in
-      falls_on (depth + 1) 0 (omega arith) rounds (network_after lists p then second) later.0 later.1 later.2
-      (look_round lists law one p by depth deep second then next.0 next.1 up are.1.0) are.1.1 (omega (arith, many))
+      falls_on (depth + 1) 0 (omega arith) rounds (network_after lists p net round) next.0 next.1 next.2
+      (look_round lists law one p by depth deep round net s agrees stage are.0 room.0) are.1 (omega (arith, many))
 
   rises_up : (left b : ℕ) → left + b ≡ depth → (rounds : List (List Event)) (net : Network) (s : State) → NetworkAgrees lists p net s →
       AllSent lists p net → Stage lists law one p by depth deep b (Level lists law one p by depth deep b) net → AreRounds lists p net rounds →
-      RoundsHaveRoom lists p net rounds → 2 * left + depth + 3 ≤ length rounds → IsSettledNetwork lists (after_rounds lists p net rounds)
+      RoundsHaveRoom lists p net rounds → 2 * left + depth + 2 ≤ length rounds → IsSettledNetwork lists (after_rounds lists p net rounds)
   rises_up zero b sum rounds net s agrees sent stage are room many =
       clears_on rounds net s agrees sent
       (subst (λ (n : ℕ). Stage lists law one p by depth deep n (Level lists law one p by depth deep n) net) (omega (arith, sum)) stage) are room

@@ -339,7 +339,8 @@ module _ (lists : Lists) (law : Lawful lists) (one : phases lists ≡ 1) (p : Pr
 
   -- ---- rounds
 
-  fits_level : (b : ℕ) → Fits b (Level b)
+  -- each child of a level is heard
+  pub fits_level : (b : ℕ) → Fits b (Level b)
   fits_level b c x level node up = below_level b c x (omega (arith, level.1)) node up
 
   fits_more : (b : ℕ) → Fits b (Level (b + 1))

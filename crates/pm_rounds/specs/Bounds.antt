@@ -21,9 +21,9 @@ full_round_bound lists = nodes lists * (5 * change_total lists + 1) + change_tot
 -- ---- by depth, while no window is full
 
 -- So many rounds are enough with at most so many relays one below another: one round for the bids of devices, two for each level
--- of relays, one to clear, one for lost records, and one for each level of prices, devices included.
+-- of relays, one to clear, and one for each level of prices, devices included.
 abbrev pub rounds_of_depth : ℕ → ℕ
-rounds_of_depth depth = 3 * depth + 4
+rounds_of_depth depth = 3 * depth + 3
 
 -- so many bring the bids of all devices into the newest clearing
 abbrev pub rounds_to_clear : ℕ → ℕ

@@ -57,7 +57,7 @@ pub fn runs_settle()
 ///   over all bids.
 /// - `run`: so it is after a run in which no node stopped between storing and sending.
 /// - `stopped`: if each relay can go on, more than `full_round_bound` full rounds settle it.
-/// - `in_time`: while no window is full, 3 D + 4 rounds settle a tree with at most D relays one below another.
+/// - `in_time`: while no window is full, 3 D + 3 rounds settle a tree with at most D relays one below another.
 /// - `cleared_in_time`: then 2 D + 2 rounds bring all bids into the newest clearing.
 /// - `there_are`: from each state there are rounds, full ones too, as many as one likes.
 pub fn rounds_settle()
