@@ -6,7 +6,7 @@ import os
 from collections.abc import Collection
 from dataclasses import dataclass
 
-from .files import Places
+from .files import ETC, Places
 from .front_files import doors_of, socket_of
 from .market_file import Tree
 from .subscription_files import plugin_path
@@ -116,5 +116,5 @@ def unit_text(tree: Tree) -> str:
     limits = limits_of(tree)
     return (
         "# Made by `cogmaula market`. The limits of the broker.\n"
-        f"[Service]\nLimitNOFILE={limits.files}\nMemoryMax={2 * limits.memory // MIB}M\nRestart=always\nRestartSec=2\n"
+        f"[Service]\nExecStartPre=-/bin/sh {ETC}/check_database.sh\nLimitNOFILE={limits.files}\nMemoryMax={2 * limits.memory // MIB}M\nRestart=always\nRestartSec=2\n"
     )

@@ -31,7 +31,7 @@ services:
     image: market-broker
     build: {context: ., target: broker}
     volumes: ["./broker:/etc/market:ro", "broker:/var/lib/mosquitto"]
-    tmpfs: ["/run/mosquitto:mode=1777"]
+    tmpfs: ["/run/mosquitto:mode=1777", "/tmp:mode=1777"]
 """
 CLIENTS = """
   client:

@@ -18,7 +18,7 @@ install -d -m 755 {etc}
 """
 
 _BROKER = """\
-install -m 644 ca.crt broker.crt {etc}
+install -m 644 ca.crt broker.crt check_database.sh {etc}
 install -m 600 -o mosquitto {secret} {etc}
 # Where the plugin is depends on the processor.
 sed -i "s|^plugin .*|plugin $(ls /usr/lib/*/mosquitto_dynamic_security.so | head -n 1)|" mosquitto.conf

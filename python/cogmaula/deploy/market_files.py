@@ -166,6 +166,7 @@ def _make_broker(tree: Tree, places: Places) -> None:
     write_file(folder / "subscriptions.json", subscriptions_text(tree), SECRET)
     write_file(folder / "mosquitto.conf", broker_files.configuration_text(tree, places), OPEN)
     write_file(folder / "mosquitto.service.conf", broker_files.unit_text(tree), OPEN)
+    write_file(folder / "check_database.sh", text_of("check_database.sh"), RUN)
     write_file(folder / "install.sh", installing.broker_text(tree.has_front), RUN)
     if tree.has_front:
         connections = broker_files.limits_of(tree).connections
