@@ -113,6 +113,7 @@ share/market/market.stamp
 share/market/prometheus/market.dashboard.json
 share/market/prometheus/market.rules.yml
 share/market/run.sh
+share/market/units/market-agent.service
 share/market/units/market-bridge.service
 share/market/units/market-hub.service
 share/market/units/market-serve.socket

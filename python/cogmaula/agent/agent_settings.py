@@ -24,7 +24,7 @@ from .mqtt import BrokerPlace, Mqtt, MqttPlace
 from .plain_sources import Command, CommandPlace, Csv, CsvPlace, Http, HttpPlace
 from .stated import StatedDevice
 
-TABLES = ("agent", "market", "device", "limits", "state", "setpoint", "time_out", "homeassistant")
+TABLES = ("agent", "market", "device", "limits", "state", "setpoint", "measured", "time_out", "homeassistant")
 # Those that each file has.
 NEEDED = ("market", "device", "limits", "setpoint")
 # The units of a state by what it is.
@@ -133,6 +133,7 @@ class AgentSettings:
     state:    None if the model keeps its own state, by the powers that were written and the time that passes
     capacity: what a state in % is a share of
     bounds:   what a reading may be
+    measured: where the power is read that the device takes, None if it is not
     time_out: the device's own time-out, None if it has none
     entities: what Home Assistant shows of the agent, None if it shows nothing
     """
@@ -148,6 +149,7 @@ class AgentSettings:
     entities: Entities | None = None
     bounds: StateBounds = StateBounds()
     time_out: TimeOut | None = None
+    measured: Any = None
 
     def link(self) -> Link:
         """What joins the agent to its market."""
@@ -180,7 +182,7 @@ def agent_settings_of(tables: Mapping[str, Mapping[str, Any]], folder: Path = Pa
     for name in NEEDED:
         if name not in tables:
             needed = ", ".join(f"[{table}]" for table in NEEDED)
-            raise BadSettings(f"the table [{name}] is missing: a file has {needed}, and may have [agent], [state], [time_out] and [homeassistant]")
+            raise BadSettings(f"the table [{name}] is missing: a file has {needed}, and may have [agent], [state], [measured], [time_out] and [homeassistant]")
     limits = value_of(Limits, tables["limits"], "limits")
     is_stated = "kind" in tables["device"]
     device, member = (_stated_of(tables, limits), "state") if is_stated else _device_of(dict(tables["device"]), folder)
@@ -205,7 +207,16 @@ def agent_settings_of(tables: Mapping[str, Mapping[str, Any]], folder: Path = Pa
         _entities_of(tables["homeassistant"], market, device) if "homeassistant" in tables else None,
         bounds,
         _time_out_of(dict(tables["time_out"]), limits) if "time_out" in tables else None,
+        _measured_of(dict(tables["measured"])) if "measured" in tables else None,
     )
+
+
+def _measured_of(table: dict[str, Any]) -> Any:
+    """Where the power is read that the device takes. Raises BadSettings."""
+    found = _place_of(table, "measured")
+    if found.unit not in POWER:
+        raise BadSettings(f"measured.unit is {found.unit}: a power is in one of {', '.join(POWER)}")
+    return found
 
 
 def _time_out_of(table: dict[str, Any], limits: Limits) -> TimeOut:

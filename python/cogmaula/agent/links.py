@@ -22,7 +22,7 @@ from ..live.frames import AnyOffer, Leave, Offer, Points, Stated
 from ..live.broker_link import Message
 from ..live.messages import members_of, object_of
 from ..live.node_states import NodeStates
-from ..live.sessions import time_of
+from ..live.sessions import now_text, time_of
 from ..live.topics import Topics
 from ..logs import NodeLog
 from .mqtt import BrokerPlace, Client
@@ -76,6 +76,9 @@ class Link(Protocol):
     def repeat(self) -> None:
         """Offers the newest again, as it was: the device lives."""
 
+    def measure(self, watts: int) -> None:
+        """Says what the device takes, in watts, below 0 if it gives. The newest counts."""
+
     def close(self) -> None:
         """Ends the connection."""
 
@@ -103,6 +106,7 @@ class HubLink:
         self._host, self._port = host.strip("[]"), int(port)
         self._lock = threading.Lock()
         self._newest: bytes | None = None
+        self._measured: bytes | None = None
         self._number = first_number()
         self._is_new = self._is_closed = False
         # A byte here wakes the thread.
@@ -129,6 +133,12 @@ class HubLink:
         """See Link."""
         with self._lock:
             self._is_new = self._newest is not None
+        self._wake()
+
+    def measure(self, watts: int) -> None:
+        """See Link."""
+        with self._lock:
+            self._measured = json.dumps({"measured": watts}).encode() + b"\n"
         self._wake()
 
     def close(self) -> None:
@@ -205,8 +215,10 @@ class HubLink:
         """Sends the newest offer, if it is not sent yet."""
         with self._lock:
             lines, self._is_new = self._newest if self._is_new else None, False
-        if lines is not None:
-            one.sendall(lines)
+            measured, self._measured = self._measured, None
+        for told in (lines, measured):
+            if told is not None:
+                one.sendall(told)
 
     def _welcome(self, line: bytes) -> None:
         told = object_of(line, "the hub's answer")
@@ -284,7 +296,7 @@ class NodeLink:
     def __init__(self, place: BrokerPlace, prefix: str, node: str) -> None:
         """Takes the broker, the prefix of the market's topics, and the name of the device's node."""
         self._place = place
-        kinds = {"basis": "basis", **{kind: f"{node}/{kind}" for kind in ("setpoint", "offer", "state")}}
+        kinds = {"basis": "basis", **{kind: f"{node}/{kind}" for kind in ("setpoint", "offer", "state", "measured")}}
         self._node, self._topics = node, {kind: f"{prefix}/{name}" for kind, name in kinds.items()}
         self._states = NodeStates(Topics(prefix), lambda topic: self._client.also_read(topic))
         self._newest: queue.Queue[str | None] = queue.Queue()
@@ -311,6 +323,10 @@ class NodeLink:
         """See Link."""
         if self._words is not None:
             self._newest.put(self._words)
+
+    def measure(self, watts: int) -> None:
+        """See Link."""
+        self._client.post(self._topics["measured"], json.dumps({"power": watts, "time": now_text()}))
 
     def _send_all(self) -> None:
         """Publishes the newest offer until the broker has it."""

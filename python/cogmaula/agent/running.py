@@ -53,6 +53,7 @@ class Agent:
         self._source: Access | None = None if settings.state is None else settings.access(settings.state)
         self._sink: Access = settings.access(settings.setpoint)
         self._time_out: Access | None = None if settings.time_out is None else settings.access(settings.time_out.place)
+        self._meter: Access | None = None if settings.measured is None else settings.access(settings.measured)
         self._link = settings.link()
         self._begun = clock.now()
         self._guard = Guard(settings.limits, self._log, self._begun)
@@ -82,9 +83,10 @@ class Agent:
 
     def run(self) -> None:
         """Works until `stop` is called. At the end the device takes its fallback, and leaves the market."""
-        reads = threading.Thread(target=self._read_all, args=(self._source,), daemon=True)
-        reads.start()
         self._link.start(self._words.put, self._log)
+        reads = [threading.Thread(target=read, daemon=True) for read in (self._read_all, self._measure_all)]
+        for thread in reads:
+            thread.start()
         look = min(max(self._settings.times.every / 10, LEAST_LOOK), MOST_LOOK)
         try:
             while not self._is_over.is_set():
@@ -97,8 +99,9 @@ class Agent:
         finally:
             self._is_over.set()
             self._end()
-            reads.join(MOST_LOOK)
-            for access in (self._source, self._sink, self._time_out):
+            for thread in reads:
+                thread.join(MOST_LOOK)
+            for access in (self._source, self._sink, self._meter, self._time_out):
                 if access is not None:
                     access.close()
 
@@ -123,8 +126,21 @@ class Agent:
 
     # The device's state.
 
-    def _read_all(self, source: Access | None) -> None:
+    def _measure_all(self) -> None:
+        """Reads again and again what the device takes, and tells the market."""
+        meter, place = self._meter, self._settings.measured
+        while meter is not None and not self._is_over.is_set():
+            begun = clock.now()
+            try:
+                self._link.measure(round(place.value_of(meter.read())))
+                self._log_change("measured", "")
+            except NoReading as error:
+                self._log_change("measured", f"the power is not measured: {error}")
+            self._is_over.wait(max(0.0, begun + self._settings.times.every - clock.now()))
+
+    def _read_all(self) -> None:
         """Reads again and again, so that a device that does not answer holds up nothing else."""
+        source = self._source
         while source is not None and not self._is_over.is_set():
             begun = clock.now()
             try:

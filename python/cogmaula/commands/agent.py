@@ -20,7 +20,7 @@ MORE = (
 
 def add_arguments(parser: argparse.ArgumentParser) -> None:
     """Adds the arguments of agent."""
-    parser.add_argument("file", metavar="SETTINGS", help="a TOML file with the tables [agent], [market], [device], [limits], [state], [setpoint], [time_out] and [homeassistant]")
+    parser.add_argument("file", metavar="SETTINGS", help="a TOML file with the tables [agent], [market], [device], [limits], [state], [setpoint], [measured], [time_out] and [homeassistant]")
 
 
 def main(arguments: argparse.Namespace) -> int:

@@ -12,7 +12,7 @@ from ..cluster import Basis
 from ..live.node_errors import BadMessage, LiveError
 from ..live.device_kinds import DeviceKind
 from .agent_control import Agent
-from .agent_messages import LEAVE_OFFER, BidUpdate, error_line, word_of
+from .agent_messages import LEAVE_OFFER, BidUpdate, PowerWord, error_line, word_of
 from .lines import Lines
 from .login_refusals import NoLogin
 
@@ -141,6 +141,8 @@ class Connection:
             return
         if isinstance(word, DeviceKind):
             self._kind = word
+        elif isinstance(word, PowerWord):
+            self._agent.measures(word.line)
         else:
             self._agent.offer(word.to_offer() if isinstance(word, BidUpdate) else LEAVE_OFFER)
 

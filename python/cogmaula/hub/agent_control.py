@@ -80,6 +80,13 @@ class Agent:
         if notify is not None:
             notify(data)
 
+    def measures(self, line: bytes) -> None:
+        """Hands to the node what the agent says of its device's power. Without a node it is dropped."""
+        with self._lock:
+            notify = self._notify
+        if notify is not None:
+            notify(line)
+
     # The connection.
 
     def _has_news(self) -> None:

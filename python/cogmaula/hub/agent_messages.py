@@ -12,6 +12,7 @@ from typing import Any
 from ..cluster import Basis
 from ..live.node_errors import BadFrame, BadMessage
 from ..live.frames import Offer, Points, require_demands
+from ..live.deviation import Measured
 from ..live.device_kinds import DeviceKind
 from ..live.messages import ControlMessage, SetpointMessage, members_of, object_of, require_reference, stated
 
@@ -23,7 +24,7 @@ QUOTED = 64
 SHAPES = (
     'write {"bidUpdate": {"bidNumber": 5, "demandArray": [WATTS, ..]}}, '
     '{"bidUpdate": {"pricePoints": [{"price": 3, "demand": WATTS}, ..]}}, {"device": {"kind": "battery", ..}}, '
-    '{"bidUpdate": {"state": NUMBER}} or {"leave": true}'
+    '{"bidUpdate": {"state": NUMBER}}, {"measured": WATTS}, {"refused": WATTS, "why": TEXT} or {"leave": true}'
 )
 
 
@@ -67,11 +68,22 @@ class LeaveWord:
 LEAVE_OFFER = b'{"leave": true}'
 
 
-def word_of(data: bytes, basis: Basis, kind: DeviceKind | None = None) -> BidUpdate | LeaveWord | DeviceKind:
+@dataclass(frozen=True)
+class PowerWord:
+    """What the agent says of its device: the power that it takes, or that it refuses its setpoint. `line` is as a control says it."""
+
+    line: bytes
+
+
+def word_of(data: bytes, basis: Basis, kind: DeviceKind | None = None) -> BidUpdate | LeaveWord | PowerWord | DeviceKind:
     """What an agent says after its login, whose device is of this kind, None as long as it named none. Raises BadMessage."""
     told = object_of(data, "the line")
     if told == {"leave": True}:
         return LeaveWord()
+    if told.keys() in ({"measured"}, {"refused"}, {"refused", "why"}):
+        line = json.dumps(told).encode()
+        Measured.of_line(line)
+        return PowerWord(line)
     if len(told) == 1 and isinstance(device := told.get("device"), dict):
         try:
             return DeviceKind.of(device)

@@ -70,6 +70,7 @@ class HubSettings:
     insecure:    whether to listen without TLS where other machines reach it
     gone:        the seconds after which an agent that is disconnected leaves the market
     offer_validity: the seconds after which an agent that is connected and bids nothing leaves the market, as one that hangs
+    deviation:   by how many watts a device may take something else than it is told, and `deviation_seconds` for how long; None for no bound
     validity:    the seconds for which a priceUpdate holds without a newer one, and `heartbeat` those between two
     period:      the seconds from one clearing to the next, by the clock; None clears after news
     pause:       the least seconds between two clearings after news
@@ -93,6 +94,8 @@ class HubSettings:
     insecure: bool = False
     gone: float = MARGIN * VALIDITY
     offer_validity: float = OFFER_VALIDITY
+    deviation: float | None = None
+    deviation_seconds: float = 60.0
     validity: float = VALIDITY
     heartbeat: float | None = None
     period: float | None = None
@@ -168,6 +171,7 @@ class HubSettings:
         """The settings of an agent's node. Raises BadSettings."""
         folder = str(self.folder_of_agents / agent)
         more: dict[str, Any] = {"parent": self.name, "child": child, "offer_validity": self.offer_validity, **self._recording}
+        more |= {"deviation": self.deviation, "deviation_seconds": self.deviation_seconds}
         return Settings("device", require_name(agent, "the agent"), folder, self.basis, self.live, **more)
 
 

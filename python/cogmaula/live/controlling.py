@@ -7,6 +7,7 @@ from dataclasses import replace
 
 from ..logs import NodeLog
 from .control import Control
+from .deviation import Deviation
 from .frames import Setpoint
 from .keeping import Keeping
 from .messages import BackMessage, ControlMessage, NewSessionMessage, SetpointMessage, SilentMessage
@@ -28,6 +29,7 @@ class Controlling:
         silence: Silence,
         control: Control | None,
         log: NodeLog,
+        deviation: Deviation,
     ) -> None:
         """Takes what the node has."""
         self._settings = settings
@@ -35,6 +37,7 @@ class Controlling:
         self._offers = offers
         self._silence = silence
         self._control = control
+        self._deviation = deviation
         self._log = log
         # The setpoint and the heartbeat that the control was told last.
         self._told: tuple[SetpointMessage, Heartbeat | None] | None = None
@@ -107,11 +110,13 @@ class Controlling:
             silence = self._silence
             holds = silence.holds(now, has_bid)
             self._holds(holds, now)
+            self._deviation.told(setpoint.power)
             self._tell(replace(setpoint, until=silence.until(now, has_bid), holds=holds))
 
     def _tell_silence(self, why: str) -> None:
         since, why = (now_text(), why) if why else (self._silence.since, self._silence.why)
         self._log.warning(f"the market is silent: {why}. The control is told its fallback, {self._settings.fallback} W")
+        self._deviation.told(self._settings.fallback)
         self._tell(SilentMessage(since, self._settings.fallback, why))
 
     def _tell(self, told: ControlMessage) -> None:

@@ -20,6 +20,7 @@ from .beginning import Beginning, resume_of
 from .broker import Broker
 from .broker_link import Arrived, Confirmed, Event, Link, Message, Publication, Settled
 from .control import Control, StandardControl
+from .deviation import Measured
 from .counting import NodeFacts
 from .node_errors import BadFrame, BadMessage, LiveError, NodeRefused
 from .frames import CHILDREN, MOST, Leave, RelayResume
@@ -39,6 +40,8 @@ TICK = 0.05
 # The seconds from one reading of all that the broker retains to the next, of a parent and of a device, those without a look at the clock
 # after which it is read sooner, and those to wait then, so that what is queued has come.
 READ_AGAIN, READ_AGAIN_DEVICE, GAP, SOON = 120.0, 600.0, 2.0, 1.0
+# The least seconds between two measured powers of the control that are told at the topic.
+BETWEEN_MEASURED = 1.0
 
 
 class _Stop:
@@ -93,6 +96,8 @@ class Node:
         self._begun = ""
         # The children that counted in the session before, until the next one has begun.
         self._counted: frozenset[int] = frozenset()
+        # When it told last what its device measured.
+        self._measured_at = -BETWEEN_MEASURED
         # When the node looked last, and when it reads again what the broker retains.
         self._looked = clock.now()
         self._gap = max(GAP, 2 * tick)
@@ -242,18 +247,32 @@ class Node:
     def _take_offered(self, data: bytes) -> None:
         """Takes a line of the control. What it says ends no node."""
         try:
-            self.serving.offers.take(data, clock.now())
+            measured = Measured.of_line(data)
+            if measured is None:
+                self.serving.offers.take(data, clock.now())
+            else:
+                self._take_measured(measured)
+        except BadMessage as error:
+            self._log.of_stranger("the control").warning(f"a line of the control is not taken: {error}")
         except (LiveError, OSError):
             raise
         except Exception as error:  # noqa: BLE001 - whatever a line leads to, the next one counts
             self._log.of_stranger("the control").error(f"an offer is not taken: {type(error).__name__}: {error}")
+
+    def _take_measured(self, measured: Measured) -> None:
+        """Takes what the control says of its device, and tells it at the topic that a history reads."""
+        now = clock.now()
+        self.serving.measures(measured, now)
+        if measured.power is not None and now >= self._measured_at + BETWEEN_MEASURED:
+            self._measured_at = now
+            self._link.publish(Publication(self.settings.own_topic("measured"), measured.to_bytes(now_text())))
 
     def _subscriptions(self) -> list[str]:
         """The topics that the node reads: what is for it, and its own, to go on from and to see that the broker takes them."""
         settings, topics = self.settings, self.settings.topics
         found = [topics.basis, settings.own_topic("state"), settings.own_topic("resume")]
         if settings.sort == "device":
-            found += [settings.own_topic(kind) for kind in ("offer", "answer", "setpoint", "lapsed")]
+            found += [settings.own_topic(kind) for kind in ("offer", "answer", "setpoint", "lapsed", "measured")]
         else:
             found += [topics.bid(settings.name, child) for child in range(1, CHILDREN + 1) if child != settings.place_of_limits]
             found += [topics.at(settings.name, kind, "+") for kind in ("drop", "lapsed", "refused")]
@@ -358,6 +377,8 @@ class Node:
             pass
         elif topic == settings.own_topic("offer"):
             self._take_offer(session, message)
+        elif settings.sort == "device" and topic == settings.own_topic("measured"):
+            self._hear_measured(message)
         elif settings.limits_from and topic == settings.own_topic("limits"):
             session.limiting.take(message.payload)
         elif settings.sort != "device" and topic.endswith("/state") and topic != settings.own_topic("state"):
@@ -366,6 +387,14 @@ class Node:
             self._take_site(session, message)
         elif topic in [settings.own_topic(kind) for kind in ("state", "resume")] or topic == self._bid_topic:
             self._require_alone(session)
+
+    def _hear_measured(self, message: Message) -> None:
+        """Takes what the control says of its device by the topic. What the broker had kept may be old."""
+        try:
+            if message.payload and not message.retained:
+                self.serving.measures(Measured.of_topic(message.payload), clock.now())
+        except BadMessage as error:
+            self._log.of_stranger("the control").warning(f"{message.topic} is not taken: {error}")
 
     def _take_site(self, session: ServedSession, message: Message) -> None:
         """Takes the state of a site, in which the parent or children may run."""

@@ -142,6 +142,8 @@ class Settings:
     fallback: the power in watts that a device's control is told while the market is silent
     device:   the kind of a device whose control says its state; None if it offers otherwise, or names the kind itself
     offer_validity: the seconds after which a device whose control offers nothing leaves, not even the same again; None keeps its bid
+    deviation: by how many watts a device may take something else than it is told; None lets nothing follow from what it measures
+    deviation_seconds: for how long; twice as long, and it counts as what it measures
     prices:   of a parent, how it tells prices
     children: of a parent, the bounds of children
     new_session: whether an auctioneer begins a new session
@@ -171,6 +173,8 @@ class Settings:
     grace: float | None = None
     fallback: int = 0
     offer_validity: float | None = OFFER_VALIDITY
+    deviation: float | None = None
+    deviation_seconds: float = 60.0
     new_session: bool = False
     leave: bool = False
     record: str | None = None
@@ -278,6 +282,8 @@ class Settings:
         for name, value, least in (("period", self.period, 0.01), ("pause", self.pause, 0), ("offer_validity", self.offer_validity, 0.01)):
             if value is not None and not least <= value <= 1e9:
                 raise BadSettings(f"{name} is {value}: give {least} seconds or more")
+        if not 0 < self.deviation_seconds <= 1e9 or (self.deviation is not None and not 0 <= self.deviation <= MOST):
+            raise BadSettings(f"deviation is {self.deviation} and deviation_seconds {self.deviation_seconds}: give watts of 0 or more, and seconds above 0")
         _require_child_pause(self.child_pause, "child_pause is")
         if self.sort == "device" and self.child_pause:
             raise BadSettings("a device has no children: take child_pause out")

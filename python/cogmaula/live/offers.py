@@ -49,6 +49,8 @@ class Offers:
         self._made: Wanted | None = None
         self._not_before = 0.0
         self._until: float | None = None
+        # The power that the device counts as in place of its own offer, None if that counts.
+        self._counted: int | None = None
         # Whether the device leaves since its control was silent.
         self._is_leaving = False
         # The end that is stored, as it was read last: it is looked at often, and is seldom another one.
@@ -156,7 +158,16 @@ class Offers:
 
     def _want_offer(self, frame: Wanted, reference: int | None) -> None:
         self._offered = frame, reference
-        self.want(frame, reference)
+        if self._counted is None:
+            self.want(frame, reference)
+        else:
+            self.want(Offer((self._counted,) * self._basis.steps))
+
+    def count_as(self, power: int | None) -> None:
+        """Lets the device count as this power at every price in place of its own offer, None for its own again."""
+        self._counted = power
+        if self._offered is not None:
+            self._want_offer(*self._offered)
 
     def want(self, frame: Wanted, reference: int | None = None) -> None:
         """Wants a frame, in place of one that was not yet asked. What the agent already does is not asked again.

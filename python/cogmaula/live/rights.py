@@ -58,7 +58,7 @@ _OF_NODE: Words = (("readwrite", "state"), ("readwrite", "resume"))
 _OF_PARENT: Words = (("readwrite", "heartbeat"), ("readwrite", "prices"), ("read", "bid/+"), ("read", "drop/+"))
 _OF_EACH_CHILD: Words = (("readwrite", "price"), ("readwrite", "lapsed"), ("readwrite", "refused"))
 _OF_LIMITED: Words = (("readwrite", "limits"), ("readwrite", "limits/state"))
-_OF_DEVICE: Words = (("readwrite", "setpoint"), ("readwrite", "answer"), ("read", "offer"))
+_OF_DEVICE: Words = (("readwrite", "setpoint"), ("readwrite", "answer"), ("readwrite", "measured"), ("read", "offer"))
 _OF_CONTROL: Words = (("write", "offer"), ("write", "measured"), ("read", "setpoint"), ("read", "answer"), ("read", "state"))
 # What a child may do with the topics below its parent's name: those of its own number, and those that are for all children.
 _OF_CHILD: Words = (("read", "state"), ("read", "heartbeat"), ("read", "prices"))

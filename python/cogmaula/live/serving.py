@@ -13,6 +13,7 @@ from .kept_bids import BidLog
 from .broker_link import Link
 from .control import Control
 from .controlling import Controlling
+from .deviation import Deviation, Measured
 from .counting import Counts
 from .node_errors import LiveError
 from .frames import Clear, DeviceResume, Resume, ResumeGone, Send, frames_of
@@ -61,7 +62,9 @@ class Serving:
         self._recording = Recording(settings)
         self.offers = Offers(settings.basis, settings.offer_validity, log, settings.device, self._answer)
         self.beating = Beating(settings, self._publisher, link)
-        self.controlling = Controlling(settings, self._publisher, self.offers, self.beating.silence, control, log)
+        self.deviation = Deviation(settings.deviation, settings.deviation_seconds)
+        self.controlling = Controlling(settings, self._publisher, self.offers, self.beating.silence, control, log, self.deviation)
+        self._is_alarmed, self._counted = False, self.deviation.counts
         self.counts = Counts()
         self._parts = NodeParts(
             settings=settings,
@@ -112,7 +115,27 @@ class Serving:
     @property
     def alarm(self) -> str:
         """What is wrong in the session, "" if nothing is."""
-        return "" if self.session is None else self.session.alarm
+        return "" if self.session is None else "; ".join(filter(None, (self.session.alarm, self.deviation.alarm)))
+
+    def measures(self, told: Measured, now: float) -> None:
+        """Takes what the control says of its device."""
+        self.deviation.hear(told, now)
+
+    def _follow(self, now: float) -> None:
+        """Lets a device that does not follow count as what it measures."""
+        deviation = self.deviation
+        deviation.tick(now)
+        if bool(deviation.alarm) != self._is_alarmed:
+            self._is_alarmed = bool(deviation.alarm)
+            if deviation.alarm:
+                self._log.warning(deviation.alarm)
+            else:
+                self._log.info("the device follows again")
+        if deviation.counts != self._counted:
+            self._counted = deviation.counts
+            what = "its own bid counts again" if self._counted is None else f"it counts as {self._counted} W at every price, since it does not follow"
+            self._log.warning(what)
+            self.offers.count_as(self._counted)
 
     def silent_since(self, now: float) -> str | None:
         """Since when the node hears no heartbeat, or is let go (RFC 3339), None if neither is so."""
@@ -186,6 +209,7 @@ class Serving:
             return
         session.work()
         if self._settings.sort == "device":
+            self._follow(now)
             session.keep_offer(now)
         if self.service is None and now >= self._restart_at and session.is_known():
             self.start(session, now)

@@ -34,6 +34,9 @@ class PretendedMarket:
     def repeat(self):
         self.events.append(("repeat", None))
 
+    def measure(self, watts):
+        self.events.append(("measured", watts))
+
     def close(self):
         self.events.append(("closed", None))
 

@@ -137,3 +137,11 @@ def test_the_agent_tells_that_its_loop_turns(monkeypatch):
         one.offers()
         before = len(turns)
         wait_until(lambda: len(turns) > before + 3, "the loop turns")
+
+
+def test_what_the_device_takes_is_told_to_the_market(monkeypatch):
+    more = {"measured": {"by": "csv", "file": "none", "unit": "kW", "scale": -0.1}}
+    with PretendedAgent(monkeypatch, state=15.0, tables=more) as one:
+        one.waits_for("measured", -1500)
+    with pytest.raises(BadSettings, match="measured.unit is Wh"):
+        PretendedAgent(monkeypatch, tables={"measured": {"by": "csv", "file": "none", "unit": "Wh"}})

@@ -35,6 +35,24 @@ def settles(step, **agents):
         agent.waits_for(step=step, power=power)
 
 
+def test_an_agent_whose_device_does_not_follow_counts_for_what_it_measures(live, tmp_path):
+    """The store is told to give 100 W from price 4 on, and gives 20 W. The house has to have 100 W, which nobody gives then."""
+    with HubInThread(tmp_path, live, deviation=10.0, deviation_seconds=0.5) as hub:
+        house, store = hub.agent("house").bids(CONSTANT), hub.agent("store").bids(falls_at(4, 0, -100), 1)
+        store.waits_for(power=-100, bidNumber=1)
+
+        def counts_as_measured():
+            store.says({"measured": -20})
+            return house.has(price=9) and store.has(power=-20)
+
+        wait_until(counts_as_measured, f"it counts as -20 W: {store.told[-1]}")
+        assert any("takes -20 W, and was told -100 W" in line for line in hub.said)
+        store.says({"refused": 5, "why": 3, "more": 1}).waits_for_error("the line is no bid")
+        store.says({"measured": "much"}).waits_for_error("give watts")
+        # After ten times as long its own bid is tried again, and now it follows.
+        wait_until(lambda: (store.says({"measured": -100}), house.has(price=4) and store.has(power=-100))[-1], "its own bid counts")
+
+
 def test_an_agent_that_hangs_falls_back_and_then_leaves_though_it_is_connected(live, tmp_path):
     """The store gives 100 W from price 4 on, which the house takes. A bid that is said again keeps it, and one that is not lets it go."""
     with HubInThread(tmp_path, live, validity=2.0, gone=2.5, offer_validity=1.0) as hub:

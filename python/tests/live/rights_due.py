@@ -24,8 +24,8 @@ WRITES = {
     "street": [
         *(f"street/{kind}" for kind in (*PARENT, "price/2", "lapsed/2", "refused/2", "limits", "limits/state")), "auctioneer/bid/1",
     ],
-    "house": ["house/state", "house/resume", "house/setpoint", "house/answer", "street/bid/1"],
-    "store": ["store/state", "store/resume", "store/setpoint", "store/answer", "street/bid/2"],
+    "house": ["house/state", "house/resume", "house/setpoint", "house/answer", "house/measured", "street/bid/1"],
+    "store": ["store/state", "store/resume", "store/setpoint", "store/answer", "store/measured", "street/bid/2"],
     "house.control": ["house/offer", "house/measured"],
     "store.control": ["store/offer", "store/measured"],
     # All that some form of topic has: an operator clears them.
