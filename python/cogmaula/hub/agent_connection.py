@@ -12,9 +12,9 @@ from ..cluster import Basis
 from ..live.node_errors import BadMessage, LiveError
 from ..live.device_kinds import DeviceKind
 from .agent_control import Agent
-from .agent_messages import LEAVE_OFFER, BidUpdate, PowerWord, error_line, word_of
+from .agent_messages import LEAVE_OFFER, BidUpdate, ErrorCode, PowerWord, RefusedBid, error_line, word_of
 from .lines import Lines
-from .login_refusals import NoLogin
+from .login_refusals import LineTooLong, NoLogin, WrongLogin
 
 # The seconds within which a login has to come, and those in which a connection that is to end may still write.
 LOGIN_SECONDS, LAST_SECONDS = 10.0, 1.0
@@ -99,10 +99,10 @@ class Connection:
         """See Listener."""
         self._news.set()
 
-    def end(self, why: str, kind: object = "end") -> None:
+    def end(self, why: str, kind: object = "end", code: ErrorCode = "end") -> None:
         """See Listener. Lines of one kind and one agent are said seldom."""
         if not self._is_ending:
-            self._tell_error(why, kind)
+            self._tell_error(why, kind, code)
             self._is_ending = True
             if self._sending is not None:
                 asyncio.get_running_loop().call_later(LAST_SECONDS, self._sending.cancel)
@@ -117,7 +117,7 @@ class Connection:
                     self._take(line)
                 await asyncio.sleep(BETWEEN)
         except LiveError as error:
-            self.end(str(error), type(error))
+            self.end(str(error), type(error), code_of(error))
 
     async def _read_login(self) -> None:
         try:
@@ -137,7 +137,7 @@ class Connection:
         try:
             word = word_of(line, self._basis, self._kind)
         except BadMessage as error:
-            self._tell_error(str(error), type(error))
+            self._tell_error(str(error), type(error), code_of(error), error.number if isinstance(error, RefusedBid) else None)
             return
         if isinstance(word, DeviceKind):
             self._kind = word
@@ -148,9 +148,9 @@ class Connection:
 
     # What the agent is told.
 
-    def _tell_error(self, text: str, kind: object) -> None:
+    def _tell_error(self, text: str, kind: object, code: ErrorCode, number: int | None = None) -> None:
         self._log.log_seldom(logging.WARNING, (kind, "" if self._agent is None else self._agent.name), f"{self._name}: {text}")
-        self._lines.append(error_line(text))
+        self._lines.append(error_line(text, code, number))
         self._news.set()
 
     async def _send_all(self) -> None:
@@ -166,3 +166,16 @@ class Connection:
                 await self._channel.write(newest)
             if self._is_ending and not self._lines:
                 return
+
+
+def code_of(error: LiveError) -> ErrorCode:
+    """What an error is about, as its line tells it."""
+    match error:
+        case NoLogin() | WrongLogin():
+            return "login"
+        case RefusedBid():
+            return "bid"
+        case BadMessage() | LineTooLong():
+            return "line"
+        case _:
+            return "node"

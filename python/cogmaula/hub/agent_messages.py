@@ -7,7 +7,7 @@ from __future__ import annotations
 
 import json
 from dataclasses import dataclass
-from typing import Any
+from typing import Any, Literal
 
 from ..cluster import Basis
 from ..live.node_errors import BadFrame, BadMessage
@@ -67,6 +67,18 @@ class LeaveWord:
 
 LEAVE_OFFER = b'{"leave": true}'
 
+# What an error is about, for a program that reads it: a login, a line, a bid, the agent's node at the hub, or the end of the connection.
+ErrorCode = Literal["login", "line", "bid", "node", "end"]
+
+
+class RefusedBid(BadMessage):
+    """A bid is not taken."""
+
+    def __init__(self, text: str, number: int | None) -> None:
+        """Takes why, and the agent's number of the bid, None without one."""
+        super().__init__(text)
+        self.number = number
+
 
 @dataclass(frozen=True)
 class PowerWord:
@@ -98,7 +110,9 @@ def word_of(data: bytes, basis: Basis, kind: DeviceKind | None = None) -> BidUpd
     try:
         return BidUpdate(_offer_of(bid, basis, kind), number)
     except BadFrame as error:
-        raise BadMessage(f"the bid is not taken: {error}") from None
+        raise RefusedBid(f"the bid is not taken: {error}", number) from None
+    except BadMessage as error:
+        raise RefusedBid(str(error), number) from None
 
 
 def _offer_of(bid: dict[str, Any], basis: Basis, kind: DeviceKind | None) -> dict[str, Any]:
@@ -187,6 +201,6 @@ def update_of(told: ControlMessage) -> bytes:
     return _line({"priceUpdate": update})
 
 
-def error_line(text: str) -> bytes:
-    """What is wrong, and what to do."""
-    return _line({"error": text})
+def error_line(text: str, code: ErrorCode, number: int | None = None) -> bytes:
+    """What is wrong, and what to do; what it is about; and the agent's number of the bid that it is about, None without one."""
+    return _line({"error": text, "code": code} | ({} if number is None else {"bidNumber": number}))

@@ -169,7 +169,7 @@ class Hub:
     async def _serve(self, channel: Channel, guest: Guest) -> None:
         """Works one connection."""
         if not self.is_up:
-            await channel.write(error_line("the hub ends: connect again later"))
+            await channel.write(error_line("the hub ends: connect again later", "end"))
             await channel.close()
             return
         connection = Connection(channel, lambda line: self._login(line, guest), self._welcome, self.settings.basis, self._lines)

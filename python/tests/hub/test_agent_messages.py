@@ -7,6 +7,8 @@ import json
 import pytest
 
 from cogmaula.cluster import Basis
+from cogmaula.hub.agent_connection import code_of
+from cogmaula.hub.login_refusals import LineTooLong, NoLogin, NodeDown, WrongLogin
 from cogmaula.hub.agent_messages import Cluster, LeaveWord, Login, error_line, update_of, quoted, welcome, word_of
 from cogmaula.live import BadMessage
 from cogmaula.live.frames import Points, Stated
@@ -124,8 +126,9 @@ def test_what_the_hub_says():
     assert json.loads(update_of(SetpointMessage.of(json.dumps(told).encode()))) == {"priceUpdate": due}
     silent = {"market": "silent", "since": "2026-01-31T06:30:00.000Z", "power": 0, "why": "no heartbeat"}
     assert json.loads(update_of(SilentMessage.of(json.dumps(silent).encode()))) == {"marketUpdate": silent}
-    assert json.loads(error_line("wrong\nthing")) == {"error": "wrong\nthing"}
-    assert b"\n" not in error_line("wrong\nthing")
+    assert json.loads(error_line("wrong\nthing", "line")) == {"error": "wrong\nthing", "code": "line"}
+    assert json.loads(error_line("wrong", "bid", 7)) == {"error": "wrong", "code": "bid", "bidNumber": 7}
+    assert b"\n" not in error_line("wrong\nthing", "line")
     assert json.loads(welcome("house", Cluster("street", "heat", "GBP"), Basis(-5, 5, 3), "0123456789abcdef", "now", 300.0)) == {
         "agentId": "house",
         "clusterId": "street",
@@ -139,3 +142,23 @@ def test_what_the_hub_says():
 def test_what_came_is_quoted_in_one_short_line():
     assert quoted("a\nb") == r"'a\nb'"
     assert len(quoted("x" * 10_000)) < 100
+
+
+@pytest.mark.parametrize(
+    ("line", "code", "number"),
+    [
+        ({"bidUpdate": {"bidNumber": 7, "demandArray": [1]}}, "bid", 7),
+        ({"bidUpdate": {"bidNumber": 7, "pricePoints": 3}}, "bid", 7),
+        ({"bidUpdate": {"demandArray": [1]}}, "bid", None),
+        ({"bidUpdate": {"bidNumber": -1, "demandArray": [1]}}, "line", None),
+        ({"device": {"kind": "reactor"}}, "line", None),
+    ],
+)
+def test_an_error_says_by_a_code_what_it_is_about_and_names_the_bid(line, code, number):
+    with pytest.raises(BadMessage) as found:
+        word_of(json.dumps(line).encode(), Basis(0, 9, 10))
+    assert (code_of(found.value), getattr(found.value, "number", None)) == (code, number)
+
+
+def test_codes_of_other_errors():
+    assert [code_of(error) for error in (WrongLogin(), NoLogin(), LineTooLong(), NodeDown())] == ["login", "login", "line", "node"]

@@ -190,7 +190,7 @@ def test_an_end_is_told_and_closes():
         channel.connection.end("the hub ends")
         channel.connection.end("and once more")
         await channel.work
-        assert channel.written[1:] == [{"error": "the hub ends"}]
+        assert channel.written[1:] == [{"error": "the hub ends", "code": "end"}]
         assert channel.is_closed
         assert table.said == ["house (192.0.2.1:5): the hub ends"]
 
