@@ -65,8 +65,24 @@ def require_types(kind: type[Any], table: Mapping[str, Any], name: str) -> None:
 
 def _members_of(kind: type[Any]) -> dict[str, tuple[Field[Any], Any]]:
     """The members of a dataclass that a table may have, each with its type."""
-    hints = typing.get_type_hints(kind)
+    hints = _hints_of(kind)
     return {field.name: (field, hints[field.name]) for field in fields(kind) if field.init}
+
+
+class _NotInTables:
+    """What only a checker of types knows, such as a type of a package that is loaded late. No table has such a value."""
+
+
+def _hints_of(kind: type[Any]) -> dict[str, Any]:
+    """The type of each member of a dataclass."""
+    unknown: dict[str, Any] = {}
+    while True:
+        try:
+            return typing.get_type_hints(kind, localns=unknown)
+        except NameError as error:
+            if error.name in unknown:
+                raise
+            unknown[error.name] = _NotInTables
 
 
 def _is_needed(field: Field[Any]) -> bool:
