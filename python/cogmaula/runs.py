@@ -15,6 +15,7 @@ from .cluster import Cluster
 from .errors import NoPackage
 from .moments import later, zone_name
 from .money import Rate, currency_of
+from .nodes import Limited
 from .phases import Tick
 from .program import Program, found_program
 from .states import Bid, Snapshot, last_snapshot
@@ -181,6 +182,12 @@ class Run:
         from .figures.stores import Stores
 
         return Stores.of(self.cluster, self.held, self.held.powers)
+
+    @cached_property
+    def group_loads(self) -> list[list[int]]:
+        """For each limited group, in the order of the file, the sum of the bids below it at the end of each phase, in watts."""
+        groups = [node for node in self.cluster.nodes if isinstance(node, Limited)]
+        return [[end.groups[at].total for end in self.ends] for at in range(len(groups))]
 
     def bids_of_connection(self, name: str) -> list[Bid]:
         """The bid that a manual device has over each tick."""

@@ -194,7 +194,7 @@ def minutes_outside_of(run: Run) -> dict[str, int]:
     """For how long each limited group was outside its limits."""
     found = {}
     for at, node in enumerate(node for node in run.cluster.nodes if isinstance(node, Limited)):
-        loads = [end.groups[at].total for end in run.ends]
+        loads = run.group_loads[at]
         is_out = [not node.floor <= load <= node.ceiling for load in loads]
         found[node.name] = sum(minutes for out, minutes in zip(is_out, run.durations, strict=True) if out)
     return found

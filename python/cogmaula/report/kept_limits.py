@@ -7,7 +7,6 @@ from dataclasses import dataclass
 
 from ..nodes import Limited
 from ..runs import Run
-from ..texts import GroupEnd
 from .intervals import Interval
 
 
@@ -58,12 +57,11 @@ def groups_of(run: Run, intervals: Sequence[Interval]) -> list[Group]:
 
 def group_of(run: Run, intervals: Sequence[Interval], node: Limited, at: int) -> Group:
     """The limited group of a node, which comes at place `at` among those of each phase's end."""
-    ends = [end.groups[at] for end in run.ends]
-    held = [ends[interval.phases - 1] if interval.phases else GroupEnd(node.name, 0, 0, 0) for interval in intervals]
-    loads = tuple(end.total for end in held)
-    outside = sum(not node.floor <= end.total <= node.ceiling for end in ends)
+    ends = run.group_loads[at]
+    loads = tuple(ends[interval.phases - 1] if interval.phases else 0 for interval in intervals)
+    outside = sum(not node.floor <= load <= node.ceiling for load in ends)
     violations = tuple(violations_of(intervals, loads, node.floor, node.ceiling))
-    return Group(node.name, node.floor, node.ceiling, loads, tuple(end.price for end in held), outside, violations)
+    return Group(node.name, node.floor, node.ceiling, loads, tuple(run.held.prices[:, 1 + at].tolist()), outside, violations)
 
 
 def violations_of(intervals: Sequence[Interval], loads: Sequence[int], floor: int, ceiling: int) -> Iterator[Violation]:

@@ -139,8 +139,8 @@ def priced(currency: Currency, market: Sequence[int], groups: Mapping[str, Seque
 
 def held_prices(found: Findings) -> list[int]:
     """The market's price over each interval; before the first phase the lowest, at which an empty market clears."""
-    ends = found.run.ends
-    return [ends[interval.phases - 1].price if interval.phases else found.run.cluster.basis.min for interval in found.intervals]
+    held, lowest = found.run.held, found.run.cluster.basis.min
+    return [price if phases else lowest for price, phases in zip(held.prices[:, 0].tolist(), held.phases.tolist(), strict=True)]
 
 
 def limits(found: Findings) -> Iterator[str]:

@@ -119,6 +119,15 @@ class SimulatedRun(Run):
         )
 
     @cached_property
+    def group_loads(self) -> list[list[int]]:
+        """For each group what its devices take at the end of each phase, in watts."""
+        done, found = self.simulation, list[list[int]]()
+        for group in done.groups:
+            loads = done.noted.powers[:, [done.names.index(name) for name in group.devices]].sum(axis=1, dtype=numpy.int64).tolist()
+            found.append([*loads, loads[-1]])
+        return found
+
+    @cached_property
     def bill(self) -> Bill:
         """The accounts, added up from what holds over each tick."""
         (whole,) = self.held.bills([0])
