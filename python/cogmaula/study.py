@@ -128,21 +128,21 @@ class _Job(Generic[T]):
         try:
             file = bytes_of(self.source)
             digest = hashlib.sha256(file).hexdigest()
-            return Outcome(self.name, digest, self.work(file, _program_of(self.program)), "")
+            return Outcome(self.name, digest, self.work(file, program_of(self.program)), "")
         except Exception as error:
             if self.on_error == "raise":
                 raise
             return Outcome(self.name, digest, None, f"{type(error).__name__}: {error}")
 
 
-def _program_of(named: Program | str | None) -> Program:
+def program_of(named: Program | str | None) -> Program:
     """The program that a job is done with."""
     if isinstance(named, Program):
         return named
     return found_program() if named is None else Program.find(named)
 
 
-def _do(job: _Job[T]) -> Outcome[T]:
+def _do(job: Callable[[], Outcome[T]]) -> Outcome[T]:
     """Does a job: a function of this module, so that other processes find it."""
     return job()
 
@@ -190,7 +190,7 @@ def outcomes_of(
     named = sources.items() if isinstance(sources, Mapping) else ((None, source) for source in sources)
     is_far = client is not None
     jobs = [_job_of(name or str(at), source, work, program, on_error, is_far, name) for at, (name, source) in enumerate(named, 1)]
-    outcomes = _by_client(client, jobs) if is_far else _by_processes(processes or count(), jobs)
+    outcomes = by_client(client, jobs) if is_far else by_processes(processes or count(), jobs)
     yield from tracked(outcomes, "study", len(jobs), quiet)
 
 
@@ -212,7 +212,7 @@ def _read(path: str) -> str | bytes:
         return path
 
 
-def _by_processes(processes: int, jobs: Sequence[_Job[T]]) -> Iterator[Outcome[T]]:
+def by_processes(processes: int, jobs: Sequence[Callable[[], Outcome[T]]]) -> Iterator[Outcome[T]]:
     """The outcome of each job, in order, by processes of this machine, each on a processor of its own. A single job is done here."""
     if len(jobs) < 2:
         yield from map(_do, jobs)
@@ -239,7 +239,7 @@ def _begin_worker(queue: Any, parent: int) -> None:
     signal.signal(signal.SIGINT, signal.SIG_IGN)
 
 
-def _by_client(client: Any, jobs: Sequence[_Job[T]]) -> Iterator[Outcome[T]]:
+def by_client(client: Any, jobs: Sequence[Callable[[], Outcome[T]]]) -> Iterator[Outcome[T]]:
     """The outcome of each job, in order, by the workers of a Dask client."""
     for future in client.map(_do, jobs, pure=False):
         yield future.result()

@@ -15,12 +15,14 @@ from ..live.frames import Stated
 from ..live.device_kinds import DeviceKind
 from .battery import Battery
 from .device import BadBid, Bid, Demands, Device
+from .fleet import Fleet
 from .given_devices import Load, Manual, Solar
 from .heating import Boiler, Cogeneration, HeatPump
 from .demands import BidMaker
 from .markets import Group, Market
 from .profiles import Held, Profile
 from .simulating import BidsNotKept, Simulation, simulate
+from .sweep import sweep
 from .vehicle import Vehicle
 
 __all__ = [
@@ -34,6 +36,7 @@ __all__ = [
     "Demands",
     "Device",
     "DeviceKind",
+    "Fleet",
     "Group",
     "HeatPump",
     "Held",
@@ -46,4 +49,5 @@ __all__ = [
     "Stated",
     "Vehicle",
     "simulate",
+    "sweep",
 ]
