@@ -44,6 +44,9 @@ site: ## builds the site of the pages, with a search, into build/site/html; need
 prebuilt: ## puts the programs that were proved here into prebuilt/, with their stamps
 	@bash packaging/prebuilt.sh
 
+sbom: ## writes the bill of materials, sbom.cdx.json
+	@python3 packaging/sbom.py
+
 install: ## installs the proved programs, their pages, completions, examples and units
 	@bash packaging/install.sh install
 

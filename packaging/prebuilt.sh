@@ -25,3 +25,5 @@ for name in market live; do
     put_prebuilt
     echo "prebuilt/x86_64-linux/$name is the proved program: commit it with its stamp"
 done
+# The bill of materials has their hashes.
+[ ! -e packaging/sbom.py ] || python3 packaging/sbom.py

@@ -4,6 +4,7 @@ from __future__ import annotations
 
 from collections.abc import Iterable
 
+from .broker_version import LEAST_TEXT
 from .files import ETC
 
 # The clients of mosquitto, each of which reads a file of its name.
@@ -18,6 +19,12 @@ install -d -m 755 {etc}
 """
 
 _BROKER = """\
+version="$(PATH="$PATH:/usr/sbin" mosquitto -h | sed -n 's/^mosquitto version //p')"
+if [ "$(printf '%s\\n' {least} "$version" | sort -V | head -n 1)" != {least} ]
+then
+    echo "mosquitto is $version, and a market needs {least} or later" >&2
+    exit 1
+fi
 install -m 644 ca.crt broker.crt check_database.sh {etc}
 install -m 600 -o mosquitto {secret} {etc}
 # Where the plugin is depends on the processor.
@@ -54,7 +61,7 @@ def broker_text(has_front: bool) -> str:
     """The script of the broker's folder, with the front if it has one."""
     secret = "broker.key passwords mosquitto.acl subscriptions.json" + (" front.pem" if has_front else "")
     first = _FIRST.format(what="Puts the broker's files on this machine, for Debian's mosquitto.", etc=ETC)
-    return first + _BROKER.format(etc=ETC, secret=secret) + (_FRONT.format(etc=ETC) if has_front else "")
+    return first + _BROKER.format(etc=ETC, secret=secret, least=LEAST_TEXT) + (_FRONT.format(etc=ETC) if has_front else "")
 
 
 def unit_text(what: str, name: str, unit: str, logins: Iterable[str]) -> str:

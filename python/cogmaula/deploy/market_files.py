@@ -13,6 +13,7 @@ from ..live.node_settings import BrokerSettings, Settings
 from ..live.operating import forget_node
 from ..live.toml_tables import value_of
 from . import broker_files, history_files, installing, logins, node_files, site_files
+from .broker_version import require_broker
 from .containers import compose_text
 from .files import OPEN, RUN, SECRET, Places, text_of, write_file
 from .front_files import front_text, front_unit_text
@@ -29,6 +30,7 @@ def init_market(tree: Tree, out: Path) -> list[str]:
     """Makes all files of a market in a new folder. Gives lines about what to do. Raises BadSettings, LiveError and OSError."""
     if out.exists() and any(out.iterdir()):
         raise BadSettings(f"{out} has files: give a new folder, or add a device to that market by `cogmaula market add`")
+    require_broker()
     _make(tree, out)
     first = [f"mosquitto -c {out / 'broker' / 'mosquitto.conf'}"] if tree.market.here else []
     if tree.market.here and tree.has_front:

@@ -13,6 +13,7 @@ from made import TREE, tree_here
 from cogmaula.cli import main
 from cogmaula.deploy import BadSettings, Member, add_device, init_market, keys, read_tree
 from cogmaula.deploy.broker_files import limits_of
+from cogmaula.deploy.broker_version import require_version
 from cogmaula.deploy.containers import compose_text
 from cogmaula.deploy.files import Places
 from cogmaula.deploy.node_files import tables_of
@@ -366,6 +367,21 @@ def test_a_wrong_setting_of_a_node_of_a_site_is_named(tmp_path):
     with pytest.raises(BadSettings, match="s: nodes.a: node.fallback is 'x': give a whole number"):
         init_market(told, tmp_path / "market")
     assert not (tmp_path / "market").exists()
+
+
+@pytest.mark.parametrize(
+    ("told", "is_taken"),
+    [
+        ("mosquitto version 2.0.11\n", True), ("mosquitto version 2.0.20\n", True), ("mosquitto version 2.1.0\n", True), ("", True),
+        ("mosquitto version 2.0.10\n", False), ("mosquitto version 2.0\n", False), ("mosquitto version 1.6.12 (build date x)\n", False),
+    ],
+)
+def test_an_old_mosquitto_is_refused(told, is_taken):
+    if is_taken:
+        require_version(told)
+        return
+    with pytest.raises(BadSettings, match="a market needs 2.0.11 or later: earlier ones do not end the connection"):
+        require_version(told)
 
 
 def require_programs():
