@@ -1,7 +1,8 @@
-"""Whether a device follows its setpoints, by what it measures. All times are seconds of a clock that only rises.
+"""Whether a device follows its setpoints, by what it measures. Times are seconds of a rising clock.
 
-A device that takes something else than it was told for a while raises an alarm. If it goes on, its own bid does not count: the market counts
-what it measures, at every price. After a while its own bid is tried again.
+A device that takes something else than it was told for a while raises an alarm. If it goes on, its
+own bid does not count: the market counts what it measures, at every price. After a while its own
+bid is tried again.
 """
 
 from __future__ import annotations
@@ -21,7 +22,11 @@ QUOTED = 100
 
 @dataclass(frozen=True)
 class Measured:
-    """What a control says of its device: the power that it takes in watts, below 0 if it gives; or that it refuses its setpoint, and why."""
+    """What a control says of its device.
+
+    power:   what it takes in watts, below 0 if it gives; None if that is not said
+    refusal: that it refuses its setpoint, and why, in words
+    """
 
     power: int | None
     refusal: str = ""
@@ -32,7 +37,10 @@ class Measured:
 
     @staticmethod
     def of_line(data: bytes) -> Measured | None:
-        """What a line of a control tells: `{"measured": WATTS}`, or `{"refused": WATTS, "why": ..}`. None of another line. Raises BadMessage."""
+        """What a line tells: `{"measured": WATTS}`, or `{"refused": WATTS, "why": ..}`.
+
+        None of another line. Raises BadMessage.
+        """
         try:
             told = object_of(data, "the line")
         except BadMessage:
@@ -41,7 +49,8 @@ class Measured:
             return Measured(_watts(told["measured"], "measured"))
         if "refused" in told:
             power = _watts(told["refused"], "refused")
-            return Measured(None, f"it refuses {power} W: {str(told.get('why', 'no word why'))[:QUOTED]}")
+            why = str(told.get("why", "no word why"))[:QUOTED]
+            return Measured(None, f"it refuses {power} W: {why}")
         return None
 
     @staticmethod
@@ -61,9 +70,9 @@ class Deviation:
     """What is known of one device's power."""
 
     def __init__(self, watts: float | None, seconds: float) -> None:
-        """Takes by how many watts a device may deviate, None if nothing follows from it, and for how many seconds.
+        """Takes by how many watts a device may deviate, and for how many seconds.
 
-        A measurement that is older than these seconds says nothing.
+        With None watts nothing follows. A measurement that is older than these seconds says nothing.
         """
         self._watts = watts
         self._seconds = seconds
@@ -73,7 +82,7 @@ class Deviation:
         # Since when it deviates, None if it follows, and why if it said so itself.
         self._since: float | None = None
         self._refusal = ""
-        # What the market counts in place of its bid, None if its own bid counts; and what is wrong, in words.
+        # What counts in place of its bid, None if its own bid does; and what is wrong, in words.
         self.counts: int | None = None
         self.alarm = ""
 
@@ -107,7 +116,8 @@ class Deviation:
             return
         self._since = now if self._since is None else self._since
         if now >= self._since + self._seconds or self._refusal:
-            self.alarm = self._refusal or f"the device takes {self._power} W, and was told {self._told} W"
+            takes = f"the device takes {self._power} W, and was told {self._told} W"
+            self.alarm = self._refusal or takes
         if now >= self._since + 2 * self._seconds and self._power is not None:
             self.counts, self._again = self._power, now + TRIED_AGAIN * self._seconds
 
