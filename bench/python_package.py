@@ -1,6 +1,5 @@
 #!/usr/bin/env python3
-"""Measures the Python package: pages of a day of 200 devices, a week and a year, a study of 1,000 files over 1 to 4 processes, a month, and
-a simulation.
+"""Measures the Python package: pages of a day of 200 devices, a week and a year, a study of 1,000 files over 1 to 4 processes, and a month.
 
     python3 bench/python_package.py report         makes the day and its report, five times, each beside a plain run of the program
     python3 bench/python_package.py week           the same of a week of 97 devices, which is longer than one run, once
@@ -8,7 +7,6 @@ a simulation.
     python3 bench/python_package.py year           makes the page of a house's year, with its connection, once
     python3 bench/python_package.py study [MANY]   makes so many files and runs them over 1, 2, 3 and 4 processes
     python3 bench/python_package.py month          makes a month of 156 devices, and runs it day by day
-    python3 bench/python_package.py simulation     lets 50 models bid and step 10,000 times, once in one market and once in five groups
 
 It needs matplotlib, and the proved program of this checkout or the one that COGMAULA_MARKET names. It prints a line for each
 measurement, with the load of the machine.
@@ -24,15 +22,12 @@ import tempfile
 import time
 from collections.abc import Iterator
 from datetime import datetime, timedelta
-from datetime import time as clock
 from pathlib import Path
 
 TOP = Path(__file__).resolve().parent.parent
 sys.path.insert(0, str(TOP / "python"))
 
 from cogmaula import Basis, Battery, Cluster, Events, Limited, Load, Manual, Node, Program, Solar, State, Tick, parts_of, run_parts
-from cogmaula import simulation
-from cogmaula.simulation import Device, Group, Held, Vehicle
 from cogmaula.study import study
 
 # The quarters of an hour of a day, and of each file of a study.
@@ -216,37 +211,6 @@ def measure_study(folder: Path, many: int) -> None:
         print(f"study of {many} files over {processes} processes: {told}, {load()}")
 
 
-def models_of(houses: int) -> list[Device]:
-    """The models of so many houses, five each: a load, a roof, a battery, a vehicle and a heat pump."""
-    start = datetime(2026, 1, 1)
-    weather = Held(start, 60, [2 + 5 * math.sin(math.pi * (hour - 8) / 12) for hour in range(24)], repeats=True)
-    sun = Held(start, 15, [max(0.0, 4000 - 5 * (quarter - 48) ** 2) for quarter in range(DAY)], repeats=True)
-    drawn = Held(start, 15, [300 + quarter * 7 % 400 for quarter in range(DAY)], repeats=True)
-    found: list[Device] = []
-    for at in range(houses):
-        house = {"power": 1500, "loss": 150, "constant": 60, "outdoor": weather, "low": 19, "high": 22, "prices": (20, 80)}
-        found += [
-            simulation.Load(name=f"house{at}", power=drawn),
-            simulation.Solar(name=f"roof{at}", power=sun),
-            simulation.Battery(f"store{at}", 5000 + 100 * at, 2000, 2000, (10, 90), 500 + 50 * at, efficiency=0.9),
-            Vehicle(name=f"car{at}", power=3700, arrival=clock(17 + at % 3), departure=clock(7), needed=8000, prices=(20, 90)),
-            simulation.HeatPump(name=f"pump{at}", temperature=20.5 + at / 10, **house),
-        ]
-    return found
-
-
-def measure_simulation(ticks: int) -> None:
-    """So many ticks of 50 models in a market of 100 steps."""
-    feeders = [Group(f"feeder{at}", -5000, 8000, tuple(model.name for model in models_of(10) if int(model.name[-1]) % 5 == at)) for at in range(5)]
-    for told, groups in (("one market", []), ("five groups with limits", feeders)):
-        begun, used = time.monotonic(), processor_time()
-        done = simulation.simulate(models_of(10), Basis(0, 99, 100), ticks=ticks, groups=groups, program=Program.find(TOP))
-        took, used = time.monotonic() - begun, processor_time() - used
-        prices = len({end.price for end in done.ends})
-        memory = resource.getrusage(resource.RUSAGE_SELF).ru_maxrss // 1024
-        print(f"{ticks} ticks of 50 models in {told}: {took:.1f} s, {used:.1f} s of a processor, {memory} MB, {prices} prices, {load()}")
-
-
 def main() -> int:
     """Measures what the words ask for."""
     with tempfile.TemporaryDirectory() as folder:
@@ -263,8 +227,6 @@ def main() -> int:
                 measure_study(Path(folder), 1000)
             case ["month"]:
                 measure_month(Path(folder))
-            case ["simulation"]:
-                measure_simulation(10_000)
             case ["study", many] if many.isdigit():
                 measure_study(Path(folder), int(many))
             case _:

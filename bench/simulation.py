@@ -1,8 +1,8 @@
 """Measures simulations beside an auction in numpy that knows nothing of the proved program, with the same models in the same run.
 
     python3 bench/simulation.py sizes         10 x 960, 40 x 35,040, 160 x 384 and 640 x 96 devices and ticks
-    python3 bench/simulation.py year          a year of a street of 40 houses, in groups with limits, and its page
-    python3 bench/simulation.py sweep [N]     N scenarios of three days on two workers, 200 by default
+    python3 bench/simulation.py small         the same without 40 x 35,040
+    python3 bench/simulation.py year          a year of 52 devices in four groups with limits, and its page
 
 Both have to come to the same prices and powers.
 """
