@@ -10,6 +10,7 @@ ten have measured powers each minute. PostgreSQL is a server of its own, as Debi
 from __future__ import annotations
 
 import contextlib
+import json
 import logging
 import os
 import random
@@ -31,7 +32,7 @@ from cogmaula.report.history_day import history_page  # noqa: E402
 
 DAY = datetime(2026, 12, 1, tzinfo=UTC)
 BEGIN, SECONDS_OF_DAY, RELAYS, SESSION = int(DAY.timestamp()), 86_400, 20, "0123456789abcdef"
-MEASURED_EACH = 60
+MEASURED_EACH, STEPS = 60, 40
 POSTGRES = Path("/usr/lib/postgresql/15/bin")
 
 
@@ -42,21 +43,24 @@ def state(node: str, sort: str, parent: str | None, child: int | None) -> Row:
     return Row("states", {"node": node, "run": "0", "at": BEGIN - 60.0, "state": "up", **place, **told})
 
 
-def rows_at(devices: int, clearing: int, at: float, chance: random.Random) -> list[Row]:
-    """The rows of one clearing."""
+def rows_at(devices: int, clearing: int, at: float, bids: dict[int, tuple[int, int]], chance: random.Random) -> list[Row]:
+    """The rows of one clearing. `bids` has the number of each device's newest bid, and its watts at step 0: one in ten bids anew."""
     found, price = [], chance.randrange(20, 40)
-    common = {"number": 2 * clearing, "step": price, "price": price, "at": at}
+    common = {"step": price, "price": price, "at": at}
     for relay in range(RELAYS):
-        found.append(Row("prices", {"session": SESSION, "parent": "auctioneer", "child": relay + 1, "clearing": clearing, **common}))
+        key = {"session": SESSION, "parent": "auctioneer", "child": relay + 1, "clearing": clearing, "number": 2 * clearing}
+        found.append(Row("prices", {**key, **common}))
     for device in range(devices):
         key = {"session": SESSION, "parent": f"relay{device % RELAYS}", "child": device // RELAYS + 1, "clearing": clearing}
-        found.append(Row("prices", {**key, **common}))
-        power = chance.randrange(-3_000, 5_000)
-        found.append(Row("setpoints", {"session": SESSION, "device": f"device{device}", "clearing": clearing, **common, "power": power}))
-        if chance.random() < 0.1:
-            demands = "[" + ", ".join(["1234"] * 20) + "]"
-            number = {"number": 2 * clearing, "at": at, "demands": demands}
-            found.append(Row("bids", {"session": SESSION, "parent": key["parent"], "child": key["child"], **number}))
+        if device not in bids or chance.random() < 0.1:
+            bids[device] = 2 * clearing, chance.randrange(-3_000, 5_000)
+            demands = json.dumps([bids[device][1] - 10 * step for step in range(STEPS)])
+            told = {"number": 2 * clearing, "at": at, "demands": demands}
+            found.append(Row("bids", {"session": SESSION, "parent": key["parent"], "child": key["child"], **told}))
+        number, power = bids[device][0], bids[device][1] - 10 * price
+        found.append(Row("prices", {**key, **common, "number": number}))
+        own = {"session": SESSION, "device": f"device{device}", "clearing": clearing, "number": number}
+        found.append(Row("setpoints", {**own, **common, "power": power}))
         if device % 10 and int(at) % MEASURED_EACH == 0:
             found.append(Row("measured", {"device": f"device{device}", "at": at, "power": power}))
     return found
@@ -116,9 +120,9 @@ def make_day(database: Database, devices: int, each: int) -> int:
     begin += [state(f"relay{relay}", "relay", "auctioneer", relay + 1) for relay in range(RELAYS)]
     begin += [state(f"device{number}", "device", f"relay{number % RELAYS}", number // RELAYS + 1) for number in range(devices)]
     database.put(begin)
-    many = len(begin)
+    many, bids = len(begin), dict[int, tuple[int, int]]()
     for clearing, after in enumerate(range(-each, SECONDS_OF_DAY, each)):
-        told = rows_at(devices, clearing + 1, float(BEGIN + after), chance)
+        told = rows_at(devices, clearing + 1, float(BEGIN + after), bids, chance)
         many += len(told)
         database.put(told)
     return many
