@@ -1,4 +1,4 @@
-//! The parts of a node, driven call by call: sources and sinks; links, caches, windows and sums of bids; the parents, the relay,
+//! The parts of a node, driven call by call: sources, sinks and stores; links, caches, windows and sums of bids; the parents, the relay,
 //! the control of a device; the guard and the lease; and the server of a stream of bids.
 //!
 //! A crate of tests alone: the crates that it tests are proved without them.
@@ -34,6 +34,8 @@ mod session;
 mod shared;
 #[cfg(test)]
 mod silence;
+#[cfg(test)]
+mod store;
 #[cfg(test)]
 mod watched;
 #[cfg(test)]

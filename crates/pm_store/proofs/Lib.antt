@@ -1,0 +1,2 @@
+mod Past
+pub mod Values
