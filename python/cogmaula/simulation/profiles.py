@@ -17,8 +17,11 @@ if TYPE_CHECKING:
 # The greatest share of an energy that whole watts may change: those of kilowatts change more.
 MOST_ROUNDED = 0.05
 
-# A number; a function of the moment; or a series whose values each hold until the next.
-Profile = Union[float, Callable[[datetime], float], "Series"]
+# A number; a function of the moment; or a series whose values each hold until the next, of pandas, which need not be there.
+if TYPE_CHECKING:
+    Profile = Union[float, Callable[[datetime], float], Series]
+else:
+    Profile = float | Callable[[datetime], float]
 
 
 def is_series(profile: object) -> bool:
