@@ -1,4 +1,4 @@
--- Each event keeps a world sound.
+-- Each event keeps a lease sound.
 use Rattle.std.proofs.Common.{◌≡◌, ◌∙◌, sym, ap, subst, refl, ℕ, ◌+◌, ◌<◌, ◌≤◌, Bool, true, Option, Some, None, List}
 use Rattle.std.proofs.Common.{arith, ltb, leb, eqb, ◌&&◌, ◌-◌, ◌⊎◌, inl, inr, le_trans}
 use Rattle.std.proofs.lemmas.Bool.{ltb-true, leb-true, eqb-true, and_parts, or_cases, true≢false, cases_lt, cond-true, cond-false, cond_both, lt-ltb, le-ltb}

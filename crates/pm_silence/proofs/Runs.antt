@@ -1,4 +1,4 @@
--- Each run keeps a world sound, and what that says.
+-- Each run keeps a lease sound, and what that says.
 use Rattle.std.proofs.Common.{◌≡◌, sym, subst, refl, ℕ, ◌+◌, ◌-◌, ◌*◌, ◌<◌, ◌≤◌, true, false, Option, Some, None, List}
 use Rattle.std.proofs.Common.{[], ◌∷◌, arith, le_trans, inl, inr}
 use Rattle.std.proofs.lemmas.Bool.{le-ltb, le-leb, cases_lt}

@@ -1,5 +1,5 @@
--- What holds of each world, and what follows for lists.
-use Rattle.std.proofs.Common.{◌≡◌, ℕ, zero, suc, ◌+◌, ◌<◌, ◌≤◌, Bool, true, false, Option, Some, None, List, [], ◌∷◌, cond, refl}
+-- What holds of each lease, and what follows for lists.
+use Rattle.std.proofs.Common.{◌≡◌, ℕ, zero, suc, ◌+◌, ◌<◌, ◌≤◌, Bool, false, Option, Some, None, List, [], ◌∷◌}
 use Rattle.pm_silence.specs.declared.words.Word.{Word}
 use Rattle.pm_silence.specs.Clocks.{Clocks, IsEnough}
 use Rattle.pm_silence.specs.Leases.{LeaseState, Frame, WordFrame, LeaveFrame, Tick, Stamped, one_of}
@@ -86,7 +86,7 @@ pub record IsHeld (good : ℕ → Type 0) (floor number s : ℕ) : Type 0 where
   -- it is good
   pub sound : good s
 
--- the facts of a word, an answer and a hold in this world
+-- the facts of a word, an answer and a hold in this lease
 abbrev pub good_in : ℕ → ℕ → ℕ → Clocks → LeaseState → ℕ → Type 0
 good_in e grace validity clocks w x = IsGood e grace validity (clocks.control w.life) w.time w.heard_at w.answered_at w.place.counts x
 

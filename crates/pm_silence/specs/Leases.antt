@@ -135,7 +135,7 @@ begun_anew clocks w = record w {
   heard_at = w.time;
 }
 
--- the world after an event; grace is the parent's
+-- the lease after an event; grace is the parent's
 abbrev pub state_after_event : Clocks → ℕ → LeaseState → LeaseEvent → LeaseState
 state_after_event clocks grace w (Passes d) = time_passed w d
 state_after_event clocks grace w (Says ago) = said_word w (word_of w.hold (clocks.control w.life (w.time - ago)))

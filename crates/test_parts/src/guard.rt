@@ -26,7 +26,11 @@ fn a_child_is_told_once_another_promised(rt: HostRuntime) {
     assert!(rt; guard.tell(1, Band::power(2, 50)).expect(&rt, "memory"));
     assert!(rt; guard.choose(&[0, 50]).is_none());
     // Its fallback counts whatever it promises; and under lower limits nothing grows.
-    assert!(rt; guard.tell(0, Band::power(ALWAYS, -30)).expect(&rt, "memory"));
+    assert!(rt;
+        guard
+            .tell(0, Band::power(ALWAYS, -30))
+            .expect(&rt, "memory")
+    );
     guard.take_promise(0, 3);
     assert!(rt; guard.best() == -30 && guard.worst() == 20 && guard.len() == 2);
     guard.set_limits(Limits {

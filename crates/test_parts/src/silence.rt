@@ -23,9 +23,19 @@ fn a_control_holds_by_its_own_words(rt: HostRuntime) {
     assert!(rt; places.hear(0, word, 900) && !places.hear(0, word, 9000));
     hold.take(word.answered(0).expect(&rt, "the clock has run"));
     assert!(rt; hold.holds(120_000, 120_999) && !hold.holds(120_000, 121_000));
-    assert!(rt; places.due(alloc, 150_000, 150_899).expect(&rt, "memory").is_empty());
+    assert!(rt;
+        places
+            .due(alloc, 150_000, 150_899)
+            .expect(&rt, "memory")
+            .is_empty()
+    );
     assert!(rt; places.tick(alloc, 150_000, 150_900).expect(&rt, "memory")[..] == [0]);
-    assert!(rt; places.due(alloc, 150_000, 999_999).expect(&rt, "memory").is_empty());
+    assert!(rt;
+        places
+            .due(alloc, 150_000, 999_999)
+            .expect(&rt, "memory")
+            .is_empty()
+    );
     // Who has left counts no more, and answers to what it said before do not count.
     assert!(rt; hold.leave() == 8);
     hold.take(word);

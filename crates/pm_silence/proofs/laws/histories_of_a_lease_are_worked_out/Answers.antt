@@ -1,5 +1,5 @@
 -- Of `histories_of_a_lease_are_worked_out`: each history computes, and which clocks the law takes.
-use Rattle.std.proofs.Common.{◌≡◌, refl, arith, ℕ, ◌+◌, ◌<◌, true, false, Bool, cond, ltb}
+use Rattle.std.proofs.Common.{refl, arith, ◌+◌, cond, ltb}
 use Rattle.std.proofs.lemmas.Bool.Decides.{nat_tests}
 use Rattle.pm_silence.specs.Clocks.{IsNotSlow, IsNotFast}
 use Rattle.pm_silence.proofs.laws.histories_of_a_lease_are_worked_out.Goals as goal

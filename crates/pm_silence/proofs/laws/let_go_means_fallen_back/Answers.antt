@@ -1,4 +1,4 @@
--- Of `let_go_means_fallen_back`: a run keeps a world sound.
+-- Of `let_go_means_fallen_back`: a run keeps a lease sound.
 use Rattle.pm_silence.specs.Leases.{first_state, states_after}
 use Rattle.pm_silence.proofs.Runs.{starts_sound, run_keeps, not_counted_holds_not}
 use Rattle.pm_silence.proofs.laws.let_go_means_fallen_back.Goals as goal
