@@ -131,7 +131,7 @@ def test_the_variants_of_the_page_run(
     (tmp_path / "house.json").write_text(sunny(3).to_json().replace('"supplier"', '"connection"'))
     monkeypatch.chdir(tmp_path)
     names: dict[str, Any] = {}
-    exec(textwrap.dedent(page[begin : page.index("\n\n[measured", begin)]), names)
+    exec(textwrap.dedent(page[begin : page.index("\n\n[`sweep`]", begin)]), names)
     assert list(names["costs"].index) == [f"capacity={capacity} charge={power}" for capacity in (5000, 10000) for power in (1000, 2500)]
     assert not any(names["costs"]["fault"]) and "self_sufficiency" in capsys.readouterr().out
 

@@ -3,6 +3,9 @@
 from __future__ import annotations
 
 import os
+import subprocess
+import sys
+import textwrap
 from dataclasses import dataclass
 from datetime import datetime
 from pathlib import Path
@@ -15,6 +18,8 @@ from cogmaula import Basis
 from cogmaula.simulation import Load, Manual, simulate, sweep
 from cogmaula.simulation.sweep import outcomes_in
 from cogmaula.study import frame_of
+
+TOP = Path(__file__).resolve().parents[3]
 
 
 @dataclass(frozen=True)
@@ -81,6 +86,18 @@ def test_dask_gives_the_outcomes_of_one_process(program):
     with distributed.LocalCluster(n_workers=1, threads_per_worker=1, processes=False, dashboard_address=None) as workers:
         with distributed.Client(workers) as client:
             assert [outcome.result.cost for outcome in sweep(cost_of, scenarios(), client=client, program=program)] == DUE
+
+
+def test_the_code_of_the_page_runs(program, tmp_path):
+    """As a script: each of eight capacities has its figures, and none a fault."""
+    page = (TOP / "docs" / "REPORTS.md").read_text()
+    begin = page.index("    from cogmaula import Basis\n    from cogmaula.simulation import")
+    more = "\nprint(len(outcomes), {outcome.fault for outcome in outcomes}, outcomes[0].result.batteries['store'].most > 0)\n"
+    (tmp_path / "script.py").write_text(textwrap.dedent(page[begin : page.index("\n\nEach outcome", begin)]) + more)
+    environment = {**os.environ, "PYTHONPATH": str(TOP / "python"), "COGMAULA_MARKET": program.path}
+    told = subprocess.run([sys.executable, "script.py"], cwd=tmp_path, env=environment, capture_output=True, text=True, check=False)
+    assert told.stdout == "8 {''} True\n", told.stderr
+    assert len(list(outcomes_in(tmp_path / "sweep.pickle"))) == 8
 
 
 def test_the_file_of_a_sweep_may_not_be_there(tmp_path):
