@@ -104,6 +104,7 @@ share/doc/market/REPORTS.md
 share/doc/market/SERVE.md
 share/doc/market/TUTORIAL.md
 share/doc/market/examples/README.md
+share/doc/market/sbom.cdx.json
 share/fish/vendor_completions.d/market.fish
 share/man/man1/cogmaula.1
 share/man/man1/market.1
@@ -293,7 +294,8 @@ explains_on_terminal() {
 
 # The units name programs that are installed, as the program and not as a script around it.
 units_are_installed() {
-    [ "$(grep -h '^ExecStart=' "$1"/share/market/units/*)" = "ExecStart=/usr/bin/python3 $1/libexec/market/bridge.py 127.0.0.1:1883 0 99 100 1 /run/market.socket
+    [ "$(grep -h '^ExecStart=' "$1"/share/market/units/*)" = "ExecStart=$1/bin/cogmaula agent /etc/market/agent.toml
+ExecStart=/usr/bin/python3 $1/libexec/market/bridge.py 127.0.0.1:1883 0 99 100 1 /run/market.socket
 ExecStart=$1/bin/cogmaula hub --config /etc/market/hub.toml --key %d/key
 ExecStart=$1/libexec/market/market serve" ]
 }
