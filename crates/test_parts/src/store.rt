@@ -2,7 +2,7 @@
 
 use crate::same::same;
 use pm_io::Failed;
-use pm_store::{MemoryRow, MemoryStore, RowStore, Store, stored_kept, stored_start, node_value};
+use pm_store::{MemoryRow, MemoryStore, RowStore, Store, node_value, stored_kept, stored_start};
 
 /// The value that start 258 put, with the Resume 5 6 and the Bid 7.
 const VALUE: &[u8] = &[0, 0, 0, 0, 0, 0, 1, 2, 0, 0, 0, 0, 0, 0, 0, 2, 5, 6, 7];
