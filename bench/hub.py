@@ -26,7 +26,7 @@ sys.path[:0] = [str(TOP / folder) for folder in ("python", "python/tests/hub", "
 from brokers import Certificates, live_program, wait_until  # noqa: E402
 from hubs import STEPS, HubProcess, TcpAgent, silent_connections, tokens_in  # noqa: E402
 
-from cogmaula.live.serving import LIVED  # noqa: E402
+from cogmaula.live.node.service_runner import LIVED  # noqa: E402
 
 PROCESSOR_TICKS = os.sysconf("SC_CLK_TCK")
 
@@ -84,7 +84,7 @@ def rest(folder, agents=256, seconds=60):
 
 def records(folder, agents=256, times=20):
     """Each clearing moves the step, so all agents are told a price."""
-    from cogmaula.live.compressing import compress
+    from cogmaula.live.node.compressing import compress
 
     recordings = folder / "recorded"
     tokens = tokens_in(folder, {f"agent{number}": number for number in range(1, agents + 1)})

@@ -23,10 +23,10 @@ import cProfile  # noqa: E402
 
 from cogmaula import logs  # noqa: E402
 from cogmaula.live import settings_of  # noqa: E402
-from cogmaula.live.letting import Letting  # noqa: E402
-from cogmaula.live.node_errors import LiveError  # noqa: E402
-from cogmaula.live.site import Site  # noqa: E402
-from cogmaula.live.site_settings import SiteSettings  # noqa: E402
+from cogmaula.live.children.child_manager import ChildManager  # noqa: E402
+from cogmaula.live.node.node_errors import LiveError  # noqa: E402
+from cogmaula.live.site.site import Site  # noqa: E402
+from cogmaula.live.site.site_settings import SiteSettings  # noqa: E402
 
 LAST_SECONDS = 20
 
@@ -44,13 +44,13 @@ class Nodes:
 
     def _count(self):
         """Counts the bids that the nodes of the process are told."""
-        take = Letting.take_bid
+        take = ChildManager.take_bid
 
         def counted(letting, child, message, now):
             self.heard += 1
             take(letting, child, message, now)
 
-        Letting.take_bid = counted
+        ChildManager.take_bid = counted
 
     def _turned(self):
         """Begins the profile, in the thread of the site."""

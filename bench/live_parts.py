@@ -85,7 +85,7 @@ def load():
 def store_ms(folder, count=50):
     """The milliseconds that a store of a Resume takes there, as the mean of some."""
     sys.path.insert(0, str(Path(__file__).resolve().parent.parent / "python"))
-    from cogmaula.live.safely import replace_safely
+    from cogmaula.live.node.safely import replace_safely
 
     began = time.monotonic()
     for _ in range(count):

@@ -125,7 +125,7 @@ FILES
     for file in examples/*.json examples/*.txt examples/serve/*.py examples/live/* examples/hub/[!m]* examples/cookbook/* examples/devices/*.py examples/devices/*.toml examples/neighbourhood/* pictures/*.svg pictures/*.png; do
         echo "share/doc/market/$file"
     done
-    for file in python/cogmaula/*.py python/cogmaula/*/*.py python/cogmaula/py.typed python/cogmaula/*.json python/cogmaula/live/page.[chj]* python/cogmaula/deploy/unit.service python/cogmaula/deploy/Dockerfile python/cogmaula/deploy/check_database.sh python/cogmaula/history/schema.sql; do
+    for file in python/cogmaula/*.py python/cogmaula/*/*.py python/cogmaula/live/*/*.py python/cogmaula/py.typed python/cogmaula/*.json python/cogmaula/live/page/page.[chj]* python/cogmaula/deploy/unit.service python/cogmaula/deploy/Dockerfile python/cogmaula/deploy/check_database.sh python/cogmaula/history/schema.sql; do
         echo "share/market/$file"
     done
 }

@@ -8,7 +8,7 @@
 | limits | the constants of crates/*/src | checks/facts.py, python/cogmaula/program_limits.py, tables of pages and market.1 |
 | kinds of node | pm_scene and pm_device; cluster.schema.json has their members and limits for checks and Python | checks/facts.py, market.1 |
 | refusals | crates/pm_plan/src/refusal.rt has the numbers, script/refusals.toml the words | script/words.sh, python/cogmaula/refusals.py, pages |
-| exit statuses | crates/pm_answer/src/status.rt has the numbers, script/statuses.toml the words | the same, market.1, python/cogmaula/live/statuses.py |
+| exit statuses | crates/pm_answer/src/status.rt has the numbers, script/statuses.toml the words | the same, market.1, python/cogmaula/live/node/statuses.py |
 
 A table in a page or a script stands between a line with `table NAME` and one with `table end`, each as a comment of its file.
 """
@@ -325,7 +325,7 @@ FILES: dict[str, Callable[[], str]] = {
     "checks/facts.py": facts_of_checks,
     "python/cogmaula/program_limits.py": limits_of_package,
     "python/cogmaula/refusals.py": refusals_of_package,
-    "python/cogmaula/live/statuses.py": statuses_of_package,
+    "python/cogmaula/live/node/statuses.py": statuses_of_package,
 }
 TABLES: dict[str, dict[str, Callable[[], str]]] = {
     "script/words.sh": {"refusals": refusals_of_shell, "help": statuses_of_help, "statuses": statuses_of_shell, "remedies": remedies_of_shell},

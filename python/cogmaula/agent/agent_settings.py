@@ -10,10 +10,10 @@ from dataclasses import dataclass
 from pathlib import Path
 from typing import Any
 
-from ..live.node_errors import BadFrame, BadSettings
-from ..live.device_kinds import DeviceKind
-from ..live.toml_tables import read_tables, value_of
-from ..live.topics import require_name, require_prefix
+from ..live.node.node_errors import BadFrame, BadSettings
+from ..live.device.device_kinds import DeviceKind
+from ..live.node.toml_tables import read_tables, value_of
+from ..live.messages.topics import require_name, require_prefix
 from ..simulation import Battery, Boiler, Cogeneration, Device, HeatPump, Load, Solar, Vehicle
 from .device_values import UNITS, NoReading, Place
 from .guard import Limits

@@ -8,7 +8,7 @@ from dataclasses import dataclass
 from typing import Any
 
 from ..errors import MarketError
-from ..live.node_errors import BadSettings
+from ..live.node.node_errors import BadSettings
 
 # What one of each unit is in the agent's own: watts, watt-hours, degrees. A percent is one of the capacity of the device.
 UNITS = {"W": 1.0, "kW": 1_000.0, "MW": 1_000_000.0, "Wh": 1.0, "kWh": 1_000.0, "MWh": 1_000_000.0, "C": 1.0, "%": 0.01}

@@ -8,8 +8,8 @@ from __future__ import annotations
 
 from dataclasses import dataclass
 
-from ..live.node_errors import BadSettings
-from ..live.frames import AnyOffer, Offer, Points, Stated
+from ..live.node.node_errors import BadSettings
+from ..live.messages.frames import AnyOffer, Offer, Points, Stated
 from ..logs import NodeLog
 
 

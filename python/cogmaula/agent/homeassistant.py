@@ -12,8 +12,8 @@ from collections.abc import Callable, Mapping
 from dataclasses import dataclass
 from typing import Any
 
-from ..live.node_errors import BadSettings
-from ..live.frames import AnyOffer, Offer, Points, Stated
+from ..live.node.node_errors import BadSettings
+from ..live.messages.frames import AnyOffer, Offer, Points, Stated
 from ..version import __version__
 from .mqtt import BrokerPlace, Client
 

@@ -17,13 +17,13 @@ from pathlib import Path
 from typing import Any, Protocol
 
 from ..cluster import Basis
-from ..live.node_errors import BadMessage
-from ..live.frames import AnyOffer, Leave, Offer, Points, Stated
-from ..live.broker_link import Message
-from ..live.messages import members_of, object_of
-from ..live.node_states import NodeStates
-from ..live.sessions import now_text, time_of
-from ..live.topics import Topics
+from ..live.node.node_errors import BadMessage
+from ..live.messages.frames import AnyOffer, Leave, Offer, Points, Stated
+from ..live.broker.broker_link import Message
+from ..live.messages.messages import members_of, object_of
+from ..live.node.node_states import NodeStates
+from ..live.node.sessions import now_text, time_of
+from ..live.messages.topics import Topics
 from ..logs import NodeLog
 from .mqtt import BrokerPlace, Client
 

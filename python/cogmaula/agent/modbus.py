@@ -14,7 +14,7 @@ from dataclasses import dataclass
 from typing import Any
 
 from ..errors import NoPackage
-from ..live.node_errors import BadSettings
+from ..live.node.node_errors import BadSettings
 from .device_values import NoReading, NotWritten, Place
 
 # The formats of the types of values, most significant byte first.

@@ -11,9 +11,9 @@ from dataclasses import dataclass
 from typing import Any
 
 from ..errors import NoPackage
-from ..live.connection import send_at_once
-from ..live.node_errors import BadSettings
-from ..live.safely import read_password
+from ..live.broker.connection import send_at_once
+from ..live.node.node_errors import BadSettings
+from ..live.node.safely import read_password
 from .device_values import NoReading, NotWritten, Place, number_in, require_pointer, text_with
 
 # The seconds within which the broker has to confirm a message, its keepalive, and the most between tries to connect.

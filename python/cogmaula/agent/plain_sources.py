@@ -11,7 +11,7 @@ import urllib.request
 from dataclasses import dataclass
 from pathlib import Path
 
-from ..live.node_errors import BadSettings
+from ..live.node.node_errors import BadSettings
 from .device_values import NoReading, NotWritten, Place, number_in, require_pointer, text_with
 
 # The most bytes of an answer.

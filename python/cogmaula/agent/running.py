@@ -13,7 +13,7 @@ from datetime import datetime
 
 from .. import clock
 from ..cluster import Basis
-from ..live.frames import AnyOffer, Offer
+from ..live.messages.frames import AnyOffer, Offer
 from ..logs import NodeLog
 from ..simulation.device import BadBid, offer_of
 from .guard import Guard

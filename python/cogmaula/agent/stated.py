@@ -4,8 +4,8 @@ from __future__ import annotations
 
 from datetime import datetime
 
-from ..live.frames import Stated
-from ..live.device_kinds import DeviceKind
+from ..live.messages.frames import Stated
+from ..live.device.device_kinds import DeviceKind
 from ..simulation import Bid
 
 

@@ -8,7 +8,7 @@ import signal
 import sys
 
 from .. import cli, logs
-from ..live.node_errors import BadSettings
+from ..live.node.node_errors import BadSettings
 
 CALLS_PROGRAM = False
 HELP = "is the agent of a real device: reads its state, bids by a model, and writes the power that the market tells"
@@ -26,7 +26,7 @@ def add_arguments(parser: argparse.ArgumentParser) -> None:
 def main(arguments: argparse.Namespace) -> int:
     """Runs the agent until a signal ends it."""
     from ..agent import Agent, read_agent_toml
-    from ..live.notifying import Notifier
+    from ..live.node.notifying import Notifier
 
     logs.show("cogmaula agent")
     notifier = Notifier(os.environ)

@@ -12,10 +12,10 @@ from datetime import datetime, timedelta
 from .. import cli, logs
 from ..history import Database, Keeper, open_database
 from ..history.days import span_of
-from ..live.node_errors import BadSettings
-from ..live.notifying import Notifier
-from ..live.node_settings import BrokerSettings, read_toml
-from ..live.toml_tables import value_of
+from ..live.node.node_errors import BadSettings
+from ..live.node.notifying import Notifier
+from ..live.node.node_settings import BrokerSettings, read_toml
+from ..live.node.toml_tables import value_of
 
 CALLS_PROGRAM = False
 HELP = "keeps the clearings, bids, setpoints, limits and states of a market in SQLite or PostgreSQL"

@@ -14,8 +14,8 @@ from typing import Any
 from .. import cli, logs
 from ..hub.hub_settings import HubSettings, hub_settings_of, read_hub_toml
 from ..hub.tokens import TokenFile, child_of, children_in, write_token
-from ..live.node_errors import BadSettings, NodeRefused
-from ..live.topics import require_name
+from ..live.node.node_errors import BadSettings, NodeRefused
+from ..live.messages.topics import require_name
 from ..program import LIVE_VARIABLE
 
 CALLS_PROGRAM = False
@@ -136,7 +136,7 @@ def _draw_tokens(settings: HubSettings, children: Mapping[str, int], into: str |
 
 def _run(settings: HubSettings) -> int:
     from ..hub.hub import Hub
-    from ..live.notifying import Notifier
+    from ..live.node.notifying import Notifier
 
     logs.show("cogmaula hub", settings.name)
     allow_files()

@@ -13,12 +13,12 @@ from ..deploy import Member, add_device, fence_settings, init_market, read_tree,
 from ..deploy.time_line import time_line
 from ..history import open_database
 from ..history.why import lines_of, why
-from ..live.node_errors import BadSettings, LiveError
-from ..live.fencing import fence
-from ..live.given_limits import LimitsMessage
-from ..live.operating import clear, drop, give_limits
-from ..live.node_settings import BrokerSettings, read_toml
-from ..live.toml_tables import value_of
+from ..live.node.node_errors import BadSettings, LiveError
+from ..live.node.fencing import fence
+from ..live.children.given_limits import LimitsMessage
+from ..live.broker.operating import clear, drop, give_limits
+from ..live.node.node_settings import BrokerSettings, read_toml
+from ..live.node.toml_tables import value_of
 
 CALLS_PROGRAM = False
 HELP = "makes and changes the files of a market at a broker, and says an operator's words to it"

@@ -9,9 +9,9 @@ import sys
 from typing import Any
 
 from .. import cli, logs
-from ..live.node_errors import BadSettings, NodeRefused, OtherTerms
-from ..live.frames import SORTS
-from ..live.node_settings import PASSWORD_VARIABLE, read_toml, settings_of
+from ..live.node.node_errors import BadSettings, NodeRefused, OtherTerms
+from ..live.messages.frames import SORTS
+from ..live.node.node_settings import PASSWORD_VARIABLE, read_toml, settings_of
 from ..program import LIVE_VARIABLE
 
 CALLS_PROGRAM = False
@@ -100,8 +100,8 @@ def _tables_of(arguments: argparse.Namespace) -> dict[str, dict[str, Any]]:
 
 def main(arguments: argparse.Namespace) -> int:
     """Runs the node until a signal ends it."""
-    from ..live.node import make_node
-    from ..live.notifying import Notifier
+    from ..live.node.node import make_node
+    from ..live.node.notifying import Notifier
 
     notifier = Notifier(os.environ)
     try:

@@ -98,7 +98,7 @@ def _report_history(arguments: argparse.Namespace, currency: Currency | None) ->
     """Writes the page of a day of a history."""
     # These load what a live market needs.
     from ..history import open_database
-    from ..live.node_errors import BadSettings
+    from ..live.node.node_errors import BadSettings
 
     if given := [name for name in OF_FILE if getattr(arguments, name) is not None]:
         arguments.fail(f"--{given[0]} goes with a cluster FILE")

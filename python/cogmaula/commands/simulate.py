@@ -8,8 +8,8 @@ import sys
 
 from .. import cli, logs
 from ..cluster import Cluster, bytes_of
-from ..live.node_errors import BadSettings
-from ..live.page_settings import PageSettings
+from ..live.node.node_errors import BadSettings
+from ..live.page.page_settings import PageSettings
 from ..program import LIVE_VARIABLE, live_at, live_program
 from .hub import allow_files
 

@@ -8,7 +8,7 @@ import signal
 import sys
 
 from .. import cli, logs
-from ..live.node_errors import BadSettings, LiveError, NodeRefused
+from ..live.node.node_errors import BadSettings, LiveError, NodeRefused
 
 CALLS_PROGRAM = False
 HELP = "runs many nodes of a market in one process, over one connection to an MQTT broker"
@@ -29,9 +29,9 @@ def add_arguments(parser: argparse.ArgumentParser) -> None:
 
 def main(arguments: argparse.Namespace) -> int:
     """Runs the site until a signal ends it."""
-    from ..live.notifying import Notifier
-    from ..live.site import Site
-    from ..live.site_settings import read_site
+    from ..live.node.notifying import Notifier
+    from ..live.site.site import Site
+    from ..live.site.site_settings import read_site
 
     notifier = Notifier(os.environ)
     try:

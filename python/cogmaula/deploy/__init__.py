@@ -5,7 +5,7 @@
     init_market(read_tree("TREE.toml"), Path("market"))
 """
 
-from ..live.node_errors import BadSettings
+from ..live.node.node_errors import BadSettings
 from .market_files import add_device, fence_settings, init_market, renumber_device, revoke_login, rotate_login
 from .market_file import Login, Member, Tree, read_tree
 

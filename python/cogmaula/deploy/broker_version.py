@@ -6,7 +6,7 @@ import re
 import shutil
 import subprocess
 
-from ..live.node_errors import BadSettings
+from ..live.node.node_errors import BadSettings
 
 LEAST = (2, 0, 11)
 LEAST_TEXT = ".".join(map(str, LEAST))

@@ -8,7 +8,7 @@ import signal
 from dataclasses import replace
 from pathlib import Path
 
-from ..live.node_errors import BadSettings, LiveError
+from ..live.node.node_errors import BadSettings, LiveError
 from .files import OPEN, SECRET, Places, write_file
 from .market_file import Member, Tree
 from .node_files import folders_of

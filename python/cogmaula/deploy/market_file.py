@@ -12,9 +12,9 @@ from typing import Any, Literal, cast
 from urllib.parse import urlsplit
 
 from ..cluster import Basis
-from ..live.node_errors import BadSettings
-from ..live.frames import CHILDREN, Sort
-from ..live.rights import (
+from ..live.node.node_errors import BadSettings
+from ..live.messages.frames import CHILDREN, Sort
+from ..live.broker.rights import (
     Place,
     Right,
     rights_of_control,
@@ -25,9 +25,9 @@ from ..live.rights import (
     rights_of_site,
     united,
 )
-from ..live.node_settings import PriceSettings
-from ..live.toml_tables import read_tables, require_types, table_of, value_of
-from ..live.topics import Topics, require_name
+from ..live.node.node_settings import PriceSettings
+from ..live.node.toml_tables import read_tables, require_types, table_of, value_of
+from ..live.messages.topics import Topics, require_name
 from .site_plan import SitePlan, require_sites, site_plan_of
 
 TABLES = ("market", "basis", "broker", "prices", "auctioneer", "relays", "devices", "sites", "logins")

@@ -8,10 +8,10 @@ from __future__ import annotations
 from collections.abc import Mapping
 from pathlib import Path
 
-from ..live.node_errors import BadSettings
-from ..live.node_settings import BrokerSettings, Settings
-from ..live.operating import forget_node
-from ..live.toml_tables import value_of
+from ..live.node.node_errors import BadSettings
+from ..live.node.node_settings import BrokerSettings, Settings
+from ..live.broker.operating import forget_node
+from ..live.node.toml_tables import value_of
 from . import broker_files, history_files, installing, logins, node_files, site_files
 from .broker_version import require_broker
 from .containers import compose_text

@@ -5,8 +5,8 @@ from __future__ import annotations
 from string import Template
 from typing import Any
 
-from ..live.node_errors import BadSettings
-from ..live.node_settings import Settings, settings_of
+from ..live.node.node_errors import BadSettings
+from ..live.node.node_settings import Settings, settings_of
 from .files import ETC, Places, text_of
 from .toml_text import toml_text
 from .market_file import CONTROL, PAGE, Member, Tree

@@ -7,9 +7,9 @@ from collections.abc import Iterable
 from string import Template
 from typing import Any
 
-from ..live.node_errors import BadSettings
-from ..live.site import files_of
-from ..live.site_settings import site_settings_of
+from ..live.node.node_errors import BadSettings
+from ..live.site.site import files_of
+from ..live.site.site_settings import site_settings_of
 from .files import ETC, Places, text_of
 from .node_files import MADE, WATCHED, broker_table, tables_of
 from .site_plan import SitePlan

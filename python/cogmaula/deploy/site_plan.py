@@ -6,9 +6,9 @@ from collections.abc import Collection, Mapping, Sequence
 from dataclasses import dataclass
 from typing import Any
 
-from ..live.node_errors import BadSettings
-from ..live.toml_tables import table_of, value_of
-from ..live.topics import require_name
+from ..live.node.node_errors import BadSettings
+from ..live.node.toml_tables import table_of, value_of
+from ..live.messages.topics import require_name
 
 
 @dataclass(frozen=True)

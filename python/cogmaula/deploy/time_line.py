@@ -5,7 +5,7 @@ from __future__ import annotations
 from collections.abc import Iterable
 from typing import Any
 
-from ..live.market_times import ERROR, Times
+from ..live.node.market_times import ERROR, Times
 from .market_file import Member, Tree
 
 HEADER = ("device", "parent", "told its fallback by", "let go from", "left for")

@@ -12,7 +12,7 @@ from typing import Any, Protocol
 from urllib.parse import urlsplit
 
 from ..errors import NoPackage
-from ..live.node_errors import BadSettings, LiveError
+from ..live.node.node_errors import BadSettings, LiveError
 from .rows import NodeLost, Row, SiteDown, Told
 
 # The version of the tables.

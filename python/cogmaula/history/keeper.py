@@ -15,8 +15,8 @@ import threading
 import time
 from typing import Any
 
-from ..live.broker_link import Message
-from ..live.connection import (
+from ..live.broker.broker_link import Message
+from ..live.broker.connection import (
     FIRST_PAUSE,
     LONGEST_PAUSE,
     REFUSED,
@@ -30,9 +30,9 @@ from ..live.connection import (
     words_of_end,
     words_of_refusal,
 )
-from ..live.node_settings import BrokerSettings
-from ..live.rights import KEPT
-from ..live.topics import Topics
+from ..live.node.node_settings import BrokerSettings
+from ..live.broker.rights import KEPT
+from ..live.messages.topics import Topics
 from ..logs import NodeLog
 from .database import Database
 from .readings import Readings

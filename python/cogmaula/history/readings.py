@@ -10,7 +10,7 @@ import threading
 from collections.abc import Iterable
 from typing import Any
 
-from ..live.connection import paho
+from ..live.broker.connection import paho
 
 # The messages a second of one topic that are a flood, and the seconds for which it is read no more.
 FLOOD, REST = 200, 60.0

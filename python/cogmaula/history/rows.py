@@ -8,14 +8,14 @@ from collections.abc import Callable
 from dataclasses import dataclass, field
 from typing import Any
 
-from ..live.broker_link import Message
-from ..live.children import SESSION, TIME
-from ..live.node_errors import BadFrame, BadMessage
-from ..live.frames import BIDS, PRICES, Bid, Gone, Price, frame_of
-from ..live.messages import BasisMessage, LapseMessage, SetpointMessage, SilentMessage, SiteMessage, StateMessage, object_of, require_characters
-from ..live.price_table import PriceTable
-from ..live.sessions import time_of
-from ..live.topics import Topics
+from ..live.broker.broker_link import Message
+from ..live.children.children import SESSION, TIME
+from ..live.node.node_errors import BadFrame, BadMessage
+from ..live.messages.frames import BIDS, PRICES, Bid, Gone, Price, frame_of
+from ..live.messages.messages import BasisMessage, LapseMessage, SetpointMessage, SilentMessage, SiteMessage, StateMessage, object_of, require_characters
+from ..live.messages.price_table import PriceTable
+from ..live.node.sessions import time_of
+from ..live.messages.topics import Topics
 
 # The bytes of a Bid before its demands, and those of each.
 BID_HEAD, DEMAND = 7, 4

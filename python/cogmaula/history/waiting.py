@@ -7,7 +7,7 @@ from collections import deque
 from collections.abc import Hashable
 from typing import Generic, TypeVar
 
-from ..live.topics import OF_CHILDREN, Topics
+from ..live.messages.topics import OF_CHILDREN, Topics
 
 # The messages of a topic that are kept at once, and how many a second after that. A node writes few:
 # a device its state, bid and setpoint at a clearing, and a control what it measures each second.

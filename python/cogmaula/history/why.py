@@ -12,7 +12,7 @@ from dataclasses import dataclass
 from datetime import datetime, tzinfo
 from typing import Any
 
-from ..live.node_errors import BadSettings
+from ..live.node.node_errors import BadSettings
 from .database import Database
 from .reader import Reader
 from .told_powers import Places, places_of

@@ -8,9 +8,9 @@ from collections.abc import Callable, Sequence
 from dataclasses import dataclass
 from typing import Any
 
-from ..live.broker_link import Message
-from ..live.node_errors import BadMessage
-from ..live.topics import Topics
+from ..live.broker.broker_link import Message
+from ..live.node.node_errors import BadMessage
+from ..live.messages.topics import Topics
 from ..logs import NodeLog
 from .database import BadRow, Database, DatabaseLost
 from .rows import Told, rows_of

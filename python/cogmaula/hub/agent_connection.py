@@ -9,8 +9,8 @@ from collections.abc import Callable
 from typing import Protocol
 
 from ..cluster import Basis
-from ..live.node_errors import BadMessage, LiveError
-from ..live.device_kinds import DeviceKind
+from ..live.node.node_errors import BadMessage, LiveError
+from ..live.device.device_kinds import DeviceKind
 from .agent_control import Agent
 from .agent_messages import LEAVE_OFFER, BidUpdate, ErrorCode, PowerWord, RefusedBid, error_line, word_of
 from .lines import Lines

@@ -10,7 +10,7 @@ import threading
 from collections.abc import Callable
 from typing import Protocol
 
-from ..live.messages import ControlMessage
+from ..live.messages.messages import ControlMessage
 from ..logs import NodeLog
 from .agent_messages import LEAVE_OFFER, update_of
 from .node_thread import Running

@@ -10,11 +10,11 @@ from dataclasses import dataclass
 from typing import Any, Literal
 
 from ..cluster import Basis
-from ..live.node_errors import BadFrame, BadMessage
-from ..live.frames import Offer, Points, require_demands
-from ..live.deviation import Measured
-from ..live.device_kinds import DeviceKind
-from ..live.messages import ControlMessage, SetpointMessage, members_of, object_of, require_reference, stated
+from ..live.node.node_errors import BadFrame, BadMessage
+from ..live.messages.frames import Offer, Points, require_demands
+from ..live.device.deviation import Measured
+from ..live.device.device_kinds import DeviceKind
+from ..live.messages.messages import ControlMessage, SetpointMessage, members_of, object_of, require_reference, stated
 
 # The longest line or message, in bytes.
 LONGEST = 32_768

@@ -4,11 +4,11 @@ from __future__ import annotations
 
 import asyncio
 
-from ..live.broker_link import Message
-from ..live.node_errors import BadMessage, BadSettings, LiveError, NodeRefused
-from ..live.frames import RESUMES, AuctioneerResume, frame_of
-from ..live.node import Node
-from ..live.sessions import Session
+from ..live.broker.broker_link import Message
+from ..live.node.node_errors import BadMessage, BadSettings, LiveError, NodeRefused
+from ..live.messages.frames import RESUMES, AuctioneerResume, frame_of
+from ..live.node.node import Node
+from ..live.node.sessions import Session
 from ..logs import NodeLog
 from .agent_control import Agent
 from .agent_messages import LEAVE_OFFER, Login, quoted

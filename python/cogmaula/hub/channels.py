@@ -6,7 +6,7 @@ import asyncio
 import socket
 from typing import Any
 
-from ..live.websocket import WebSocket, close_once
+from ..live.page.websocket import WebSocket, close_once
 from .agent_messages import LONGEST
 from .login_refusals import LineTooLong
 

@@ -13,7 +13,7 @@ from __future__ import annotations
 import threading
 from collections.abc import Callable, Iterable, Sequence
 
-from ..live.broker_link import Arrived, Event, Message, Publication, Settled
+from ..live.broker.broker_link import Arrived, Event, Message, Publication, Settled
 from ..logs import NodeLog
 
 # Takes each message that is published, in the thread that publishes it. Messages of one topic come in their order.

@@ -12,12 +12,12 @@ import math
 from collections.abc import Callable
 from typing import Any
 
-from ..live.counting import NodeFacts
-from ..live.node_errors import LiveError
-from ..live.node import Node
-from ..live.market_page import MOST_CONNECTIONS as CONNECTIONS_OF_PAGE
-from ..live.market_page import PATIENCE_OF_LOOP
-from ..live.sessions import Session, now_text
+from ..live.node.counting import NodeFacts
+from ..live.node.node_errors import LiveError
+from ..live.node.node import Node
+from ..live.page.market_page import MOST_CONNECTIONS as CONNECTIONS_OF_PAGE
+from ..live.page.market_page import PATIENCE_OF_LOOP
+from ..live.node.sessions import Session, now_text
 from ..logs import NodeLog
 from .admission import Admission, Guest, files_allowed
 from .agent_control import Agent
@@ -25,7 +25,7 @@ from .agent_connection import Channel, Connection
 from .agent_messages import error_line, welcome
 from .agents import Agents
 from .exchange import Exchange
-from .hub_page import Showing
+from .hub_page import HubPageFeed
 from .hub_settings import Address, HubSettings
 from .lines import Lines
 from .memory import Memory
@@ -56,7 +56,7 @@ class Hub:
         self._admission = Admission(files_allowed() - (0 if settings.page is None else CONNECTIONS_OF_PAGE))
         self._memory = Memory()
         self._server = Server(settings, self._serve, self._admission, self._lines)
-        self.showing = Showing(settings.page, settings.topics.prefix, self.exchange, self._log, self.facts)
+        self.showing = HubPageFeed(settings.page, settings.topics.prefix, self.exchange, self._log, self.facts)
         self._connections: dict[Connection, asyncio.Task[Any] | None] = {}
         self._loop: asyncio.AbstractEventLoop | None = None
         self._stopping: asyncio.Event | None = None

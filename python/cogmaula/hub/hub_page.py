@@ -5,10 +5,10 @@ from __future__ import annotations
 from collections.abc import Callable
 
 from ..errors import NoPackage
-from ..live.board import Board
-from ..live.counting import NodeFacts
-from ..live.market_page import Page
-from ..live.page_settings import PageSettings
+from ..live.page.board import Board
+from ..live.node.counting import NodeFacts
+from ..live.page.market_page import Page
+from ..live.page.page_settings import PageSettings
 from ..logs import NodeLog
 from .exchange import Exchange
 
@@ -16,7 +16,7 @@ from .exchange import Exchange
 LAST_SECONDS = 1.0
 
 
-class Showing:
+class HubPageFeed:
     """Shows the market of an exchange. No call raises or waits for long: what is wrong with the page is a line."""
 
     def __init__(

@@ -11,12 +11,12 @@ from pathlib import Path
 from typing import Any
 
 from ..cluster import Basis
-from ..live.node_errors import BadSettings
-from ..live.page_settings import PageSettings
-from ..live.node_settings import Settings
-from ..live.market_times import MARGIN, VALIDITY, Times
-from ..live.toml_tables import read_tables, value_of
-from ..live.topics import Topics, require_name
+from ..live.node.node_errors import BadSettings
+from ..live.page.page_settings import PageSettings
+from ..live.node.node_settings import Settings
+from ..live.node.market_times import MARGIN, VALIDITY, Times
+from ..live.node.toml_tables import read_tables, value_of
+from ..live.messages.topics import Topics, require_name
 from ..program import live_command
 from .agent_messages import Cluster
 

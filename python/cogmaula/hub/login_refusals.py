@@ -2,7 +2,7 @@
 
 from __future__ import annotations
 
-from ..live.node_errors import BadMessage, LiveError
+from ..live.node.node_errors import BadMessage, LiveError
 from .agent_messages import LONGEST
 
 

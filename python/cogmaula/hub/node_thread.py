@@ -5,8 +5,8 @@ from __future__ import annotations
 import threading
 from collections.abc import Callable
 
-from ..live.node_errors import LiveError
-from ..live.node import Node
+from ..live.node.node_errors import LiveError
+from ..live.node.node import Node
 
 
 class Running:

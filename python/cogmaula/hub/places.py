@@ -12,8 +12,8 @@ from collections.abc import Mapping
 from dataclasses import dataclass
 from pathlib import Path
 
-from ..live.node_errors import BadMessage, BadSettings, BadStore
-from ..live.messages import object_of
+from ..live.node.node_errors import BadMessage, BadSettings, BadStore
+from ..live.messages.messages import object_of
 from .tokens import Entries
 
 FILE = "place"

@@ -16,8 +16,8 @@ from collections.abc import Awaitable, Callable
 from http import HTTPStatus
 from typing import Any
 
-from ..live.node_errors import BadSettings, LiveError
-from ..live.websocket import NoHandshake, WebSocket, protocol_of
+from ..live.node.node_errors import BadSettings, LiveError
+from ..live.page.websocket import NoHandshake, WebSocket, protocol_of
 from .admission import Admission, Guest
 from .agent_connection import LOGIN_SECONDS, Channel
 from .agent_messages import LONGEST

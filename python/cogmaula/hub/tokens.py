@@ -20,9 +20,9 @@ from contextlib import contextmanager
 from dataclasses import dataclass
 from pathlib import Path
 
-from ..live.node_errors import BadSettings
-from ..live.frames import CHILDREN
-from ..live.topics import require_name
+from ..live.node.node_errors import BadSettings
+from ..live.messages.frames import CHILDREN
+from ..live.messages.topics import require_name
 
 _CHILD = re.compile(r"[1-9][0-9]{0,2}")
 _HASH = re.compile(r"[0-9a-f]{64}")

@@ -12,7 +12,7 @@ import itertools
 
 from ..cluster import Basis
 from ..program_limits import MOST_EVENTS
-from ..live.frames import (
+from ..live.messages.frames import (
     RESUMES,
     WRITES,
     AuctioneerResume,
@@ -26,7 +26,7 @@ from ..live.frames import (
     Sort,
     frame_of,
 )
-from ..live.recording import IN, OUT, STORED
+from ..live.node.recording import IN, OUT, STORED
 from .event_script import Script
 from .journal import Journal
 from .lapsed_numbers import lapses_of

@@ -2,8 +2,8 @@
 
 from __future__ import annotations
 
-from ..live.node_errors import BadFrame
-from ..live.frames import (
+from ..live.node.node_errors import BadFrame
+from ..live.messages.frames import (
     READS,
     WRITES,
     AuctioneerResume,

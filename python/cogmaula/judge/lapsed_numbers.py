@@ -6,8 +6,8 @@ given. Only those count that a Resume of the parent has: what a parent heard and
 
 from __future__ import annotations
 
-from ..live.frames import RESUMES, AuctioneerResume, RelayResume, frame_of
-from ..live.recording import OUT
+from ..live.messages.frames import RESUMES, AuctioneerResume, RelayResume, frame_of
+from ..live.node.recording import OUT
 from .reading import Start
 from .session_tree import Market
 

@@ -13,8 +13,8 @@ from collections import deque
 from collections.abc import Callable, Generator, Mapping
 from dataclasses import dataclass, field
 
-from ..live.frames import Bid, Expire, Gone, Old, Price, RelayResume
-from ..live.recording import IN, OUT, STORED
+from ..live.messages.frames import Bid, Expire, Gone, Old, Price, RelayResume
+from ..live.node.recording import IN, OUT, STORED
 from .frame_words import words_of_bytes
 from .reading import Event, Recorded
 from .recording_faults import Faulty

@@ -16,11 +16,11 @@ from pathlib import Path
 from typing import Any
 
 from ..cluster import Basis
-from ..live.compressing import ENDING
-from ..live.node_errors import BadMessage
-from ..live.frames import SORTS, Sort
-from ..live.recording import END, IN, OUT, START, STORED, SUFFIX
-from ..live.sessions import Session
+from ..live.node.compressing import ENDING
+from ..live.node.node_errors import BadMessage
+from ..live.messages.frames import SORTS, Sort
+from ..live.node.recording import END, IN, OUT, START, STORED, SUFFIX
+from ..live.node.sessions import Session
 from .recording_faults import Fault, Faulty, NoRecording
 
 _NAME = re.compile(r"([A-Za-z0-9_-]{1,64})\.([0-9a-f]{16})\.([0-9]{6,})\.frames(\.gz)?")

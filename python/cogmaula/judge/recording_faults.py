@@ -4,7 +4,7 @@ from __future__ import annotations
 
 from dataclasses import dataclass
 
-from ..live.node_errors import LiveError
+from ..live.node.node_errors import LiveError
 
 
 @dataclass(frozen=True)

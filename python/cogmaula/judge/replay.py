@@ -10,8 +10,8 @@ from __future__ import annotations
 from collections import Counter
 from dataclasses import dataclass, field
 
-from ..live.node_errors import BadFrame, LiveError
-from ..live.frames import (
+from ..live.node.node_errors import BadFrame, LiveError
+from ..live.messages.frames import (
     READS,
     RESUMES,
     WRITES,
@@ -28,8 +28,8 @@ from ..live.frames import (
     ResumeGone,
     frame_of,
 )
-from ..live.recording import IN, OUT, STORED
-from ..live.statuses import STATUSES
+from ..live.node.recording import IN, OUT, STORED
+from ..live.node.statuses import STATUSES
 from .frame_words import difference_of, words_of_bytes
 from .reading import Event, Recorded, Start
 from .restarts import Giving, Keeping

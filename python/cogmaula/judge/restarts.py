@@ -8,7 +8,7 @@ from __future__ import annotations
 
 from dataclasses import replace
 
-from ..live.frames import AuctioneerResume, DeviceResume, Limits, RelayResume, Resume, ResumeGone
+from ..live.messages.frames import AuctioneerResume, DeviceResume, Limits, RelayResume, Resume, ResumeGone
 from .frame_words import words_of
 
 

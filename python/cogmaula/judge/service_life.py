@@ -7,8 +7,8 @@ import select
 import subprocess
 from collections.abc import Iterator
 
-from ..live.node_errors import LiveError
-from ..live.frames import WRITES, Hello, size_of
+from ..live.node.node_errors import LiveError
+from ..live.messages.frames import WRITES, Hello, size_of
 from .reading import Start
 
 PIECE = 65_536

@@ -7,11 +7,11 @@
 What is proved is the service, the program `live` (docs/RELAY.md). This package carries its frames, and is tested.
 """
 
-from .control import Control, StandardControl
-from .node_errors import BadFrame, BadMessage, BadSettings, BadStore, LiveError, NodeRefused, OtherTerms
-from .node import Node, make_node
-from .page_settings import PageSettings
-from .node_settings import BrokerSettings, ChildSettings, Settings, read_toml, settings_of
+from .device.control import Control, StandardControl
+from .node.node_errors import BadFrame, BadMessage, BadSettings, BadStore, LiveError, NodeRefused, OtherTerms
+from .node.node import Node, make_node
+from .page.page_settings import PageSettings
+from .node.node_settings import BrokerSettings, ChildSettings, Settings, read_toml, settings_of
 
 __all__ = [
     "BadFrame",

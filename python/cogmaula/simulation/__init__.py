@@ -11,8 +11,8 @@ A device is a class with a name, a state, `bid` and `step`: see `Device`. The mo
 bid by points is at each price, and the prices, come from the proved programs. docs/DEVICES.md says how to write a device of your own.
 """
 
-from ..live.frames import Stated
-from ..live.device_kinds import DeviceKind
+from ..live.messages.frames import Stated
+from ..live.device.device_kinds import DeviceKind
 from .battery import Battery
 from .device import BadBid, Bid, Demands, Device
 from .fleet import Fleet

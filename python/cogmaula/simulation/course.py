@@ -11,7 +11,7 @@ from typing import Any
 import numpy
 
 from ..cluster import Basis
-from ..live.frame import MOST
+from ..live.messages.frame import MOST
 from .demands import BidMaker
 from .device import BadBid, Device
 from .fleet import Fleet

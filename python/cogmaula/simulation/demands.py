@@ -14,7 +14,7 @@ from types import TracebackType
 from typing import Any
 
 from ..cluster import Basis
-from ..live.frames import BASIS, AnyOffer, Bid, DeviceResume, Gone, Hello, Leave, Offer, ResumeGone, frames_of, size_of
+from ..live.messages.frames import BASIS, AnyOffer, Bid, DeviceResume, Gone, Hello, Leave, Offer, ResumeGone, frames_of, size_of
 from ..program import Program, live_at, live_program
 from .device import Demands, offer_of
 from .device import Bid as AnyBid

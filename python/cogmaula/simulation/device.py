@@ -9,8 +9,8 @@ from typing import Any, Protocol
 
 from ..cluster import Basis
 from ..errors import MarketError
-from ..live.node_errors import BadFrame
-from ..live.frames import AnyOffer, Offer, Points, Stated, require_demands
+from ..live.node.node_errors import BadFrame
+from ..live.messages.frames import AnyOffer, Offer, Points, Stated, require_demands
 
 # Watts at every price; or watts at each step of the basis; or points of a price and watts; or a kind of device and its state.
 Bid = int | Sequence[int] | Sequence[tuple[int, int]] | Stated

@@ -9,8 +9,8 @@ from datetime import datetime
 from math import floor
 
 from ..program_limits import MOST_TEMPERATURE
-from ..live.frames import Stated
-from ..live.device_kinds import PARAMETERS, DeviceKind
+from ..live.messages.frames import Stated
+from ..live.device.device_kinds import PARAMETERS, DeviceKind
 from ..nodes import Battery, Cogeneration, Freezer, HeatPump, Manual, Node, Objective
 from ..phases import State
 from .device import Bid

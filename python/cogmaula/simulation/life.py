@@ -8,7 +8,7 @@ from datetime import datetime, timedelta
 
 from ..cluster import Cluster
 from ..data_frames import START
-from ..live.frames import AnyOffer
+from ..live.messages.frames import AnyOffer
 from ..phases import Event, Events, Join, Leave, State, Tick
 from .device import offer_of
 from .kind_models import ClusterDevice

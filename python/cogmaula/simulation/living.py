@@ -18,17 +18,17 @@ from pathlib import Path
 from ..cluster import Cluster
 from ..errors import NoProgram
 from ..hub.exchange import Exchange
-from ..hub.hub_page import Showing
+from ..hub.hub_page import HubPageFeed
 from ..hub.node_thread import Running
-from ..live.broker_link import Message
-from ..live.counting import NodeFacts
-from ..live.node_errors import LiveError
-from ..live.frames import MOST, AnyOffer, Leave, Sort, Stated
-from ..live.messages import ControlMessage, SetpointMessage, SilentMessage, StateMessage, members_of
-from ..live.node import Node
-from ..live.page_settings import PageSettings
-from ..live.price_table import PriceTable
-from ..live.node_settings import Settings
+from ..live.broker.broker_link import Message
+from ..live.node.counting import NodeFacts
+from ..live.node.node_errors import LiveError
+from ..live.messages.frames import MOST, AnyOffer, Leave, Sort, Stated
+from ..live.messages.messages import ControlMessage, SetpointMessage, SilentMessage, StateMessage, members_of
+from ..live.node.node import Node
+from ..live.page.page_settings import PageSettings
+from ..live.messages.price_table import PriceTable
+from ..live.node.node_settings import Settings
 from ..logs import NodeLog
 from ..nodes import AUCTIONEER, Limited
 from ..program import LIVE_VARIABLE
@@ -120,7 +120,7 @@ class LivingCluster:
         self.topics = self._settings[0].topics
         self._page = page
         self._running: list[Running] = []
-        self._showing = Showing(page, self.topics.prefix, self.exchange, self._log, self.facts, NOTE)
+        self._showing = HubPageFeed(page, self.topics.prefix, self.exchange, self._log, self.facts, NOTE)
         self._stopping = threading.Event()
         self._newest: PriceTable | None = None
 

@@ -15,7 +15,7 @@ from functools import cached_property
 from types import TracebackType
 
 from ..cluster import Basis
-from ..live.frames import CHILDREN, WRITES, Bid, Clear, Dropped, Fault, Hello, Price, RelayResume, Send, are_limits, is_basis, size_of
+from ..live.messages.frames import CHILDREN, WRITES, Bid, Clear, Dropped, Fault, Hello, Price, RelayResume, Send, are_limits, is_basis, size_of
 from ..program import Program, chosen, live_at, live_program
 from .device import Demands
 from .streams import LONGEST, PIECE, ROOM, Stream, open_live

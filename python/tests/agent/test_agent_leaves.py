@@ -10,8 +10,8 @@ from pretended_device import PretendedAgent
 
 from cogmaula.agent import running
 from cogmaula.agent.links import Setpoint
-from cogmaula.live.frames import Offer, Points
-from cogmaula.live.node_errors import BadSettings
+from cogmaula.live.messages.frames import Offer, Points
+from cogmaula.live.node.node_errors import BadSettings
 
 LEFT = ("offer", None)
 RISING = """

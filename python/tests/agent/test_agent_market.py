@@ -24,7 +24,7 @@ from cogmaula.agent.links import NodeLink, Standing
 from cogmaula.agent.modbus import Modbus, ModbusPlace
 from cogmaula.agent.mqtt import BrokerPlace, Client, Mqtt, MqttPlace
 from cogmaula.agent.device_values import NoReading, NotWritten
-from cogmaula.live.messages import SiteMessage, StateMessage
+from cogmaula.live.messages.messages import SiteMessage, StateMessage
 
 CAPACITY = 1000
 

@@ -18,9 +18,9 @@ from cogmaula.agent.links import HubLink, HubPlace
 from cogmaula.agent.modbus import Modbus, ModbusPlace
 from cogmaula.agent.plain_sources import Command, CommandPlace, Csv, CsvPlace, Http, HttpPlace
 from cogmaula.agent.device_values import NoReading, NotWritten, Place, number_in
-from cogmaula.live.node_errors import BadSettings
-from cogmaula.live.frames import Offer, Points, Stated
-from cogmaula.live.device_kinds import DeviceKind
+from cogmaula.live.node.node_errors import BadSettings
+from cogmaula.live.messages.frames import Offer, Points, Stated
+from cogmaula.live.device.device_kinds import DeviceKind
 from cogmaula.simulation import Battery, HeatPump
 
 # The link to a hub.

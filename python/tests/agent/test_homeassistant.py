@@ -15,9 +15,9 @@ from logged import log_to
 from cogmaula.agent import Agent, agent_settings_of
 from cogmaula.agent.homeassistant import Entities, HomeAssistantPlace, Shown, range_of
 from cogmaula.agent.mqtt import BrokerPlace, Client
-from cogmaula.live.node_errors import BadSettings
-from cogmaula.live.frames import Offer, Points, Stated
-from cogmaula.live.device_kinds import DeviceKind
+from cogmaula.live.node.node_errors import BadSettings
+from cogmaula.live.messages.frames import Offer, Points, Stated
+from cogmaula.live.device.device_kinds import DeviceKind
 
 # The members that Home Assistant's pages of MQTT name, for all that is used here: of each entity, of a sensor, of a switch, of a device.
 COMMON = {

@@ -11,9 +11,9 @@ from cogmaula.hub.agent_connection import code_of
 from cogmaula.hub.login_refusals import LineTooLong, NoLogin, NodeDown, WrongLogin
 from cogmaula.hub.agent_messages import Cluster, LeaveWord, Login, error_line, update_of, quoted, welcome, word_of
 from cogmaula.live import BadMessage
-from cogmaula.live.frames import Points, Stated
-from cogmaula.live.device_kinds import DeviceKind
-from cogmaula.live.messages import OfferMessage, SetpointMessage, SilentMessage
+from cogmaula.live.messages.frames import Points, Stated
+from cogmaula.live.device.device_kinds import DeviceKind
+from cogmaula.live.messages.messages import OfferMessage, SetpointMessage, SilentMessage
 
 BASIS = Basis(0, 9, 10)
 FALLING = [200, 200, 0, 0, 0, 0, 0, 0, 0, -50]

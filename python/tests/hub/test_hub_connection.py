@@ -15,7 +15,7 @@ from cogmaula.hub.agent_connection import Connection
 from cogmaula.hub.lines import Lines
 from cogmaula.hub.login_refusals import LineTooLong
 from cogmaula.live import BadMessage
-from cogmaula.live.messages import SetpointMessage
+from cogmaula.live.messages.messages import SetpointMessage
 
 BASIS = Basis(0, 1, 2)
 OVER = object()

@@ -9,7 +9,7 @@ import pytest
 from logged import QUIET
 
 from cogmaula.hub import Exchange
-from cogmaula.live.broker_link import Arrived, Message, Publication, Settled
+from cogmaula.live.broker.broker_link import Arrived, Message, Publication, Settled
 
 
 class Reader:
@@ -139,7 +139,7 @@ def test_a_market_of_four_nodes_over_an_exchange(exchange, live, tmp_path):
     from markets import BASIS, PLACES, Control, falls_at
 
     from cogmaula.live import Settings
-    from cogmaula.live.node import Node
+    from cogmaula.live.node.node import Node
 
     nodes, controls, threads = {}, {"house": Control(), "store": Control()}, []
     for name in ("auctioneer", "street", "house", "store"):

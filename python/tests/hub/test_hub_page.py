@@ -12,9 +12,9 @@ from looking import get, require_page
 from cogmaula.hub import hub_settings_of
 from cogmaula.judge import judge
 from cogmaula.live import BadSettings
-from cogmaula.live.compressing import is_idle
-from cogmaula.live.page_settings import PageSettings
-from cogmaula.live.recording import numbered_files
+from cogmaula.live.node.compressing import is_idle
+from cogmaula.live.page.page_settings import PageSettings
+from cogmaula.live.node.recording import numbered_files
 
 
 def viewed(hub):

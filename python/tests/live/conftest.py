@@ -11,7 +11,7 @@ from markets import STEPS, falls_at
 from pretended import Joined, PretendedService
 from recorded import Lines, RecordedMarket
 
-from cogmaula.live import serving
+from cogmaula.live.node import service_runner
 
 CONSTANT = [100] * STEPS
 
@@ -19,7 +19,7 @@ CONSTANT = [100] * STEPS
 @pytest.fixture
 def joined(tmp_path, monkeypatch):
     """Makes a node of a sort over a pretended connection and a pretended service, with its disk in a folder of that name."""
-    monkeypatch.setattr(serving, "Service", PretendedService)
+    monkeypatch.setattr(service_runner, "Service", PretendedService)
     made = []
 
     def make(sort, **more):

@@ -15,7 +15,7 @@ from cogmaula.deploy import Member as TreeMember
 from cogmaula.deploy import read_tree
 from cogmaula.deploy.broker_files import configuration_text, rights_text
 from cogmaula.deploy.files import Places
-from cogmaula.live.node_settings import children_of
+from cogmaula.live.node.node_settings import children_of
 
 # The words of the broker's file that are of TLS and of the machine.
 OF_THE_MACHINE = ("listener", "cafile", "certfile", "keyfile", "persistence_location", "user root", "#")

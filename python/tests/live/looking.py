@@ -13,8 +13,8 @@ import pytest
 from brokers import SECONDS, wait_until
 from logged import log_to
 
-from cogmaula.live.board import Board
-from cogmaula.live.page_settings import PageSettings
+from cogmaula.live.page.board import Board
+from cogmaula.live.page.page_settings import PageSettings
 
 CHROMIUM = shutil.which("chromium")
 
@@ -35,7 +35,7 @@ class Served:
     """A page of a test's messages, from its start to its end. What it says is in `said`."""
 
     def __init__(self, told=None, own=None, facts=list, **settings):
-        from cogmaula.live.market_page import Page
+        from cogmaula.live.page.market_page import Page
 
         self.said = []
         self.board = Board(log_to(self.said.append))

@@ -16,8 +16,8 @@ from pretended import PretendedControl
 
 from cogmaula.cluster import Basis
 from cogmaula.live import BrokerSettings, LiveError, Settings, make_node
-from cogmaula.live.frames import PRICES, frame_of
-from cogmaula.live.price_table import PriceTable
+from cogmaula.live.messages.frames import PRICES, frame_of
+from cogmaula.live.messages.price_table import PriceTable
 
 STEPS = 10
 BASIS = Basis(0, STEPS - 1, STEPS)

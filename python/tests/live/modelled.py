@@ -16,7 +16,7 @@ from pretended import SESSION
 from checks.oracle import frames
 from checks.oracle.nodes import RESUME, RESUME_GONE, node_of
 from cogmaula.cluster import Basis
-from cogmaula.live.frames import MOST, WRITES, Bound, Clear, Expire, Hello, Leave, Limits, Offer, Send, Splitter
+from cogmaula.live.messages.frames import MOST, WRITES, Bound, Clear, Expire, Hello, Leave, Limits, Offer, Send, Splitter
 from test_judge_any import BIDS, PRICES, exact
 
 BASIS = Basis(0, 6, 4)

@@ -7,16 +7,16 @@ from logged import log_to
 
 from cogmaula import clock
 from cogmaula.cluster import Basis
-from cogmaula.live import messages
-from cogmaula.live.broker_link import Arrived, Confirmed, Message, Settled
-from cogmaula.live.frames import AuctioneerResume, Bid, DeviceResume, Gone, Price, RelayResume, ResumeGone
-from cogmaula.live.messages import BasisMessage, SetpointMessage, StateMessage
-from cogmaula.live.service import Came, Ended
-from cogmaula.live.sessions import Session
-from cogmaula.live.node import Node
-from cogmaula.live.price_table import price_for
-from cogmaula.live.node_settings import Settings
-from cogmaula.live.store import Store, Stored
+from cogmaula.live.messages import messages
+from cogmaula.live.broker.broker_link import Arrived, Confirmed, Message, Settled
+from cogmaula.live.messages.frames import AuctioneerResume, Bid, DeviceResume, Gone, Price, RelayResume, ResumeGone
+from cogmaula.live.messages.messages import BasisMessage, SetpointMessage, StateMessage
+from cogmaula.live.node.service import Came, Ended
+from cogmaula.live.node.sessions import Session
+from cogmaula.live.node.node import Node
+from cogmaula.live.messages.price_table import price_for
+from cogmaula.live.node.node_settings import Settings
+from cogmaula.live.node.store import Store, Stored
 
 BASIS, BASIS_TOPIC = Basis(0, 9, steps=2), "market/basis"
 SESSION = Session("0123456789abcdef", "2026-01-31T06:00:00.000Z")

@@ -13,12 +13,12 @@ from markets import BASIS, PLACES, STEPS, Control
 from pretended import PretendedLink, turn
 
 from cogmaula import clock
-from cogmaula.live import compressing
-from cogmaula.live.broker_link import Arrived, Message
-from cogmaula.live.frames import READS, WRITES, frame_of
-from cogmaula.live.node import Node
-from cogmaula.live.recording import numbered_files
-from cogmaula.live.node_settings import Settings
+from cogmaula.live.node import compressing
+from cogmaula.live.broker.broker_link import Arrived, Message
+from cogmaula.live.messages.frames import READS, WRITES, frame_of
+from cogmaula.live.node.node import Node
+from cogmaula.live.node.recording import numbered_files
+from cogmaula.live.node.node_settings import Settings
 
 
 def matches(topic, pattern):

@@ -21,9 +21,9 @@ from cogmaula.deploy.site_plan import SitePlan
 from cogmaula.deploy.toml_text import toml_text
 from cogmaula.deploy.market_file import tree_of
 from cogmaula.live import Node, settings_of
-from cogmaula.live.device_kinds import DeviceKind
-from cogmaula.live.rights import Right, united
-from cogmaula.live.site_settings import site_settings_of
+from cogmaula.live.device.device_kinds import DeviceKind
+from cogmaula.live.broker.rights import Right, united
+from cogmaula.live.site.site_settings import site_settings_of
 
 BASIS = "[basis]\nmin = 0\nmax = 9\nsteps = 10\n"
 RELAYS = "[relays.a]\n[relays.b]\nparent = 'a'\n"

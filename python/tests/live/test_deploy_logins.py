@@ -12,9 +12,9 @@ from test_deploy_market import broker_of
 
 from cogmaula.cli import main
 from cogmaula.deploy import BadSettings, renumber_device, revoke_login, rotate_login
-from cogmaula.live.frames import Bid
-from cogmaula.live.messages import VERSION
-from cogmaula.live.operating import drop
+from cogmaula.live.messages.frames import Bid
+from cogmaula.live.messages.messages import VERSION
+from cogmaula.live.broker.operating import drop
 
 
 @pytest.fixture

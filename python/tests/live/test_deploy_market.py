@@ -16,10 +16,10 @@ from rights_due import READS, WRITES, require_rights
 from cogmaula.agent.links import Basis, NodeLink, Setpoint
 from cogmaula.agent.mqtt import BrokerPlace
 from cogmaula.deploy import Member, add_device
-from cogmaula.live.control_frames import Offer
-from cogmaula.live.given_limits import LimitsMessage
-from cogmaula.live.operating import drop, give_limits
-from cogmaula.live.node_settings import BrokerSettings, read_toml
+from cogmaula.live.messages.control_frames import Offer
+from cogmaula.live.children.given_limits import LimitsMessage
+from cogmaula.live.broker.operating import drop, give_limits
+from cogmaula.live.node.node_settings import BrokerSettings, read_toml
 
 
 @pytest.fixture

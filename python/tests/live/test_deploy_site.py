@@ -15,8 +15,8 @@ from markets import STEPS, falls_at
 from rights_due import READS, UNWRITTEN, WRITES, require_rights
 
 from cogmaula.deploy import Member, add_device
-from cogmaula.live.site import Site
-from cogmaula.live.site_settings import read_site
+from cogmaula.live.site.site import Site
+from cogmaula.live.site.site_settings import read_site
 
 # The relay of the example and one of its devices are a site. The other device has a process of its own.
 BLOCK = '\n[sites.block]\nhost = "attic"\nnodes = ["street", "house"]\n'

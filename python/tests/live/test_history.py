@@ -21,11 +21,11 @@ from told import Told, village
 from cogmaula.cli import main
 from cogmaula.history import Row, open_database, rows_of
 from cogmaula.history.days import span_of
-from cogmaula.live.broker_link import Message
-from cogmaula.live.node_errors import BadMessage, BadSettings
-from cogmaula.live.frames import BIDS, Bid, frame_of
-from cogmaula.live.messages import LapseMessage, SilentMessage
-from cogmaula.live.topics import Topics
+from cogmaula.live.broker.broker_link import Message
+from cogmaula.live.node.node_errors import BadMessage, BadSettings
+from cogmaula.live.messages.frames import BIDS, Bid, frame_of
+from cogmaula.live.messages.messages import LapseMessage, SilentMessage
+from cogmaula.live.messages.topics import Topics
 
 TOPICS = Topics("market")
 AT = 1769841000.0

@@ -22,9 +22,9 @@ from cogmaula.history.readings import Readings
 from cogmaula.history.waiting import FairQueue, TopicRates, member_of
 from cogmaula.history.writer import Arrival, Writer
 from cogmaula.live import BrokerSettings
-from cogmaula.live.broker_link import Message
-from cogmaula.live.price_table import PriceTable
-from cogmaula.live.topics import Topics
+from cogmaula.live.broker.broker_link import Message
+from cogmaula.live.messages.price_table import PriceTable
+from cogmaula.live.messages.topics import Topics
 
 TOPICS = Topics("market")
 

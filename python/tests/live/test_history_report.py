@@ -13,7 +13,7 @@ from cogmaula.cli import main
 from cogmaula.history import Row, open_database
 from cogmaula.history.accounts import MEASURED_HOLDS, SLOT, Account, Accounts, Event
 from cogmaula.history.span_course import course_of
-from cogmaula.live.node_errors import BadSettings
+from cogmaula.live.node.node_errors import BadSettings
 from cogmaula.report.history_day import SlotPrices, day_of, history_page, prices_by_slot
 
 # The midnight before 31 January 2026 in UTC, in seconds, and an hour.

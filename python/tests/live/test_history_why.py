@@ -10,7 +10,7 @@ from test_history_report import DAY, SESSION, bid, price, state
 from cogmaula.cli import main
 from cogmaula.history import Row, open_database
 from cogmaula.history.why import Moved, why
-from cogmaula.live.node_errors import BadSettings
+from cogmaula.live.node.node_errors import BadSettings
 
 # The street, child 1 of the root, has a ceiling of 700 W, and below it an oven, a store and a lamp. Clearing 1, at 0:10, has price 10
 # everywhere: the oven takes 500 W, the store 100 W, and the mill, at the root, gives 600 W. Then the oven asks for more. Clearing 2, at

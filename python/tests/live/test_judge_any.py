@@ -26,7 +26,7 @@ from recorded import Lines
 from checks.oracle import frames
 from checks.oracle.nodes import RESUME, RESUME_GONE, node_of
 from cogmaula.judge import judge, replay
-from cogmaula.live.frames import Hello
+from cogmaula.live.messages.frames import Hello
 
 PARENTS = {name: parent for name, (_, parent, _) in PLACES.items()}
 CHILDREN = {(parent, child): name for name, (_, parent, child) in PLACES.items()}

@@ -14,8 +14,8 @@ from recorded import Lines, RecordedMarket, files_of
 
 from cogmaula.cli import main
 from cogmaula.judge import NoRecording, judge
-from cogmaula.live.frames import Bid, Offer, Send
-from cogmaula.live.node_errors import LiveError
+from cogmaula.live.messages.frames import Bid, Offer, Send
+from cogmaula.live.node.node_errors import LiveError
 
 
 def found(lines, live):

@@ -15,7 +15,7 @@ from modelled import BASIS, DrawnMarket, nodes_of
 from recorded import Lines
 
 from cogmaula.judge import judge
-from cogmaula.live.frames import Bid, Clear, Expire, Gone, Limits, Offer, Old, Send
+from cogmaula.live.messages.frames import Bid, Clear, Expire, Gone, Limits, Offer, Old, Send
 
 GIVER = 9
 TREE = [("street", "relay", "auctioneer", (-1_000, 1_000), GIVER), ("mill", "device", "auctioneer"), ("house", "device", "street"),

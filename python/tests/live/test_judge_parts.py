@@ -14,8 +14,8 @@ from cogmaula.judge.frame_words import words_of, words_of_bytes
 from cogmaula.judge.reading import Start
 from cogmaula.judge.restarts import Giving, Keeping
 from cogmaula.judge.service_life import Late, Running
-from cogmaula.live.node_errors import LiveError
-from cogmaula.live.frames import (
+from cogmaula.live.node.node_errors import LiveError
+from cogmaula.live.messages.frames import (
     Bound,
     Clear,
     Dropped,

@@ -15,9 +15,11 @@ from pretended import BASIS_TOPIC, LATER, OF_RELAY, SESSION, VERSION, auctioneer
 from recorded import Lines, RecordedMarket, contents_of, files_of
 
 from cogmaula.judge import judge
-from cogmaula.live import BadSettings, compressing, recording
-from cogmaula.live.frames import Clear, Old, Send
-from cogmaula.live.node_settings import settings_of
+from cogmaula.live import BadSettings
+from cogmaula.live.node import compressing
+from cogmaula.live.node import recording
+from cogmaula.live.messages.frames import Clear, Old, Send
+from cogmaula.live.node.node_settings import settings_of
 
 FIRST = relay_resume(1, 0, 0, numbers((1, 1)))
 

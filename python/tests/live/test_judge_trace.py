@@ -36,8 +36,8 @@ from cogmaula.judge.reading import recordings_in
 from cogmaula.judge.session_tree import markets_of
 from cogmaula.judge.tracing import trace_of
 from cogmaula.program_limits import MOST_EVENTS
-from cogmaula.live.frames import MOST, Clear, Expire, Leave, Offer, Send
-from cogmaula.live.node_settings import PriceSettings
+from cogmaula.live.messages.frames import MOST, Clear, Expire, Leave, Offer, Send
+from cogmaula.live.node.node_settings import PriceSettings
 
 
 class Plain:

@@ -33,10 +33,10 @@ from pretended import (
 
 from cogmaula.cluster import Basis
 from cogmaula.live import BadStore, NodeRefused, OtherTerms
-from cogmaula.live.frames import Fault
-from cogmaula.live.messages import BasisMessage
-from cogmaula.live.node import Node
-from cogmaula.live.store import Store
+from cogmaula.live.messages.frames import Fault
+from cogmaula.live.messages.messages import BasisMessage
+from cogmaula.live.node.node import Node
+from cogmaula.live.node.store import Store
 
 OFFER = (5, -3)
 OF_SESSION = [("time", MOMENT), ("session", SESSION.id), ("version", VERSION)]
@@ -539,6 +539,6 @@ def test_what_a_node_logs_has_its_name(tmp_path, caplog):
     node = Node(settings("auctioneer", tmp_path), make_link=PretendedLink)
     node._log.warning("hello")
     assert [(record.name, record.node, record.levelname, record.message) for record in caplog.records] == [
-        ("cogmaula.live.node", "auctioneer", "WARNING", "hello")
+        ("cogmaula.live.node.node", "auctioneer", "WARNING", "hello")
     ]
     node._store.close()

@@ -14,11 +14,11 @@ import pytest
 from brokers import SECONDS, Certificates, Mosquitto, Onlooker, free_port, passwords, require_broker, wait_until
 from logged import QUIET, log_to
 
-from cogmaula.live import connection
-from cogmaula.live.broker import Broker
-from cogmaula.live.broker_link import Confirmed, Message, Publication, Settled
-from cogmaula.live.connection import Waiting, words_of, words_of_end
-from cogmaula.live.node_settings import BrokerSettings
+from cogmaula.live.broker import connection
+from cogmaula.live.broker.broker import Broker
+from cogmaula.live.broker.broker_link import Confirmed, Message, Publication, Settled
+from cogmaula.live.broker.connection import Waiting, words_of, words_of_end
+from cogmaula.live.node.node_settings import BrokerSettings
 
 STATE, WILL = "market/house/state", Publication("market/house/state", b"down")
 TOPICS = [STATE, "market/house/setpoint", "market/street/price/2"]

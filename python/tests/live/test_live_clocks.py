@@ -11,9 +11,9 @@ from dataclasses import dataclass, field
 from hypothesis import find, given, settings
 from hypothesis import strategies as st
 
-from cogmaula.live.lapses import Lapses
-from cogmaula.live.silence import Heartbeat, Silence
-from cogmaula.live.market_times import Times
+from cogmaula.live.children.lapses import Lapses
+from cogmaula.live.node.silence import Heartbeat, Silence
+from cogmaula.live.node.market_times import Times
 
 TIMES = Times.of(None, None, None)
 SECONDS = 600

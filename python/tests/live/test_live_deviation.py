@@ -9,9 +9,9 @@ from pretended import bid, device_resume
 
 from cogmaula import clock
 from cogmaula.live import BadSettings
-from cogmaula.live.deviation import Deviation, Measured
-from cogmaula.live.frames import Offer, Setpoint
-from cogmaula.live.node_errors import BadMessage
+from cogmaula.live.device.deviation import Deviation, Measured
+from cogmaula.live.messages.frames import Offer, Setpoint
+from cogmaula.live.node.node_errors import BadMessage
 
 # The device may deviate by 100 W for 10 s.
 WATTS, SECONDS = 100, 10

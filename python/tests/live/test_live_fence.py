@@ -14,12 +14,12 @@ from markets import STEPS, falls_at
 from pretended import BASIS, MOMENT, SESSION, bid, settings
 
 from cogmaula.cli import main
-from cogmaula.live import fencing
-from cogmaula.live.node_errors import LiveError
-from cogmaula.live.frames import BIDS, Bid, frame_of
-from cogmaula.live.messages import BasisMessage, StateMessage
-from cogmaula.live.node_settings import BrokerSettings
-from cogmaula.live.silence import Heartbeat
+from cogmaula.live.node import fencing
+from cogmaula.live.node.node_errors import LiveError
+from cogmaula.live.messages.frames import BIDS, Bid, frame_of
+from cogmaula.live.messages.messages import BasisMessage, StateMessage
+from cogmaula.live.node.node_settings import BrokerSettings
+from cogmaula.live.node.silence import Heartbeat
 
 TREE = """
 [basis]

@@ -6,9 +6,9 @@ import pytest
 from hypothesis import given
 from hypothesis import strategies as st
 
-from cogmaula.live.node_errors import BadFrame
-from cogmaula.live.device_kinds import DeviceKind
-from cogmaula.live.frames import (
+from cogmaula.live.node.node_errors import BadFrame
+from cogmaula.live.device.device_kinds import DeviceKind
+from cogmaula.live.messages.frames import (
     BIDS,
     CHILDREN,
     LAST_NUMBER,

@@ -15,8 +15,8 @@ from markets import STEPS, Process, clearing_step, falls_at, prices_in
 from test_live_storm import kill
 
 from cogmaula.cli import main
-from cogmaula.live.frames import BIDS, Bid, Price, frame_of
-from cogmaula.live.messages import VERSION
+from cogmaula.live.messages.frames import BIDS, Bid, Price, frame_of
+from cogmaula.live.messages.messages import VERSION
 
 CONSTANT = [100] * STEPS
 

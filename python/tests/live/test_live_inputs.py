@@ -38,16 +38,16 @@ from cogmaula.cli import main
 from cogmaula.history import Keeper, open_database, rows_of
 from cogmaula.hub.agent_messages import Login, word_of
 from cogmaula.live import BrokerSettings
-from cogmaula.live.board import Board
-from cogmaula.live.broker_link import Message
-from cogmaula.live.device_kinds import DeviceKind
-from cogmaula.live.frames import Old
-from cogmaula.live.market_reader import Reader
-from cogmaula.live.messages import OfferMessage
-from cogmaula.live.node_errors import BadFrame, BadMessage
-from cogmaula.live.price_table import PriceTable
-from cogmaula.live.topics import Topics
-from cogmaula.live.view import view_of
+from cogmaula.live.page.board import Board
+from cogmaula.live.broker.broker_link import Message
+from cogmaula.live.device.device_kinds import DeviceKind
+from cogmaula.live.messages.frames import Old
+from cogmaula.live.broker.market_reader import Reader
+from cogmaula.live.messages.messages import OfferMessage
+from cogmaula.live.node.node_errors import BadFrame, BadMessage
+from cogmaula.live.messages.price_table import PriceTable
+from cogmaula.live.messages.topics import Topics
+from cogmaula.live.page.view import view_of
 from cogmaula.logs import BURST
 
 # What mosquitto 2.0 passes on and paho refuses, found by all code points and all properties at a broker.

@@ -18,10 +18,10 @@ from pretended import (
     saved,
 )
 
-from cogmaula.live.asking import Asking
-from cogmaula.live.jumps import JUMP, most_by_time, most_of_child
-from cogmaula.live.messages import StateMessage
-from cogmaula.live.sessions import Session, time_text
+from cogmaula.live.node.ask_schedule import AskSchedule
+from cogmaula.live.children.jumps import JUMP, most_by_time, most_of_child
+from cogmaula.live.messages.messages import StateMessage
+from cogmaula.live.node.sessions import Session, time_text
 
 BEGUN = datetime(2026, 1, 31, 6, tzinfo=timezone.utc)
 LAST = 2**32 - 2
@@ -62,7 +62,7 @@ def test_the_newest_number_bounds_the_next_and_without_one_time_does(known, seco
 
 def test_no_auctioneer_clears_faster_than_its_children_believe():
     """Though its pause and its period are 0, two questions are 10 ms apart: 100 a second."""
-    for one in (Asking(None, 0.0), Asking(0.0, 5.0)):
+    for one in (AskSchedule(None, 0.0), AskSchedule(0.0, 5.0)):
         one.has_news()
         assert one.is_due(1.0)
         one.asked(1.0)

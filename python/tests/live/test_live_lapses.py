@@ -9,14 +9,15 @@ from brokers import live_program, wait_until
 from pretended import BASIS_TOPIC, LATER, MARKED, SESSION, basis_payload, bid, device_resume, gone, numbers, price, relay_resume, saved, state_payload
 
 from cogmaula import clock
-from cogmaula.live import BadSettings, serving
-from cogmaula.live.frames import RESUMES, Expire, Old, Send, TooMuch, frame_of
-from cogmaula.live.lapses import Lapses
-from cogmaula.live.messages import SiteMessage
-from cogmaula.live.node_settings import ChildSettings
-from cogmaula.live.service import Service
-from cogmaula.live.market_times import Times
-from cogmaula.live.silence import Heartbeat, Silence
+from cogmaula.live import BadSettings
+from cogmaula.live.node import service_runner
+from cogmaula.live.messages.frames import RESUMES, Expire, Old, Send, TooMuch, frame_of
+from cogmaula.live.children.lapses import Lapses
+from cogmaula.live.messages.messages import SiteMessage
+from cogmaula.live.node.node_settings import ChildSettings
+from cogmaula.live.node.service import Service
+from cogmaula.live.node.market_times import Times
+from cogmaula.live.node.silence import Heartbeat, Silence
 
 TIMES = Times(validity=100, heartbeat=25, grace=125)
 
@@ -412,7 +413,7 @@ TOO_MUCH = b'{"number": 4, "why": "outside -300 to 500 watts", "time": "t"}'
 @pytest.mark.parametrize("before", [BEFORE.to_bytes(), b"", device_resume(2, 1, (900, 900)).to_bytes()], ids=["kept", "lost", "refused"])
 def test_a_device_that_comes_back_with_a_refused_bid_offers_anew_what_counts(joined, tmp_path, monkeypatch, before):
     """The parent counts bid 2, and prices answer it. The agent knows the offer of bid 4 alone. Without the other one the device leaves."""
-    monkeypatch.setattr(serving, "Service", Service)
+    monkeypatch.setattr(service_runner, "Service", Service)
     saved(tmp_path, "device", "house", device_resume(4, 1, (900, 900)), before=before)
     one = joined("device", live=live_program()).begun(("market/street/refused/2", TOO_MUCH))
     assert json.loads(one.link.newest["market/house/answer"].payload)["why"] == "bid 4 is outside -300 to 500 watts: the one before counts"
@@ -488,7 +489,7 @@ def served(joined_node, holds, what):
 
 def test_a_dead_device_counts_nowhere_after_a_restart_of_its_parent(joined, tmp_path, monkeypatch):
     """The record has bid 2 of it, bid 4 was heard and was in no sum yet, and the device was let go under 5. The broker still has bid 4."""
-    monkeypatch.setattr(serving, "Service", Service)
+    monkeypatch.setattr(service_runner, "Service", Service)
     saved(tmp_path, "relay", "street", relay_resume(3, 0, 0, numbers((1, 2))), lapsed={1: 5})
     one = joined("relay", live=live_program()).begun(("market/street/bid/1", bid(1, 4, 500, 500).to_bytes(), of("device", "house")))
     own = "market/auctioneer/bid/3"

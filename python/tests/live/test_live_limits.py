@@ -8,9 +8,9 @@ from datetime import datetime, timedelta, timezone
 import pytest
 from pretended import bid, numbers, price, relay_resume, saved
 
-from cogmaula.live.frames import Bid, Limits, OutOfLimits, Send
-from cogmaula.live.sessions import time_text
-from cogmaula.live.store import Given
+from cogmaula.live.messages.frames import Bid, Limits, OutOfLimits, Send
+from cogmaula.live.node.sessions import time_text
+from cogmaula.live.node.store import Given
 
 TERMS = (-1000, 1000, 256)
 
@@ -122,7 +122,7 @@ def test_none_of_one_side_leaves_that_of_the_settings(joined):
 
 def test_the_settings_limits_are_back_once_they_end(joined, monkeypatch):
     one = takes(begun(joined), given(0, 600, until=later(3600)))
-    monkeypatch.setattr("cogmaula.live.given_limits.is_over", lambda until: until is not None)
+    monkeypatch.setattr("cogmaula.live.children.given_limits.is_over", lambda until: until is not None)
     one.turned()
     assert fed(one)[1:] == [Limits(4, -1000, 1000).to_bytes()]
     assert one.link.newest["market/street/limits"].payload == b"", "a restart does not find them"

@@ -19,8 +19,8 @@ import pytest
 from brokers import TOP, Certificates, Mosquitto, Onlooker, live_program, passwords, require_broker, wait_until
 from markets import BASIS, PLACES, STEPS, Market, Process, clearing_step, falls_at, prices_in
 
-from cogmaula.live.frames import BIDS, Gone, frame_of
-from cogmaula.live.price_table import PriceTable
+from cogmaula.live.messages.frames import BIDS, Gone, frame_of
+from cogmaula.live.messages.price_table import PriceTable
 
 CONSTANT = [100] * STEPS
 

@@ -19,11 +19,11 @@ from pretended import auctioneer_resume, bid, gone, numbers, price, relay_resume
 from told import village
 
 from cogmaula.live import Settings
-from cogmaula.live.counting import OF_BIDS, OF_PRICES, Counts, NodeFacts
-from cogmaula.live.frames import Dropped, NotCaughtUp, NotChanged, OutOfLimits, TooMuch, WindowFull
-from cogmaula.live.metrics import ALL
-from cogmaula.live.notifying import Notifier
-from cogmaula.live.messages import StateMessage
+from cogmaula.live.node.counting import OF_BIDS, OF_PRICES, Counts, NodeFacts
+from cogmaula.live.messages.frames import Dropped, NotCaughtUp, NotChanged, OutOfLimits, TooMuch, WindowFull
+from cogmaula.live.page.metrics import ALL
+from cogmaula.live.node.notifying import Notifier
+from cogmaula.live.messages.messages import StateMessage
 from cogmaula.version import __version__, commit
 
 RULES, DASHBOARD = TOP / "packaging" / "prometheus" / "market.rules.yml", TOP / "packaging" / "prometheus" / "market.dashboard.json"

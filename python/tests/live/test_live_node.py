@@ -30,8 +30,9 @@ from pretended import (
 )
 
 from cogmaula.cluster import Basis
-from cogmaula.live import NodeRefused, serving
-from cogmaula.live.frames import (
+from cogmaula.live import NodeRefused
+from cogmaula.live.node import service_runner
+from cogmaula.live.messages.frames import (
     Clear,
     Dropped,
     Fault,
@@ -45,10 +46,10 @@ from cogmaula.live.frames import (
     Setpoint,
     WindowFull,
 )
-from cogmaula.live.messages import SetpointMessage
-from cogmaula.live.page_settings import PageSettings
-from cogmaula.live.price_table import PriceTable
-from cogmaula.live.node_settings import PriceSettings
+from cogmaula.live.messages.messages import SetpointMessage
+from cogmaula.live.page.page_settings import PageSettings
+from cogmaula.live.messages.price_table import PriceTable
+from cogmaula.live.node.node_settings import PriceSettings
 
 RELAY_RESUME = relay_resume(1, 0, 0, numbers((1, 1), (2, 4)))
 # Prices for all children together, and each by a topic of its own.
@@ -231,7 +232,7 @@ def test_a_service_that_cannot_be_started_is_told(joined, monkeypatch):
     def missing(*_):
         raise LiveError("live cannot be started: No such file or directory")
 
-    monkeypatch.setattr(serving, "Service", missing)
+    monkeypatch.setattr(service_runner, "Service", missing)
     one = joined("auctioneer").begun()
     assert "live cannot be started" in one.said[-1]
     assert json.loads(one.link.of("market/auctioneer/state")[-1])["state"] == "down"
@@ -248,7 +249,7 @@ def test_a_service_that_does_not_answer_is_ended(joined, monkeypatch, sort):
     assert one.service.read[-1] in (Clear().to_bytes(), Offer((5, -3)).to_bytes())
     one.turned()
     assert not one.service.is_killed
-    monkeypatch.setattr(serving, "PATIENCE", 0.05)
+    monkeypatch.setattr(service_runner, "PATIENCE", 0.05)
     time.sleep(0.1)
     one.turned()
     assert one.service.is_killed

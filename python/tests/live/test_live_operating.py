@@ -7,10 +7,10 @@ from brokers import SECONDS, Mosquitto, Onlooker, require_broker
 from pretended import numbers, relay_resume
 
 from cogmaula.live import LiveError
-from cogmaula.live.messages import LapseMessage, SiteMessage, StateMessage
-from cogmaula.live.operating import drop
-from cogmaula.live.sessions import now_text
-from cogmaula.live.node_settings import BrokerSettings
+from cogmaula.live.messages.messages import LapseMessage, SiteMessage, StateMessage
+from cogmaula.live.broker.operating import drop
+from cogmaula.live.node.sessions import now_text
+from cogmaula.live.node.node_settings import BrokerSettings
 
 
 class Street:

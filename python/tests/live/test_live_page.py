@@ -18,9 +18,9 @@ from pretended import MOMENT, settings
 from told import Told, village
 
 from cogmaula.live import BadSettings, BrokerSettings, PageSettings
-from cogmaula.live import market_page
-from cogmaula.live.board import Board
-from cogmaula.live.showing import Showing, reading_settings
+from cogmaula.live.page import market_page
+from cogmaula.live.page.board import Board
+from cogmaula.live.page.page_feed import PageFeed, reading_settings
 
 
 @pytest.fixture(autouse=True)
@@ -288,7 +288,7 @@ def test_a_view_that_fails_is_a_line_and_says_so(served, monkeypatch):
 
 def test_a_page_that_fails_leaves_the_node_alone(tmp_path, monkeypatch, caplog):
     monkeypatch.setattr(market_page.Page, "_serve", lambda _: 1 // 0)
-    showing = Showing(settings("relay", tmp_path, page=PageSettings("127.0.0.1:0")), QUIET)
+    showing = PageFeed(settings("relay", tmp_path, page=PageSettings("127.0.0.1:0")), QUIET)
     showing.start()
     wait_until(lambda: caplog.messages, "the line")
     showing.take([])
@@ -301,7 +301,7 @@ def test_without_websockets_the_node_goes_on_with_a_line(tmp_path, monkeypatch, 
     import sys
 
     monkeypatch.setitem(sys.modules, "websockets", None)
-    showing = Showing(settings("relay", tmp_path, page=PageSettings("127.0.0.1:0")), QUIET)
+    showing = PageFeed(settings("relay", tmp_path, page=PageSettings("127.0.0.1:0")), QUIET)
     showing.start()
     showing.tick(True)
     showing.close(1)

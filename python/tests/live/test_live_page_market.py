@@ -12,8 +12,8 @@ from looking import cells_of, dom_of, get, require_browser, require_page
 from markets import STEPS, Market, falls_at
 
 from cogmaula.live import BrokerSettings, PageSettings
-from cogmaula.live.board import Board
-from cogmaula.live.market_reader import Reader
+from cogmaula.live.page.board import Board
+from cogmaula.live.broker.market_reader import Reader
 
 WHOLE, OWN = PageSettings("127.0.0.1:0", whole=True), PageSettings("127.0.0.1:0")
 

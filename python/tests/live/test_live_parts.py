@@ -13,21 +13,21 @@ from brokers import SECONDS
 from logged import log_to
 from pretended import BASIS, LATER, MOMENT, SESSION, device_resume, resume_gone
 
-from cogmaula.live import offers as offers_module
-from cogmaula.live.asking import Asking
-from cogmaula.live.control import StandardControl
-from cogmaula.live.node_errors import BadMessage
-from cogmaula.live.frames import Leave, Offer, Points, Setpoint, Stated, frames_of
-from cogmaula.live.device_kinds import DeviceKind
-from cogmaula.live.messages import BackMessage, BasisMessage, OfferMessage, SetpointMessage, StateMessage
-from cogmaula.live.offers import Offers
-from cogmaula.live.sessions import Session, new_session, time_of, time_text
+from cogmaula.live.device import offers as offers_module
+from cogmaula.live.node.ask_schedule import AskSchedule
+from cogmaula.live.device.control import StandardControl
+from cogmaula.live.node.node_errors import BadMessage
+from cogmaula.live.messages.frames import Leave, Offer, Points, Setpoint, Stated, frames_of
+from cogmaula.live.device.device_kinds import DeviceKind
+from cogmaula.live.messages.messages import BackMessage, BasisMessage, OfferMessage, SetpointMessage, StateMessage
+from cogmaula.live.device.offers import Offers
+from cogmaula.live.node.sessions import Session, new_session, time_of, time_text
 
 # When to ask.
 
 
 def test_after_news_not_faster_than_the_pause():
-    asking = Asking(None, 2.0)
+    asking = AskSchedule(None, 2.0)
     assert not asking.is_due(0)
     asking.has_news()
     assert asking.is_due(0)
@@ -40,7 +40,7 @@ def test_after_news_not_faster_than_the_pause():
 
 
 def test_by_the_clock_whether_there_is_news_or_not():
-    asking = Asking(60, 1.0)
+    asking = AskSchedule(60, 1.0)
     assert asking.is_due(0)
     asking.asked(0)
     asking.answered()
@@ -52,7 +52,7 @@ def test_by_the_clock_whether_there_is_news_or_not():
 @pytest.mark.parametrize("period", [None, 3])
 def test_when_to_ask_next_is_when_it_is_due(period):
     """At each moment of a life by hand: nothing is due before, and just then it is."""
-    asking = Asking(period, 2.0)
+    asking = AskSchedule(period, 2.0)
 
     def is_right(now):
         at = asking.due_at()
@@ -80,7 +80,7 @@ def test_when_to_ask_next_is_when_it_is_due(period):
 
 @pytest.mark.parametrize("period", [None, 60])
 def test_what_was_refused_is_asked_again_after_the_pause(period):
-    asking = Asking(period, 1.0)
+    asking = AskSchedule(period, 1.0)
     asking.has_news()
     asking.asked(10)
     asking.answered(again=True)
@@ -93,7 +93,7 @@ def test_what_was_refused_is_asked_again_after_the_pause(period):
 
 def test_without_a_pause_news_is_asked_at_once_and_what_was_refused_soon():
     """A relay that is not caught up would else be asked as fast as it answers."""
-    asking = Asking(None, 0.0)
+    asking = AskSchedule(None, 0.0)
     for now in (1.0, 1.011, 1.5):
         asking.has_news()
         assert asking.is_due(now)
@@ -107,7 +107,7 @@ def test_without_a_pause_news_is_asked_at_once_and_what_was_refused_soon():
 
 
 def test_a_service_that_starts_anew_is_asked_again():
-    asking = Asking(60, 1.0)
+    asking = AskSchedule(60, 1.0)
     asking.asked(0)
     asking.forget()
     assert asking.since is None

@@ -8,8 +8,8 @@ from hypothesis import strategies as st
 from pretended import BASIS, price
 
 from cogmaula.cluster import Basis
-from cogmaula.live.node_errors import BadFrame
-from cogmaula.live.price_table import LONGEST, PriceTable, price_for
+from cogmaula.live.node.node_errors import BadFrame
+from cogmaula.live.messages.price_table import LONGEST, PriceTable, price_for
 
 # Child 1 has bid 1 and child 3 bid 4 answered, by clearing 7 at step 1 of prices 0 to 9 in two steps.
 BY_HAND = bytes.fromhex("1f 00000007 0001 00000000 00000009 0002 00000001 00000000 00000004")

@@ -7,9 +7,9 @@ import pytest
 from pretended import BASIS, LATER, MARKED, OF_RELAY, bid, device_resume, gone, numbers, price, relay_resume
 
 from cogmaula import clock
-from cogmaula.live.frames import Dropped, Old, OtherBasis, Setpoint
-from cogmaula.live.price_table import PriceTable
-from cogmaula.live.node_settings import PriceSettings
+from cogmaula.live.messages.frames import Dropped, Old, OtherBasis, Setpoint
+from cogmaula.live.messages.price_table import PriceTable
+from cogmaula.live.node.node_settings import PriceSettings
 
 TOGETHER, SINGLE = PriceSettings(True), PriceSettings(False)
 TABLE = "market/street/prices"

@@ -11,9 +11,9 @@ from logged import QUIET
 from pretended import BASIS, Joined, device_resume, resume_gone
 
 from cogmaula.live import BadMessage
-from cogmaula.live.frames import Leave, Offer, Setpoint
-from cogmaula.live.messages import LAST_REFERENCE, OfferMessage, SetpointMessage
-from cogmaula.live.offers import Offers
+from cogmaula.live.messages.frames import Leave, Offer, Setpoint
+from cogmaula.live.messages.messages import LAST_REFERENCE, OfferMessage, SetpointMessage
+from cogmaula.live.device.offers import Offers
 
 HIGH, LOW = (500, -300), (100, -700)
 SETPOINT = b'{"power": -300, "step": 1, "price": 9, "bid": 4, "clearing": 7, "time": "2026-01-31T06:30:00.000Z"}'

@@ -28,19 +28,20 @@ from pretended import (
 )
 
 from cogmaula import clock
-from cogmaula.live import BadSettings, NodeRefused, kept_bids
-from cogmaula.live.board import Board
-from cogmaula.live.broker_link import Message
-from cogmaula.live.children import Heard
-from cogmaula.live.frames import Leave, NotCaughtUp, NotChanged, Offer, Send, Setpoint
-from cogmaula.live.messages import LOST
-from cogmaula.live.page_settings import PageSettings
-from cogmaula.live.safely import Folder
-from cogmaula.live.market_reader import Reader
-from cogmaula.live.sessions import now_text, time_text
-from cogmaula.live.node_settings import BrokerSettings, ChildSettings
-from cogmaula.live.silence import Heartbeat
-from cogmaula.live.topics import Topics
+from cogmaula.live import BadSettings, NodeRefused
+from cogmaula.live.children import kept_bids
+from cogmaula.live.page.board import Board
+from cogmaula.live.broker.broker_link import Message
+from cogmaula.live.children.children import Heard
+from cogmaula.live.messages.frames import Leave, NotCaughtUp, NotChanged, Offer, Send, Setpoint
+from cogmaula.live.messages.messages import LOST
+from cogmaula.live.page.page_settings import PageSettings
+from cogmaula.live.node.safely import Folder
+from cogmaula.live.broker.market_reader import Reader
+from cogmaula.live.node.sessions import now_text, time_text
+from cogmaula.live.node.node_settings import BrokerSettings, ChildSettings
+from cogmaula.live.node.silence import Heartbeat
+from cogmaula.live.messages.topics import Topics
 
 OF_HOUSE = (*MARKED, ("sort", "device"), ("node", "house"), ("valid", "150"))
 FIRST = bid(1, 4, 100, -3)
@@ -457,7 +458,7 @@ def test_a_full_disk_is_told_with_node_and_path(joined, monkeypatch, tmp_path):
 
 def test_without_paho_the_line_names_the_python(monkeypatch):
     from cogmaula import NoPackage
-    from cogmaula.live.connection import paho
+    from cogmaula.live.broker.connection import paho
 
     monkeypatch.setitem(sys.modules, "paho.mqtt.client", None)
     with pytest.raises(NoPackage, match=f"paho-mqtt, which {sys.executable} does not have"):

@@ -12,9 +12,9 @@ import pytest
 from brokers import SECONDS
 from pretended import BASIS
 
-from cogmaula.live.node_errors import LiveError
-from cogmaula.live.frames import Dropped, OutOfNumbers, WindowFull
-from cogmaula.live.service import Came, Ended, Service
+from cogmaula.live.node.node_errors import LiveError
+from cogmaula.live.messages.frames import Dropped, OutOfNumbers, WindowFull
+from cogmaula.live.node.service import Came, Ended, Service
 
 
 def started(code, resume=b"", sort="device"):

@@ -10,9 +10,9 @@ from pretended import BASIS, settings
 
 from cogmaula.cli import main
 from cogmaula.commands import node as command
-from cogmaula.live.device_kinds import DeviceKind
+from cogmaula.live.device.device_kinds import DeviceKind
 from cogmaula.live import BadSettings, BadStore, BrokerSettings, NodeRefused, Settings, make_node, read_toml, settings_of
-from cogmaula.live.topics import Topics
+from cogmaula.live.messages.topics import Topics
 
 WHOLE = """
 [node]
@@ -202,7 +202,7 @@ class Noted:
 
 @pytest.fixture
 def noted(monkeypatch):
-    from cogmaula.live import node
+    from cogmaula.live.node import node
 
     before = {number: signal.getsignal(number) for number in (signal.SIGTERM, signal.SIGINT)}
     monkeypatch.setattr(node, "make_node", Noted)

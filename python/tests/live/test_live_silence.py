@@ -9,11 +9,11 @@ from datetime import datetime, timedelta, timezone
 import pytest
 from pretended import BASIS_TOPIC, MARKED, basis_payload, bid, device_resume, price, resume_gone, saved
 
-from cogmaula.live.frames import Setpoint
-from cogmaula.live.messages import BasisMessage
-from cogmaula.live.sessions import time_of, time_text
-from cogmaula.live.silence import Heartbeat, Silence
-from cogmaula.live.market_times import Times
+from cogmaula.live.messages.frames import Setpoint
+from cogmaula.live.messages.messages import BasisMessage
+from cogmaula.live.node.sessions import time_of, time_text
+from cogmaula.live.node.silence import Heartbeat, Silence
+from cogmaula.live.node.market_times import Times
 
 TIMES = Times(validity=100, heartbeat=25, grace=125)
 NOW = datetime(2026, 1, 31, 6, 30, tzinfo=timezone.utc)
@@ -154,7 +154,7 @@ def test_the_auctioneer_makes_heartbeats_and_tells_the_times_with_the_basis(join
 def test_heartbeats_of_an_auctioneer_whose_clock_was_set_back_are_new_to_all(joined, monkeypatch):
     """Its clock goes back by a day while it runs, and by another one at its next start. A relay and a device below it hear each one."""
     first = joined("auctioneer", validity=100.0).begun()
-    monkeypatch.setattr("cogmaula.live.beating.now_text", lambda: ago(86_400))
+    monkeypatch.setattr("cogmaula.live.node.heartbeat_sender.now_text", lambda: ago(86_400))
     passes(first, 26)
     # The folder is free for the next start, as if the process had ended.
     fcntl.flock(first.node._store._lock, fcntl.LOCK_UN)
@@ -163,7 +163,7 @@ def test_heartbeats_of_an_auctioneer_whose_clock_was_set_back_are_new_to_all(joi
     for topic in ("market/basis", "market/auctioneer/resume", "market/auctioneer/state"):
         if topic in first.link.newest:
             second.link.comes(topic, first.link.newest[topic].payload, first.link.newest[topic].properties, retained=True)
-    monkeypatch.setattr("cogmaula.live.beating.now_text", lambda: ago(2 * 86_400))
+    monkeypatch.setattr("cogmaula.live.node.heartbeat_sender.now_text", lambda: ago(2 * 86_400))
     second.link.settles()
     second.turned()
     # After a connection was made, the newest of all is published again.

@@ -18,14 +18,15 @@ from markets import BASIS, PLACES, STEPS, Market, Process, falls_at
 
 from cogmaula.cli import main
 from cogmaula.deploy.toml_text import toml_text
-from cogmaula.live import BadSettings, site_life
-from cogmaula.live.broker_link import Message, Publication
-from cogmaula.live.metrics import metrics_bytes
-from cogmaula.live.node import Node
-from cogmaula.live.service import PolledService
-from cogmaula.live.site import Site
-from cogmaula.live.site_settings import site_settings_of
-from cogmaula.live.view import view_of
+from cogmaula.live import BadSettings
+from cogmaula.live.site import site_life
+from cogmaula.live.broker.broker_link import Message, Publication
+from cogmaula.live.page.metrics import metrics_bytes
+from cogmaula.live.node.node import Node
+from cogmaula.live.node.service import PolledService
+from cogmaula.live.site.site import Site
+from cogmaula.live.site.site_settings import site_settings_of
+from cogmaula.live.page.view import view_of
 
 CONSTANT = [100] * STEPS
 
@@ -359,7 +360,7 @@ def test_a_node_that_is_refused_ends_alone(broker, onlooker, live, tmp_path, cap
 
 def test_a_loop_that_is_asked_to_write_more_than_a_pipe_takes():
     """The bytes wait, and nothing is lost, while the process reads slowly."""
-    from cogmaula.live.loop import Loop
+    from cogmaula.live.site.loop import Loop
 
     loop, happened = Loop(), []
     code = "import sys, time\ntime.sleep(0.3)\nn = len(sys.stdin.buffer.read(1_000_011))\nsys.stdout.buffer.write(b'\\x0a' * (n == 1_000_011))"

@@ -10,11 +10,11 @@ from hypothesis import strategies as st
 from pretended import BASIS, LATER, MOMENT, SESSION
 
 from cogmaula.cluster import Basis
-from cogmaula.live.node_errors import BadStore
-from cogmaula.live.kept_bids import BidLog
-from cogmaula.live.messages import SetpointMessage
-from cogmaula.live.node_settings import BrokerSettings
-from cogmaula.live.store import Store, Stored
+from cogmaula.live.node.node_errors import BadStore
+from cogmaula.live.children.kept_bids import BidLog
+from cogmaula.live.messages.messages import SetpointMessage
+from cogmaula.live.node.node_settings import BrokerSettings
+from cogmaula.live.node.store import Store, Stored
 
 FRAME = bytes.fromhex("0C 00000001 00000007 000001F4 FFFFFED4")
 STORED = Stored(SESSION, BASIS, FRAME, MOMENT, SetpointMessage(-300, 1, 9, 2, 7, MOMENT, reference=5))

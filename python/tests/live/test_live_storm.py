@@ -16,8 +16,8 @@ from markets import PLACES, STEPS, Market, Process, falls_at, prices_in
 
 
 from cogmaula.cli import main
-from cogmaula.live.frames import BIDS, PRICES, Bid, Old, Price, frame_of
-from cogmaula.live.node_settings import ChildSettings
+from cogmaula.live.messages.frames import BIDS, PRICES, Bid, Old, Price, frame_of
+from cogmaula.live.node.node_settings import ChildSettings
 
 # The times of these markets in seconds: a quarter of a heartbeat is more than a broker of this machine takes.
 FAST = {"validity": 2.0, "heartbeat": 0.5, "grace": 3.0}

@@ -10,9 +10,9 @@ from markets import STEPS, Market
 from test_live_storm import FAST, kill
 
 from cogmaula.live import LiveError
-from cogmaula.live.broker import Broker
-from cogmaula.live.frames import BIDS, RESUMES, frame_of
-from cogmaula.live.silence import Heartbeat
+from cogmaula.live.broker.broker import Broker
+from cogmaula.live.messages.frames import BIDS, RESUMES, frame_of
+from cogmaula.live.node.silence import Heartbeat
 
 
 @pytest.fixture

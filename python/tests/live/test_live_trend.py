@@ -7,8 +7,8 @@ import json
 from looking import Served, require_page
 from told import village
 
-from cogmaula.live import trend
-from cogmaula.live.trend import GAP, KEPT, Trend
+from cogmaula.live.page import trend
+from cogmaula.live.page.trend import GAP, KEPT, Trend
 
 
 def lines_of(one):

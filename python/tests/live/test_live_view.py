@@ -9,9 +9,9 @@ from pretended import LATER, MOMENT, SESSION
 from told import Told, falls_at, village
 
 from cogmaula.cluster import Basis
-from cogmaula.live.heard import NotTaken
-from cogmaula.live.topics import Topics
-from cogmaula.live.view import BidView, PowerView, PriceView
+from cogmaula.live.page.heard import NotTaken
+from cogmaula.live.messages.topics import Topics
+from cogmaula.live.page.view import BidView, PowerView, PriceView
 
 
 def row(node):

@@ -15,7 +15,7 @@ from cogmaula.deploy.files import Places
 from cogmaula.deploy.history_files import histories_of, history_unit_of, history_unit_text
 from cogmaula.deploy.node_files import folders_of, login_text, settings_text, unit_of, unit_text
 from cogmaula.deploy.site_plan import SitePlan
-from cogmaula.live.site_settings import site_settings_of
+from cogmaula.live.site.site_settings import site_settings_of
 
 TOLD = read_tree(TREE)
 WITH_PAGE = replace(TOLD, members=tuple(replace(member, page={"listen": "127.0.0.1:8080", "whole": True}) for member in TOLD.members))

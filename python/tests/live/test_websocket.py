@@ -8,8 +8,8 @@ import base64
 import pytest
 from looking import require_page
 
-from cogmaula.live import websocket
-from cogmaula.live.websocket import NoHandshake, WebSocket
+from cogmaula.live.page import websocket
+from cogmaula.live.page.websocket import NoHandshake, WebSocket
 
 REQUEST = (
     "GET /live HTTP/1.1\r\nHost: a\r\nUpgrade: websocket\r\nConnection: Upgrade\r\nSec-WebSocket-Version: 13\r\n"

@@ -5,11 +5,11 @@ from __future__ import annotations
 from pretended import MOMENT, SESSION
 
 from cogmaula.cluster import Basis
-from cogmaula.live.broker_link import Message
-from cogmaula.live.frames import Bid, Gone, Price, Setpoint
-from cogmaula.live.messages import BasisMessage, SetpointMessage, SiteMessage, StateMessage
-from cogmaula.live.price_table import PriceTable
-from cogmaula.live.view import view_of
+from cogmaula.live.broker.broker_link import Message
+from cogmaula.live.messages.frames import Bid, Gone, Price, Setpoint
+from cogmaula.live.messages.messages import BasisMessage, SetpointMessage, SiteMessage, StateMessage
+from cogmaula.live.messages.price_table import PriceTable
+from cogmaula.live.page.view import view_of
 
 BASIS = Basis(0, 9, 10)
 

@@ -13,10 +13,10 @@ from looking import get, require_page
 
 from cogmaula import Basis, Battery, Cluster, Concentrator, Limited, Load, Solar, run
 from cogmaula.cli import main
-from cogmaula.live.frames import Offer, Stated
-from cogmaula.live.device_kinds import DeviceKind
-from cogmaula.live.messages import BackMessage, SetpointMessage, SilentMessage
-from cogmaula.live.page_settings import PageSettings
+from cogmaula.live.messages.frames import Offer, Stated
+from cogmaula.live.device.device_kinds import DeviceKind
+from cogmaula.live.messages.messages import BackMessage, SetpointMessage, SilentMessage
+from cogmaula.live.page.page_settings import PageSettings
 from cogmaula.simulation import BidMaker
 from cogmaula.simulation.life import Life
 from cogmaula.simulation.living import LivingCluster, ModelControl

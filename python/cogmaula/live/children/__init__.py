@@ -1,0 +1,1 @@
+"""What a parent does with its children: their bids, limits and prices."""

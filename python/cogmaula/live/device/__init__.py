@@ -1,0 +1,1 @@
+"""A device's control: what it offers, and what it is told."""

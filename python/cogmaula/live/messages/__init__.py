@@ -1,0 +1,1 @@
+"""The messages of a market: frames, JSON and topics."""

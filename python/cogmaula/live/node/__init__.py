@@ -1,0 +1,1 @@
+"""A node: its settings, its service, its sessions and what it stores."""

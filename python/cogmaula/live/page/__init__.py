@@ -1,0 +1,1 @@
+"""The page that shows a market as it lives, and metrics."""
