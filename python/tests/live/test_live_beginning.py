@@ -493,7 +493,7 @@ def test_what_the_node_itself_or_an_earlier_process_published_does_no_harm(joine
 
 
 def test_a_device_reads_what_is_for_it_and_its_own_topics(joined):
-    of_house = {"market/house/state", "market/house/resume", "market/house/offer", "market/house/answer", "market/house/setpoint"}
+    of_house = {"market/house/state", "market/house/resume", "market/house/offer", "market/house/answer", "market/house/setpoint", "market/house/measured"}
     of_street = {f"market/street/{kind}" for kind in ("bid/2", "price/2", "lapsed/2", "refused/2", "state", "heartbeat", "prices")}
     assert set(joined("device").link.topics) == {"market/basis"} | of_house | of_street
 
