@@ -148,7 +148,8 @@ def look_at_page(python, work):
     # No network, and nothing of the user's own home.
     environment = {**surroundings(work), "HOME": str(home), "PIP_NO_INDEX": "1", "PIP_DISABLE_PIP_VERSION_CHECK": "1"}
     done = subprocess.run(["bash", "-c", script], cwd=home / "checkout", env=environment, capture_output=True, text=True, check=False)
-    due = f"cogmaula {(TOP / 'VERSION').read_text().strip()}\n"
+    # The copy is no checkout of git, so nobody knows its commit.
+    due = f"cogmaula {(TOP / 'VERSION').read_text().strip()} (no commit known)\n"
     part.count(done.returncode == 0 and done.stdout.endswith(due), f"the page's installation: {done.stdout}{done.stderr}")
     return part
 

@@ -102,7 +102,7 @@ class SimulatedRun(Run):
         cluster = Cluster(simulation.basis, [*limited, *nodes_of(simulation.devices, above)], [Events(map(Join, simulation.names)), *ticks])
         super().__init__(cluster, Report((), 0), simulation.start)
         self.ends = AllEnds(simulation.ends)
-        self.simulation = simulation
+        self.simulation: Simulation = simulation
 
     @cached_property
     def held(self) -> Held:
